@@ -1,0 +1,139 @@
+//! Aggregations and searches (Elasticsearch Reference 8, 'Aggregations').
+use crate::key::Key;
+use crate::list::List;
+use crate::query::{Probe, Query};
+use crate::row::Scalar;
+use crate::text::Text;
+
+/// What an order of buckets compares.
+#[derive(Clone, Copy, Debug, PartialEq, Eq)]
+pub enum OrderBy {
+    /// The number of documents, `_count`.
+    Count,
+    /// The key, `_key`.
+    Key,
+    /// The value of the metric at this place among the children; null stands last in both directions.
+    Child(u32),
+}
+
+/// One order of buckets.
+#[derive(Clone, Copy, Debug, PartialEq, Eq)]
+pub struct Order {
+    pub by: OrderBy,
+    pub descending: bool,
+}
+
+/// `extended_bounds` and `hard_bounds` of a histogram.
+#[derive(Clone, Copy, Debug, PartialEq, Eq)]
+pub struct Bounds {
+    pub min: Option<i64>,
+    pub max: Option<i64>,
+}
+
+/// One source of a composite aggregation.
+#[derive(Drop, PartialEq, Eq)]
+pub struct CompositeSource {
+    pub name: Text,
+    pub field: u32,
+    /// There for a `histogram` source alone.
+    pub interval: Option<u64>,
+    pub descending: bool,
+    /// Whether a row without a value has the part null, where it else has no key.
+    pub missing_bucket: bool,
+}
+
+/// What an aggregation does, with defaults filled in.
+#[derive(Drop, PartialEq, Eq)]
+pub enum Kind {
+    /// One bucket for each distinct value ('Terms aggregation').
+    Terms {
+        field: u32,
+        size: u32,
+        shard_size: u32,
+        min_doc_count: u64,
+        order: List<Order>,
+        include: Option<List<Probe>>,
+        exclude: List<Probe>,
+        missing: Option<Scalar>,
+        show_error: bool,
+    },
+    /// One bucket for each interval ('Histogram aggregation').
+    Histogram {
+        field: u32,
+        interval: u64,
+        offset: u64,
+        min_doc_count: u64,
+        extended: Bounds,
+        hard: Bounds,
+        keyed: bool,
+        order: List<Order>,
+        missing: Option<Scalar>,
+    },
+    /// One bucket for each query, and one for the rest where `other` has its key ('Filters aggregation').
+    Filters {
+        names: Option<List<Text>>,
+        filters: List<Query>,
+        other: Option<Text>,
+    },
+    /// The rows that match ('Filter aggregation').
+    Filter {
+        query: Query,
+    },
+    /// The rows without a value ('Missing aggregation').
+    Missing {
+        field: u32,
+    },
+    /// All roots, whatever the query ('Global aggregation').
+    Global,
+    /// The rows at a nested path ('Nested aggregation').
+    Nested {
+        context: u32,
+    },
+    /// The rows that enclose ('Reverse nested aggregation').
+    ReverseNested {
+        context: u32,
+    },
+    /// The combinations of the sources' keys, page by page ('Composite aggregation').
+    Composite {
+        sources: List<CompositeSource>,
+        size: u32,
+        after: Option<Key>,
+    },
+    Sum {
+        field: u32,
+        missing: Option<Scalar>,
+    },
+    Min {
+        field: u32,
+        missing: Option<Scalar>,
+    },
+    Max {
+        field: u32,
+        missing: Option<Scalar>,
+    },
+    Avg {
+        field: u32,
+        missing: Option<Scalar>,
+    },
+    ValueCount {
+        field: u32,
+        missing: Option<Scalar>,
+    },
+}
+
+/// An aggregation with those below it, in byte order of their names.
+#[derive(Drop, PartialEq, Eq)]
+pub struct Agg {
+    pub name: Text,
+    pub kind: Kind,
+    pub children: List<Agg>,
+}
+
+/// A search body as read.
+#[derive(Drop, PartialEq, Eq)]
+pub struct Search {
+    pub query: Query,
+    pub aggs: List<Agg>,
+    /// The length of the body in bytes.
+    pub body_bytes: u64,
+}

@@ -1,0 +1,52 @@
+//! Mappings (Elasticsearch Reference 8, 'Mapping').
+use crate::list::List;
+use crate::text::Text;
+
+/// The field data types of the engine.
+#[derive(Clone, Copy, Debug, PartialEq, Eq)]
+pub enum FieldKind {
+    /// Whole numbers of 64 bits.
+    Long,
+    /// Whole numbers of 32 bits.
+    Integer,
+    /// Whole numbers of 16 bits.
+    Short,
+    /// Whole numbers of 8 bits.
+    Byte,
+    /// Words, compared by their bytes.
+    Keyword,
+    /// `true` and `false`.
+    Boolean,
+}
+
+/// A scalar field of a mapping.
+#[derive(Drop)]
+pub struct Field {
+    /// The names from the root to the field, joined by dots.
+    pub path: Text,
+    pub kind: FieldKind,
+    /// A keyword with more characters than this has no value; none where there is no such bound.
+    pub ignore_above: Option<u32>,
+    /// The context of its rows: 0 for the root, i + 1 for the i-th nested path.
+    pub context: u32,
+}
+
+/// A path whose objects are rows of their own ('Nested field type').
+#[derive(Drop)]
+pub struct NestedPath {
+    /// The names from the root to the nested objects, joined by dots.
+    pub path: Text,
+    /// The context that encloses it: 0 for the root, i + 1 for the i-th nested path.
+    pub parent: u32,
+}
+
+/// What an index line says of documents. Fields and nested paths stand in byte order of their paths.
+#[derive(Drop)]
+pub struct Mapping {
+    pub fields: List<Field>,
+    pub nested: List<NestedPath>,
+    /// The paths of the plain objects.
+    pub objects: List<Text>,
+    /// Whether `dynamic` is `strict`, so that an unmapped name refuses the document.
+    pub strict: bool,
+}

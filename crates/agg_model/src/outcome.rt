@@ -1,0 +1,41 @@
+//! What a search may end in.
+use crate::breaker::Tripped;
+use crate::text::Text;
+
+/// Why a search was refused.
+#[derive(Drop, PartialEq, Eq)]
+pub enum Refused {
+    /// The body is not JSON.
+    NotJson,
+    /// The body breaks a rule of requests.
+    Bad {
+        /// 100 to 113.
+        code: u16,
+        /// The JSON pointer of the first thing refused (RFC 6901).
+        path: Text,
+    },
+    /// The answer would have more buckets than `search.max_buckets`.
+    TooManyBuckets {
+        count: u64,
+        max: u64,
+    },
+    /// A printed number lies outside signed 64 bits.
+    SumRange {
+        /// `/` and the names of the aggregations on the way.
+        path: Text,
+    },
+    /// The ceiling of the search is too high to run it.
+    TooWide,
+}
+
+/// How a search ended.
+#[derive(Drop)]
+pub enum Outcome {
+    /// The response line, without its newline.
+    Response(Text),
+    Refused(Refused),
+    /// A breaker refused a charge of this search.
+    Tripped(Tripped),
+    /// Memory ran out.
+    Memory,
+}

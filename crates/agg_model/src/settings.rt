@@ -1,0 +1,35 @@
+//! The settings that the program's words give.
+use crate::breaker::Limits;
+use crate::text::Text;
+
+/// The script that `--generate` asks for.
+#[derive(Clone, Copy, Debug, PartialEq, Eq)]
+pub struct Generate {
+    /// The seed.
+    pub number: u64,
+    pub documents: u32,
+    pub shards: u32,
+}
+
+/// All settings of a run.
+#[derive(Clone, Copy, Debug, PartialEq, Eq)]
+pub struct Settings {
+    /// 1 to 64.
+    pub workers: u32,
+    /// `--batched-reduce-size`, 2 to 1,024.
+    pub batch: u32,
+    /// `--concurrent-searches`, 1 to 64.
+    pub width: u32,
+    pub limits: Limits,
+    /// `search.max_buckets`.
+    pub max_buckets: u64,
+    pub scan: bool,
+    pub generate: Option<Generate>,
+}
+
+/// The first word that is not in the grammar; both texts are empty where the command line itself is refused.
+#[derive(Drop, PartialEq, Eq)]
+pub struct Usage {
+    pub key: Text,
+    pub value: Text,
+}
