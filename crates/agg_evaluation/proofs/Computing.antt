@@ -1,0 +1,15 @@
+-- All that unfolds when a definition runs on a value that is written out.
+unfoldable pub computing : Unit {0}
+unfolding
+    Rattle.agg_model.specs.declared.row.Children.TheViews.roll-Row Rattle.agg_model.specs.declared.row.Children.TheViews.roll-Children
+    Rattle.agg_model.specs.declared.answer.BucketAnswer.TheViews.roll-NodeAnswer Rattle.agg_model.specs.declared.answer.BucketAnswer.TheViews.roll-BucketAnswer
+    Rattle.agg_model.specs.declared.aggregation.Agg.TheViews.roll-Agg Rattle.agg_model.specs.declared.aggregation.Agg.TheViews.out-Agg
+    Rattle.agg_model.specs.declared.partial.Node.TheViews.out-Node Rattle.agg_model.specs.declared.partial.Node.TheViews.roll-Node
+    Rattle.agg_model.specs.declared.key.Key.TheViews.out-Key Rattle.agg_model.specs.declared.key.Key.TheViews.roll-Key
+    Rattle.agg_model.specs.declared.row.Children.TheBlock.hidden-the_row-Children-1
+    Rattle.agg_model.specs.declared.answer.BucketAnswer.TheBlock.hidden-the_row-BucketAnswer-1
+    Rattle.agg_model.specs.declared.partial.Node.TheBlock.shown-the_row-Bucket-1
+    Rattle.agg_model.specs.declared.aggregation.Agg.TheBlock.hidden-the_row-Agg-0
+    Rattle.agg_model.specs.declared.key.Key.TheBlock.hidden-the_row-Key-0 Rattle.agg_model.specs.declared.key.Key.TheBlock.shown-the_row-Key-0
+    denote.Hole.Carrier.out denote.Hole.Carrier.roll denote.Hole.Carrier.shown denote.Hole.Carrier.hidden
+computing = tt

@@ -1,0 +1,54 @@
+-- The order of keys, and keys as values of a field.
+use Rattle.std.specs.Prelude.{ℕ, ℤ, Bool, true, false, not, ◌&&◌, if◌then◌else◌, List, [], ◌∷◌, map, nat_eq}
+use Rattle.std.specs.declared.cmp.Ordering.{Ordering}
+use Rattle.std.specs.Ordering.{nat_cmp, int_cmp, bool_cmp, ordering_then, ordering_reverse, is_eq}
+use Rattle.std.specs.Cmp.Lexicographic.{slice_cmp}
+use Rattle.std.specs.List.{list_any}
+use Rattle.agg_model.specs.declared.key.Key.{Key, out-Key}
+use Rattle.agg_model.specs.declared.key.Key.TheOpen.{Key-F}
+use Rattle.agg_evaluation.specs.Folds.{fold_key}
+use Rattle.agg_model.specs.declared.key.Key.TheVariants.{Whole, Flag, Word}
+use Rattle.agg_model.specs.declared.row.Scalar.{Scalar}
+use Rattle.agg_model.specs.declared.row.Scalar.TheVariants as scalar
+use Rattle.agg_model.specs.declared.query.Probe.{Probe}
+use Rattle.agg_model.specs.declared.query.Probe.TheVariants as probe
+
+abbrev pub rank : {A : Type 0} → Key-F A → ℕ
+rank Key-F.Null = 0
+rank (Key-F.Whole n) = 1
+rank (Key-F.Flag b) = 2
+rank (Key-F.Word w) = 3
+rank (Key-F.Fixed n) = 4
+rank (Key-F.Many ks) = 5
+
+-- Null, whole numbers by value, false, true, words by their bytes, fixed keys by number, many keys part by part
+abbrev pub key_cmp_at : Key-F (Key → Ordering) → Key-F Key → Ordering
+key_cmp_at (Key-F.Whole m) (Key-F.Whole n) = int_cmp m n
+key_cmp_at (Key-F.Flag a) (Key-F.Flag b) = bool_cmp a b
+key_cmp_at (Key-F.Word v) (Key-F.Word w) = slice_cmp nat_cmp v w
+key_cmp_at (Key-F.Fixed m) (Key-F.Fixed n) = nat_cmp m n
+key_cmp_at (Key-F.Many js) (Key-F.Many ks) = slice_cmp (λ j k. j k) js ks
+key_cmp_at j k = nat_cmp (rank j) (rank k)
+
+abbrev pub key_cmp : Key → Key → Ordering
+key_cmp = fold_key (λ j k. key_cmp_at j (out-Key k))
+
+abbrev pub key_eq : Key → Key → Bool
+key_eq j k = is_eq (key_cmp j k)
+
+abbrev pub has_key : Key → List Key → Bool
+has_key k = list_any (key_eq k)
+
+abbrev pub scalar_key : Scalar → Key
+scalar_key (scalar.Whole n) = Whole n
+scalar_key (scalar.Word w) = Word w
+scalar_key (scalar.Flag b) = Flag b
+
+abbrev pub probe_key : Probe → Key
+probe_key (probe.Whole n) = Whole n
+probe_key (probe.Word w) = Word w
+probe_key (probe.Flag b) = Flag b
+
+-- an order that goes the other way where it is descending
+abbrev pub directed : Bool → Ordering → Ordering
+directed descending o = if descending then ordering_reverse o else o

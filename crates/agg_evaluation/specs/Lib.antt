@@ -1,0 +1,11 @@
+pub mod Folds
+pub mod Sorting
+pub mod KeyOrder
+pub mod Rows
+pub mod Matching
+pub mod Keys
+pub mod Groups
+pub mod Orders
+pub mod Shard
+pub mod Whole
+pub mod Cost

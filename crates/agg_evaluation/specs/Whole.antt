@@ -1,0 +1,94 @@
+-- The reduction of the answers of several shards.
+use Rattle.std.specs.Prelude.{ℕ, ℤ, List, [], ◌∷◌, map, filter, filter_map, flat_map, sum_by, Option, Some, None, slice_get}
+use Rattle.std.specs.List.{reduce, enumerate_from}
+use Rattle.std.specs.Int.{int_min, int_max}
+use Rattle.agg_model.specs.declared.key.Key.{Key}
+use Rattle.agg_model.specs.declared.partial.Metric.{Metric}
+use Rattle.agg_model.specs.declared.partial.Bucket.{Bucket}
+use Rattle.agg_model.specs.declared.partial.Node.{Node, out-Node}
+use Rattle.agg_model.specs.declared.partial.Node.TheOpen.{Node-F}
+use Rattle.agg_model.specs.declared.partial.Node.TheVariants.{Keyed, Fixed, Number}
+use Rattle.agg_model.specs.declared.partial.Partial.{Partial}
+use Rattle.agg_model.specs.declared.aggregation.Kind.{Kind}
+use Rattle.agg_model.specs.declared.aggregation.Kind.TheVariants as kind
+use Rattle.agg_model.specs.declared.aggregation.Agg.{Agg}
+use Rattle.agg_model.specs.declared.aggregation.Agg.TheOpen.{Agg-F}
+use Rattle.agg_evaluation.specs.Folds.{fold_agg}
+use Rattle.agg_model.specs.declared.aggregation.Search.{Search}
+use Rattle.agg_evaluation.specs.KeyOrder.{key_eq}
+use Rattle.agg_evaluation.specs.Orders.{bucket_key, bucket_count}
+use Rattle.agg_evaluation.specs.Keys.{distinct_keys}
+use Rattle.agg_evaluation.specs.Shard.{fixed_keys, int_sum}
+
+-- which nodes an aggregation has: buckets by key, buckets that exist from the start, or a number
+pub data Shape : Type 0 where
+  by_key : Shape
+  from_start : Shape
+  a_number : Shape
+
+abbrev pub shape_of : Kind → Shape
+shape_of (kind.Terms field size shard_size min_doc_count order include exclude missing show_error) = by_key
+shape_of (kind.Histogram field interval offset min_doc_count extended hard keyed order missing) = by_key
+shape_of (kind.Composite sources size after) = by_key
+shape_of (kind.Sum field missing) = a_number
+shape_of (kind.Min field missing) = a_number
+shape_of (kind.Max field missing) = a_number
+shape_of (kind.Avg field missing) = a_number
+shape_of (kind.ValueCount field missing) = a_number
+shape_of _ = from_start
+
+-- a node's parts, where the parts that it has not are empty
+pub record Parts : Type 0 where
+  pub buckets : List Bucket
+  pub error : ℕ
+  pub full : ℕ
+  pub cut : ℕ
+  pub metrics : List Metric
+
+abbrev pub parts_at : Node-F Node Bucket → Parts
+parts_at (Node-F.Keyed buckets error full cut) = record { buckets = buckets; error = error; full = full; cut = cut; metrics = [] }
+parts_at (Node-F.Fixed buckets) = record { buckets = buckets; error = 0; full = 0; cut = 0; metrics = [] }
+parts_at (Node-F.Number m) = record { buckets = []; error = 0; full = 0; cut = 0; metrics = m ∷ [] }
+
+abbrev pub parts : Node → Parts
+parts n = parts_at (out-Node n)
+
+abbrev pub metric_sum : List Metric → Metric
+metric_sum ms = record {
+    count = sum_by (λ m. m.count) ms;
+    sum = int_sum (map (λ m. m.sum) ms);
+    least = reduce int_min (filter_map (λ m. m.least) ms);
+    greatest = reduce int_max (filter_map (λ m. m.greatest) ms);
+  }
+
+-- the n-th children of the buckets
+abbrev pub children_at : List Bucket → ℕ → List Node
+children_at buckets n = filter_map (λ b. slice_get b.children n) buckets
+
+abbrev pub whole_bucket : List (List Node → Node) → List Bucket → Key → Bucket
+whole_bucket children buckets key =
+    let same = filter (λ b. key_eq key (bucket_key b)) buckets in
+    (record {
+        key = key;
+        count = sum_by bucket_count same;
+        covered = sum_by (λ b. b.covered) same;
+        children = map (λ c. c.1 (children_at same c.0)) (enumerate_from 0 children);
+      })
+
+abbrev pub whole_by : List (List Node → Node) → Kind → Shape → List Node → Node
+whole_by children k by_key trees =
+    let buckets = flat_map (λ t. (parts t).buckets) trees in
+    Keyed (map (whole_bucket children buckets) (distinct_keys (map bucket_key buckets)))
+        (sum_by (λ t. (parts t).error) trees) (sum_by (λ t. (parts t).full) trees) (sum_by (λ t. (parts t).cut) trees)
+whole_by children k from_start trees = Fixed (map (whole_bucket children (flat_map (λ t. (parts t).buckets) trees)) (fixed_keys k))
+whole_by children k a_number trees = Number (metric_sum (flat_map (λ t. (parts t).metrics) trees))
+
+-- the reduction of the trees of one aggregation
+abbrev pub whole_node : Agg → List Node → Node
+whole_node = fold_agg (λ a. whole_by a.children a.kind (shape_of a.kind))
+
+abbrev pub whole : Search → List Partial → Partial
+whole search trees = record {
+    hits = sum_by (λ t. t.hits) trees;
+    nodes = map (λ a. whole_node a.1 (filter_map (λ t. slice_get t.nodes a.0) trees)) (enumerate_from 0 search.aggs);
+  }

@@ -1,0 +1,3 @@
+mod Computing
+mod LargerRow
+mod WorkedRows
