@@ -1,20 +1,21 @@
--- A value of a recursive type, level by level: each step takes one level, with the results for its children in their places.
-use Rattle.std.specs.Prelude.{ℕ, List, [], ◌∷◌}
+-- A value of a recursive type, level by level: a step takes one level, with the results for its children in their places.
+-- Queries and aggregations nest ('Query DSL', 'Aggregations' of Elasticsearch Reference 8), and so do rows, keys and trees.
+use Rattle.std.specs.Prelude.{List, [], ◌∷◌, Bool}
 use Rattle.agg_model.specs.declared.key.Key.{Key, Row_of-Key, end_of-Key, more_of-Key}
 use Rattle.agg_model.specs.declared.key.Key.TheOpen.{Key-F}
-use Rattle.agg_model.specs.declared.key.Key.TheVariants as key
 use Rattle.agg_model.specs.declared.aggregation.Agg.{Agg, Agg', Row_of-Agg, end_of-Agg, more_of-Agg}
 use Rattle.agg_model.specs.declared.aggregation.Agg.TheOpen.{Agg-F}
 use Rattle.agg_model.specs.declared.query.Query.{Query, Row_of-Query, end_of-Query, more_of-Query}
 use Rattle.agg_model.specs.declared.query.Query.TheOpen.{Query-F}
-use Rattle.agg_model.specs.declared.query.Query.TheVariants as query
 use Rattle.agg_model.specs.declared.row.Row.{Row, Row', Row_of-Children, end_of-Children, more_of-Children}
 use Rattle.agg_model.specs.declared.row.Children.{Children, Children', Row_of-Row, end_of-Row, more_of-Row}
 use Rattle.agg_model.specs.declared.row.Children.TheOpen.{Row-F, Children-F}
 use Rattle.agg_model.specs.declared.partial.Node.{Node, Row_of-Bucket, end_of-Bucket, more_of-Bucket}
-use Rattle.agg_model.specs.declared.partial.Node.TheVariants as node
 use Rattle.agg_model.specs.declared.partial.Node.TheOpen.{Node-F, Bucket-F}
 use Rattle.agg_model.specs.declared.partial.Bucket.{Row_of-Node, end_of-Node, more_of-Node}
+use Rattle.agg_model.specs.declared.key.Key.TheVariants as key
+use Rattle.agg_model.specs.declared.query.Query.TheVariants as query
+use Rattle.agg_model.specs.declared.partial.Node.TheVariants as node
 
 module _ {A : Type 0} (step : Key-F A → A) where
   abbrev mutual

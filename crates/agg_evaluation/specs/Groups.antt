@@ -1,26 +1,29 @@
--- The objects under an aggregation, and those of one key.
+-- The rows that an aggregation counts, and those of one bucket (Elasticsearch Reference 8, 'Nested', 'Reverse nested' and
+-- 'Global aggregation').
 use Rattle.std.specs.Prelude.{ℕ, List, filter, flat_map, length, sum_by}
 use Rattle.agg_model.specs.declared.key.Key.{Key}
 use Rattle.agg_model.specs.declared.aggregation.Kind.{Kind}
 use Rattle.agg_model.specs.declared.aggregation.Kind.TheVariants as kind
 use Rattle.agg_evaluation.specs.KeyOrder.{has_key}
-use Rattle.agg_evaluation.specs.Rows.{Object, beneath, enclosing}
+use Rattle.agg_evaluation.specs.Rows.{PlacedRow, beneath, enclosing, roots}
 use Rattle.agg_evaluation.specs.Keys.{keys, distinct_keys}
 
--- What an aggregation counts of these objects. All are those of the shard, and the roots those that a global aggregation counts.
-abbrev pub under : List Object → List Object → Kind → List Object → List Object
-under all roots (kind.Nested context) objects = flat_map (beneath all context) objects
-under all roots (kind.ReverseNested context) objects = enclosing all context objects
-under all roots kind.Global objects = roots
-under all roots _ objects = objects
+-- What an aggregation counts of the rows that it is handed: `all` are the rows of the shard, and `roots` those that a global
+-- aggregation counts. A nested aggregation goes down to the rows of a context, a reverse nested one up to them.
+abbrev pub under : List PlacedRow → List PlacedRow → Kind → List PlacedRow → List PlacedRow
+under all roots (kind.Nested context) rows = flat_map (beneath all context) rows
+under all roots (kind.ReverseNested context) rows = enclosing all context rows
+under all roots kind.Global rows = roots
+under all roots _ rows = rows
 
-abbrev pub group : List Object → Kind → List Object → Key → List Object
-group all kind counted key = filter (λ o. has_key key (keys all kind o)) counted
+-- the counted rows that have the key; the count of a bucket is their number
+abbrev pub group : List PlacedRow → Kind → List PlacedRow → Key → List PlacedRow
+group all kind counted key = filter (λ row. has_key key (keys all kind row)) counted
 
--- the keys of the objects, each once
-abbrev pub all_keys : List Object → Kind → List Object → List Key
+-- the keys of the counted rows, each once and ascending
+abbrev pub all_keys : List PlacedRow → Kind → List PlacedRow → List Key
 all_keys all kind counted = distinct_keys (flat_map (keys all kind) counted)
 
--- how many keys the objects have together
-abbrev pub key_count : List Object → Kind → List Object → ℕ
-key_count all kind counted = sum_by (λ o. length (keys all kind o)) counted
+-- how many keys the counted rows have, all together
+abbrev pub total_key_count : List PlacedRow → Kind → List PlacedRow → ℕ
+total_key_count all kind counted = sum_by (λ row. length (keys all kind row)) counted

@@ -1,18 +1,20 @@
--- The order of keys, and keys as values of a field.
-use Rattle.std.specs.Prelude.{ℕ, ℤ, Bool, true, false, not, ◌&&◌, if◌then◌else◌, List, [], ◌∷◌, map, nat_eq}
+-- The order of bucket keys, which is that of a field's values too
+-- (Elasticsearch Reference 8, 'Terms aggregation', order by `_key`; 'Composite aggregation', null first).
+use Rattle.std.specs.Prelude.{ℕ, Bool, if◌then◌else◌, List}
 use Rattle.std.specs.declared.cmp.Ordering.{Ordering}
-use Rattle.std.specs.Ordering.{nat_cmp, int_cmp, bool_cmp, ordering_then, ordering_reverse, is_eq}
+use Rattle.std.specs.Ordering.{nat_cmp, int_cmp, bool_cmp, ordering_reverse, is_eq}
 use Rattle.std.specs.Cmp.Lexicographic.{slice_cmp}
 use Rattle.std.specs.List.{list_any}
 use Rattle.agg_model.specs.declared.key.Key.{Key, out-Key}
 use Rattle.agg_model.specs.declared.key.Key.TheOpen.{Key-F}
-use Rattle.agg_evaluation.specs.Folds.{fold_key}
 use Rattle.agg_model.specs.declared.key.Key.TheVariants.{Whole, Flag, Word}
 use Rattle.agg_model.specs.declared.row.Scalar.{Scalar}
-use Rattle.agg_model.specs.declared.row.Scalar.TheVariants as scalar
 use Rattle.agg_model.specs.declared.query.Probe.{Probe}
+use Rattle.agg_model.specs.declared.row.Scalar.TheVariants as scalar
 use Rattle.agg_model.specs.declared.query.Probe.TheVariants as probe
+use Rattle.agg_evaluation.specs.Folds.{fold_key}
 
+-- which kind of key comes first
 abbrev pub rank : {A : Type 0} → Key-F A → ℕ
 rank Key-F.Null = 0
 rank (Key-F.Whole n) = 1
@@ -36,19 +38,22 @@ key_cmp = fold_key (λ j k. key_cmp_at j (out-Key k))
 abbrev pub key_eq : Key → Key → Bool
 key_eq j k = is_eq (key_cmp j k)
 
+-- whether the key stands in the list
 abbrev pub has_key : Key → List Key → Bool
 has_key k = list_any (key_eq k)
 
+-- a value of a field as a key
 abbrev pub scalar_key : Scalar → Key
 scalar_key (scalar.Whole n) = Whole n
 scalar_key (scalar.Word w) = Word w
 scalar_key (scalar.Flag b) = Flag b
 
+-- a value that a request names as a key
 abbrev pub probe_key : Probe → Key
 probe_key (probe.Whole n) = Whole n
 probe_key (probe.Word w) = Word w
 probe_key (probe.Flag b) = Flag b
 
--- an order that goes the other way where it is descending
+-- the comparison's outcome, turned round where the order is descending
 abbrev pub directed : Bool → Ordering → Ordering
 directed descending o = if descending then ordering_reverse o else o

@@ -9,3 +9,4 @@ pub mod Orders
 pub mod Shard
 pub mod Whole
 pub mod Cost
+pub mod Trace

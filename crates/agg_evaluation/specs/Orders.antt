@@ -1,5 +1,6 @@
--- The orders of buckets.
-use Rattle.std.specs.Prelude.{ℕ, ℤ, pos, Bool, List, [], ◌∷◌, ◌==◌, Option, Some, None, option_and_then, slice_get, if◌then◌else◌}
+-- The orders of buckets (Elasticsearch Reference 8, 'Terms aggregation' and 'Histogram aggregation' on order, 'Composite
+-- aggregation' on the order of its sources).
+use Rattle.std.specs.Prelude.{ℕ, ℤ, pos, Bool, List, [], ◌∷◌, Option, Some, None, option_and_then, slice_get}
 use Rattle.std.specs.declared.cmp.Ordering.{Ordering}
 use Rattle.std.specs.declared.cmp.Ordering.TheVariants.{Less, Equal, Greater}
 use Rattle.std.specs.Ordering.{nat_cmp, int_cmp, ordering_then}
@@ -10,10 +11,10 @@ use Rattle.agg_model.specs.declared.partial.Bucket.{Bucket}
 use Rattle.agg_model.specs.declared.partial.Node.TheOpen.{Node-F}
 use Rattle.agg_model.specs.declared.partial.Node.{Node, out-Node}
 use Rattle.agg_model.specs.declared.aggregation.Kind.{Kind}
-use Rattle.agg_model.specs.declared.aggregation.Kind.TheVariants as kind
 use Rattle.agg_model.specs.declared.aggregation.CompositeSource.{CompositeSource}
 use Rattle.agg_model.specs.declared.aggregation.Order.{Order}
 use Rattle.agg_model.specs.declared.aggregation.OrderBy.{OrderBy}
+use Rattle.agg_model.specs.declared.aggregation.Kind.TheVariants as kind
 use Rattle.agg_model.specs.declared.aggregation.OrderBy.TheVariants as by
 use Rattle.agg_evaluation.specs.KeyOrder.{key_cmp, directed}
 
@@ -24,7 +25,7 @@ value_cmp descending None (Some n) = Greater
 value_cmp descending (Some m) None = Less
 value_cmp descending (Some m) (Some n) = directed descending (int_cmp m n)
 
--- the value of a metric of this kind
+-- the value by which a metric of this kind orders; an average orders nothing
 abbrev pub metric_value : Kind → Metric → Option ℤ
 metric_value (kind.Sum field missing) m = Some m.sum
 metric_value (kind.Min field missing) m = m.least
@@ -32,11 +33,12 @@ metric_value (kind.Max field missing) m = m.greatest
 metric_value (kind.ValueCount field missing) m = Some (pos m.count)
 metric_value _ m = None
 
+-- the metric of a node
 abbrev pub number_of : Node-F Node Bucket → Option Metric
 number_of (Node-F.Number m) = Some m
 number_of _ = None
 
--- the value of a bucket's child, where the children are of these kinds
+-- the value of a bucket's i-th child, where the children are of these kinds
 abbrev pub child_value : List Kind → ℕ → Bucket → Option ℤ
 child_value kinds i b =
     option_and_then (λ k. option_and_then (λ n. option_and_then (metric_value k) (number_of (out-Node n))) (slice_get b.children i)) (slice_get kinds i)
@@ -66,5 +68,6 @@ abbrev pub composite_cmp_at : List CompositeSource → Key-F Key → Key-F Key �
 composite_cmp_at sources (Key-F.Many js) (Key-F.Many ks) = parts_cmp sources js ks
 composite_cmp_at sources _ _ = Equal
 
+-- the order of a composite aggregation's keys
 abbrev pub composite_cmp : List CompositeSource → Key → Key → Ordering
 composite_cmp sources j k = composite_cmp_at sources (out-Key j) (out-Key k)

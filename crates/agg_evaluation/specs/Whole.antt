@@ -1,5 +1,6 @@
--- The reduction of the answers of several shards.
-use Rattle.std.specs.Prelude.{ℕ, ℤ, List, [], ◌∷◌, map, filter, filter_map, flat_map, sum_by, Option, Some, None, slice_get}
+-- The whole: the union of the answers of several shards (Elasticsearch Reference 8, 'Aggregations': the reduce phase, in which
+-- the coordinating node adds up what the shards answered).
+use Rattle.std.specs.Prelude.{ℕ, List, [], ◌∷◌, map, filter, filter_map, flat_map, sum_by, slice_get}
 use Rattle.std.specs.List.{reduce, enumerate_from}
 use Rattle.std.specs.Int.{int_min, int_max}
 use Rattle.agg_model.specs.declared.key.Key.{Key}
@@ -10,17 +11,16 @@ use Rattle.agg_model.specs.declared.partial.Node.TheOpen.{Node-F}
 use Rattle.agg_model.specs.declared.partial.Node.TheVariants.{Keyed, Fixed, Number}
 use Rattle.agg_model.specs.declared.partial.Partial.{Partial}
 use Rattle.agg_model.specs.declared.aggregation.Kind.{Kind}
-use Rattle.agg_model.specs.declared.aggregation.Kind.TheVariants as kind
 use Rattle.agg_model.specs.declared.aggregation.Agg.{Agg}
-use Rattle.agg_model.specs.declared.aggregation.Agg.TheOpen.{Agg-F}
-use Rattle.agg_evaluation.specs.Folds.{fold_agg}
 use Rattle.agg_model.specs.declared.aggregation.Search.{Search}
+use Rattle.agg_model.specs.declared.aggregation.Kind.TheVariants as kind
+use Rattle.agg_evaluation.specs.Folds.{fold_agg}
 use Rattle.agg_evaluation.specs.KeyOrder.{key_eq}
 use Rattle.agg_evaluation.specs.Orders.{bucket_key, bucket_count}
 use Rattle.agg_evaluation.specs.Keys.{distinct_keys}
 use Rattle.agg_evaluation.specs.Shard.{fixed_keys, int_sum}
 
--- which nodes an aggregation has: buckets by key, buckets that exist from the start, or a number
+-- what a node has: buckets by the keys of rows, buckets that exist from the start, or a number
 pub data Shape : Type 0 where
   by_key : Shape
   from_start : Shape
@@ -53,6 +53,7 @@ parts_at (Node-F.Number m) = record { buckets = []; error = 0; full = 0; cut = 0
 abbrev pub parts : Node → Parts
 parts n = parts_at (out-Node n)
 
+-- the metric of all values together
 abbrev pub metric_sum : List Metric → Metric
 metric_sum ms = record {
     count = sum_by (λ m. m.count) ms;
@@ -61,10 +62,11 @@ metric_sum ms = record {
     greatest = reduce int_max (filter_map (λ m. m.greatest) ms);
   }
 
--- the n-th children of the buckets
+-- the n-th children of the buckets, where they have so many
 abbrev pub children_at : List Bucket → ℕ → List Node
 children_at buckets n = filter_map (λ b. slice_get b.children n) buckets
 
+-- the bucket of a key: counts are added, and the children are the wholes of the children
 abbrev pub whole_bucket : List (List Node → Node) → List Bucket → Key → Bucket
 whole_bucket children buckets key =
     let same = filter (λ b. key_eq key (bucket_key b)) buckets in
@@ -75,6 +77,7 @@ whole_bucket children buckets key =
         children = map (λ c. c.1 (children_at same c.0)) (enumerate_from 0 children);
       })
 
+-- A node over some trees. The first argument gives the wholes of the children.
 abbrev pub whole_by : List (List Node → Node) → Kind → Shape → List Node → Node
 whole_by children k by_key trees =
     let buckets = flat_map (λ t. (parts t).buckets) trees in
@@ -83,10 +86,11 @@ whole_by children k by_key trees =
 whole_by children k from_start trees = Fixed (map (whole_bucket children (flat_map (λ t. (parts t).buckets) trees)) (fixed_keys k))
 whole_by children k a_number trees = Number (metric_sum (flat_map (λ t. (parts t).metrics) trees))
 
--- the reduction of the trees of one aggregation
+-- the whole of trees of one aggregation
 abbrev pub whole_node : Agg → List Node → Node
 whole_node = fold_agg (λ a. whole_by a.children a.kind (shape_of a.kind))
 
+-- the whole of the shard answers to one search
 abbrev pub whole : Search → List Partial → Partial
 whole search trees = record {
     hits = sum_by (λ t. t.hits) trees;
