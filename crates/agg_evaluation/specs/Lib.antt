@@ -10,3 +10,6 @@ pub mod Shard
 pub mod Whole
 pub mod Cost
 pub mod Trace
+pub mod Trees
+pub mod Ceiling
+pub mod TrueCounts

@@ -56,11 +56,11 @@ parts n = parts_at (out-Node n)
 -- the metric of all values together
 abbrev pub metric_sum : List Metric → Metric
 metric_sum ms = record {
-    count = sum_by (λ m. m.count) ms;
-    sum = int_sum (map (λ m. m.sum) ms);
-    least = reduce int_min (filter_map (λ m. m.least) ms);
-    greatest = reduce int_max (filter_map (λ m. m.greatest) ms);
-  }
+  count = sum_by (λ m. m.count) ms;
+  sum = int_sum (map (λ m. m.sum) ms);
+  least = reduce int_min (filter_map (λ m. m.least) ms);
+  greatest = reduce int_max (filter_map (λ m. m.greatest) ms);
+}
 
 -- the n-th children of the buckets, where they have so many
 abbrev pub children_at : List Bucket → ℕ → List Node
@@ -71,18 +71,18 @@ abbrev pub whole_bucket : List (List Node → Node) → List Bucket → Key → 
 whole_bucket children buckets key =
     let same = filter (λ b. key_eq key (bucket_key b)) buckets in
     (record {
-        key = key;
-        count = sum_by bucket_count same;
-        covered = sum_by (λ b. b.covered) same;
-        children = map (λ c. c.1 (children_at same c.0)) (enumerate_from 0 children);
-      })
+      key = key;
+      count = sum_by bucket_count same;
+      covered = sum_by (λ b. b.covered) same;
+      children = map (λ c. c.1 (children_at same c.0)) (enumerate_from 0 children);
+    })
 
 -- A node over some trees. The first argument gives the wholes of the children.
 abbrev pub whole_by : List (List Node → Node) → Kind → Shape → List Node → Node
 whole_by children k by_key trees =
     let buckets = flat_map (λ t. (parts t).buckets) trees in
     Keyed (map (whole_bucket children buckets) (distinct_keys (map bucket_key buckets)))
-        (sum_by (λ t. (parts t).error) trees) (sum_by (λ t. (parts t).full) trees) (sum_by (λ t. (parts t).cut) trees)
+    (sum_by (λ t. (parts t).error) trees) (sum_by (λ t. (parts t).full) trees) (sum_by (λ t. (parts t).cut) trees)
 whole_by children k from_start trees = Fixed (map (whole_bucket children (flat_map (λ t. (parts t).buckets) trees)) (fixed_keys k))
 whole_by children k a_number trees = Number (metric_sum (flat_map (λ t. (parts t).metrics) trees))
 
@@ -93,6 +93,6 @@ whole_node = fold_agg (λ a. whole_by a.children a.kind (shape_of a.kind))
 -- the whole of the shard answers to one search
 abbrev pub whole : Search → List Partial → Partial
 whole search trees = record {
-    hits = sum_by (λ t. t.hits) trees;
-    nodes = map (λ a. whole_node a.1 (filter_map (λ t. slice_get t.nodes a.0) trees)) (enumerate_from 0 search.aggs);
-  }
+  hits = sum_by (λ t. t.hits) trees;
+  nodes = map (λ a. whole_node a.1 (filter_map (λ t. slice_get t.nodes a.0) trees)) (enumerate_from 0 search.aggs);
+}

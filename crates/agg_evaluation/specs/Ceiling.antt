@@ -1,0 +1,120 @@
+-- The ceiling of a task: what it can hold at most, computed from its rows before it runs; a search above 2 ^ 50 is too wide
+-- (Elasticsearch Reference 8, 'Circuit breaker settings' on limits that a request is tried against before it runs).
+use Rattle.std.specs.Prelude.{ℕ, ◌+◌, ◌*◌, ◌^◌, Bool, true, false, ◌||◌, nat_lt, if◌then◌else◌, List, [], ◌∷◌, ◌++◌, map, flat_map, length, sum, Option, Some, None, option_map, option_and_then, option_to_list, slice_get}
+use Rattle.std.specs.List.{list_any}
+use Rattle.agg_model.specs.declared.mapping.FieldKind.{FieldKind}
+use Rattle.agg_model.specs.declared.mapping.FieldKind.TheVariants.{Keyword}
+use Rattle.agg_model.specs.declared.row.Scalar.{Scalar}
+use Rattle.agg_model.specs.declared.row.Scalar.TheVariants.{Word}
+use Rattle.agg_model.specs.declared.aggregation.Agg.{Agg, out-Agg}
+use Rattle.agg_model.specs.declared.aggregation.Agg.TheOpen.{Agg-F}
+use Rattle.agg_model.specs.declared.aggregation.CompositeSource.{CompositeSource}
+use Rattle.agg_model.specs.declared.aggregation.Kind.{Kind}
+use Rattle.agg_model.specs.declared.aggregation.Kind.TheVariants as kind
+use Rattle.agg_model.specs.declared.aggregation.Search.{Search}
+use Rattle.agg_evaluation.specs.Folds.{fold_agg}
+use Rattle.agg_evaluation.specs.Rows.{PlacedRow, roots, values_of}
+use Rattle.agg_evaluation.specs.Matching.{matched_roots}
+use Rattle.agg_evaluation.specs.Keys.{keys, source_keys}
+use Rattle.agg_evaluation.specs.Groups.{under}
+use Rattle.agg_evaluation.specs.Shard.{fixed_keys}
+use Rattle.agg_evaluation.specs.Whole.{Shape, by_key, from_start, a_number, shape_of}
+use Rattle.agg_evaluation.specs.Trace.{is_global, task_overhead}
+
+abbrev pub greatest_ceiling : ℕ
+greatest_ceiling = 2 ^ 50
+
+-- the most combinations of keys that one row may have at a composite aggregation
+abbrev pub greatest_combinations : ℕ
+greatest_combinations = 65536
+
+abbrev pub word_length : Scalar → ℕ
+word_length (Word w) = length w
+word_length _ = 0
+
+abbrev pub greatest_of : List ℕ → ℕ
+greatest_of [] = 0
+greatest_of (n ∷ ns) = let rest = greatest_of ns in if nat_lt n rest then rest else n
+
+-- The bytes of a field's key: 8, or for keywords the length of the longest in the shard or in `missing`.
+abbrev pub value_bytes : Option FieldKind → List Scalar → ℕ
+value_bytes (Some Keyword) values = greatest_of (map word_length values)
+value_bytes _ values = 8
+
+-- how many combinations of keys a row has
+abbrev pub combination_count : List CompositeSource → PlacedRow → ℕ
+combination_count [] row = 1
+combination_count (s ∷ ss) row = length (source_keys row s) * combination_count ss row
+
+-- `kinds` are the kinds of the mapping's fields, and `all` the rows of the shard
+module _ (kinds : List FieldKind) (all : List PlacedRow) where
+  abbrev pub field_bytes : ℕ → Option Scalar → ℕ
+  field_bytes field missing = value_bytes (slice_get kinds field) (option_to_list missing ++ flat_map (values_of field) all)
+
+  -- a composite key's part is counted as at least 1, which null has
+  abbrev pub part_bytes : CompositeSource → ℕ
+  part_bytes s = greatest_of (1 ∷ field_bytes s.field None ∷ [])
+
+  -- a bound on the bytes of a key
+  abbrev pub key_bound : Kind → ℕ
+  key_bound (kind.Terms field size shard_size min_doc_count order include exclude missing show_error) = field_bytes field missing
+  key_bound (kind.Histogram field interval offset min_doc_count extended hard keyed order missing) = 8
+  key_bound (kind.Composite sources size after) = sum (map part_bytes sources)
+  key_bound _ = 0
+
+  -- the rows that a node hands to its children, each as often as paths of keys lead to it
+  abbrev pub handed_on : Kind → List PlacedRow → List PlacedRow
+  handed_on k rows =
+      flat_map (λ row. map (λ key. row) (keys all k row)) (flat_map (λ row. under all (row ∷ []) k (row ∷ [])) rows)
+
+  -- a bound on the buckets of so many nodes, to whose keys so many paths lead
+  abbrev pub bucket_bound : Kind → Shape → ℕ → ℕ → ℕ
+  bucket_bound k by_key nodes paths = paths
+  bucket_bound k from_start nodes paths = nodes * length (fixed_keys k)
+  bucket_bound k a_number nodes paths = 0
+
+  -- The bytes of so many nodes of an aggregation and of all below them, where these rows reach them. A bucket of the
+  -- parent is one node.
+  abbrev pub node_bound : Agg → ℕ → List PlacedRow → ℕ
+  node_bound = fold_agg (λ a nodes rows.
+      let handed = handed_on a.kind rows in
+      let buckets = bucket_bound a.kind (shape_of a.kind) nodes (length handed) in
+      nodes * 512 + buckets * (128 + key_bound a.kind) + sum (map (λ child. child buckets handed) a.children))
+
+-- the roots that an aggregation at the top collects
+abbrev pub collected_roots : Search → List PlacedRow → Kind → List PlacedRow
+collected_roots search all k = if is_global k then roots all else matched_roots all search.query
+
+-- twice what a task can hold, without regard to the greatest ceiling
+abbrev pub task_bound : List FieldKind → Search → List PlacedRow → ℕ
+task_bound kinds search all =
+    2 * (task_overhead + sum (map (λ a. node_bound kinds all a 1 (collected_roots search all (out-Agg a).kind)) search.aggs))
+
+-- whether a collected row has more combinations than a composite aggregation may have
+abbrev pub is_wide_at : Kind → List PlacedRow → Bool
+is_wide_at (kind.Composite sources size after) rows = list_any (λ row. nat_lt greatest_combinations (combination_count sources row)) rows
+is_wide_at _ rows = false
+
+abbrev pub has_wide_row : Search → List PlacedRow → Bool
+has_wide_row search all = list_any (λ a. is_wide_at (out-Agg a).kind (matched_roots all search.query)) search.aggs
+
+-- the number, unless it is above the greatest ceiling
+abbrev pub within_greatest : ℕ → Option ℕ
+within_greatest n = if nat_lt greatest_ceiling n then None else Some n
+
+abbrev pub ceiling_by : Bool → List FieldKind → Search → List PlacedRow → Option ℕ
+ceiling_by true kinds search all = None
+ceiling_by false kinds search all = within_greatest (task_bound kinds search all)
+
+-- the ceiling of a task, one search on one shard; none where it is too wide
+abbrev pub ceiling : List FieldKind → Search → List PlacedRow → Option ℕ
+ceiling kinds search all = ceiling_by (has_wide_row search all) kinds search all
+
+-- the sum, where all are there
+abbrev pub sum_of_all : List (Option ℕ) → Option ℕ
+sum_of_all [] = Some 0
+sum_of_all (n ∷ ns) = option_and_then (λ first. option_map (λ rest. first + rest) (sum_of_all ns)) n
+
+-- the ceiling of a search over its shards; none where it is too wide
+abbrev pub search_ceiling : List FieldKind → Search → List (List PlacedRow) → Option ℕ
+search_ceiling kinds search shards = option_and_then within_greatest (sum_of_all (map (ceiling kinds search) shards))
