@@ -1,9 +1,13 @@
 //! Aggregations and searches (Elasticsearch Reference 8, 'Aggregations').
+ghost use Rattle.std.specs.Prelude.{◌≡◌, IfOk};
+
+use crate::copying::Copying;
 use crate::key::Key;
 use crate::list::List;
 use crate::query::{Probe, Query};
 use crate::row::Scalar;
 use crate::text::Text;
+use std::alloc::{AllocError, Global};
 
 /// What an order of buckets compares.
 #[derive(Clone, Copy, Debug, PartialEq, Eq)]
@@ -136,4 +140,160 @@ pub struct Search {
     pub aggs: List<Agg>,
     /// The length of the body in bytes.
     pub body_bytes: u64,
+}
+
+impl Copying for OrderBy {
+    fn copy(&self, _alloc: Global) -> Result<Self, AllocError> {
+        Ok(*self)
+    }
+}
+
+impl Copying for Order {
+    fn copy(&self, _alloc: Global) -> Result<Self, AllocError> {
+        Ok(*self)
+    }
+}
+
+impl Copying for Bounds {
+    fn copy(&self, _alloc: Global) -> Result<Self, AllocError> {
+        Ok(*self)
+    }
+}
+
+impl Copying for CompositeSource {
+    fn copy(&self, alloc: Global) -> Result<Self, AllocError> {
+        Ok(CompositeSource {
+            name: self.name.copy(alloc)?,
+            field: self.field,
+            interval: self.interval,
+            descending: self.descending,
+            missing_bucket: self.missing_bucket,
+        })
+    }
+}
+
+impl Copying for Kind {
+    fn copy(&self, alloc: Global) -> Result<Self, AllocError> {
+        match self {
+            Kind::Terms {
+                field,
+                size,
+                shard_size,
+                min_doc_count,
+                order,
+                include,
+                exclude,
+                missing,
+                show_error,
+            } => Ok(Kind::Terms {
+                field: *field,
+                size: *size,
+                shard_size: *shard_size,
+                min_doc_count: *min_doc_count,
+                order: order.copy(alloc)?,
+                include: include.copy(alloc)?,
+                exclude: exclude.copy(alloc)?,
+                missing: missing.copy(alloc)?,
+                show_error: *show_error,
+            }),
+            Kind::Histogram {
+                field,
+                interval,
+                offset,
+                min_doc_count,
+                extended,
+                hard,
+                keyed,
+                order,
+                missing,
+            } => Ok(Kind::Histogram {
+                field: *field,
+                interval: *interval,
+                offset: *offset,
+                min_doc_count: *min_doc_count,
+                extended: *extended,
+                hard: *hard,
+                keyed: *keyed,
+                order: order.copy(alloc)?,
+                missing: missing.copy(alloc)?,
+            }),
+            Kind::Filters {
+                names,
+                filters,
+                other,
+            } => Ok(Kind::Filters {
+                names: names.copy(alloc)?,
+                filters: filters.copy(alloc)?,
+                other: other.copy(alloc)?,
+            }),
+            Kind::Filter { query } => Ok(Kind::Filter {
+                query: query.copy(alloc)?,
+            }),
+            Kind::Missing { field } => Ok(Kind::Missing { field: *field }),
+            Kind::Global => Ok(Kind::Global),
+            Kind::Nested { context } => Ok(Kind::Nested { context: *context }),
+            Kind::ReverseNested { context } => Ok(Kind::ReverseNested { context: *context }),
+            Kind::Composite {
+                sources,
+                size,
+                after,
+            } => Ok(Kind::Composite {
+                sources: sources.copy(alloc)?,
+                size: *size,
+                after: after.copy(alloc)?,
+            }),
+            Kind::Sum { field, missing } => Ok(Kind::Sum {
+                field: *field,
+                missing: missing.copy(alloc)?,
+            }),
+            Kind::Min { field, missing } => Ok(Kind::Min {
+                field: *field,
+                missing: missing.copy(alloc)?,
+            }),
+            Kind::Max { field, missing } => Ok(Kind::Max {
+                field: *field,
+                missing: missing.copy(alloc)?,
+            }),
+            Kind::Avg { field, missing } => Ok(Kind::Avg {
+                field: *field,
+                missing: missing.copy(alloc)?,
+            }),
+            Kind::ValueCount { field, missing } => Ok(Kind::ValueCount {
+                field: *field,
+                missing: missing.copy(alloc)?,
+            }),
+        }
+    }
+}
+
+#[cycle(aggregation)]
+fn copy_aggregations(alloc: Global, aggs: &List<Agg>) -> Result<List<Agg>, AllocError>
+    ensures { IfOk result (λ c. c ≡ aggs.now) }
+{
+    let mut copied = List::new(alloc);
+    for agg in aggs.as_slice() {
+        copied.push(agg.copy(alloc)?)?;
+    }
+    Ok(copied)
+}
+
+impl Copying for Agg {
+    #[cycle(aggregation)]
+    fn copy(&self, alloc: Global) -> Result<Self, AllocError> {
+        Ok(Agg {
+            name: self.name.copy(alloc)?,
+            kind: self.kind.copy(alloc)?,
+            children: copy_aggregations(alloc, &self.children)?,
+        })
+    }
+}
+
+impl Copying for Search {
+    fn copy(&self, alloc: Global) -> Result<Self, AllocError> {
+        Ok(Search {
+            query: self.query.copy(alloc)?,
+            aggs: self.aggs.copy(alloc)?,
+            body_bytes: self.body_bytes,
+        })
+    }
 }

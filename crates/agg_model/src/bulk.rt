@@ -1,6 +1,8 @@
 //! Bulk actions and what became of them (Elasticsearch Reference 8, 'Bulk API').
 use crate::bytes::Bytes;
+use crate::copying::Copying;
 use crate::text::Text;
+use std::alloc::{AllocError, Global};
 
 /// The actions of a bulk line.
 #[derive(Clone, Copy, Debug, PartialEq, Eq)]
@@ -52,4 +54,43 @@ pub struct Item {
     pub kind: ActionKind,
     pub id: Text,
     pub end: ItemEnd,
+}
+
+impl Copying for Action {
+    fn copy(&self, alloc: Global) -> Result<Self, AllocError> {
+        Ok(Action {
+            kind: self.kind,
+            id: self.id.copy(alloc)?,
+            routing: self.routing.copy(alloc)?,
+            source: self.source.copy(alloc)?,
+        })
+    }
+}
+
+impl Copying for ItemRefusal {
+    fn copy(&self, alloc: Global) -> Result<Self, AllocError> {
+        Ok(ItemRefusal {
+            number: self.number,
+            path: self.path.copy(alloc)?,
+        })
+    }
+}
+
+impl Copying for ItemEnd {
+    fn copy(&self, alloc: Global) -> Result<Self, AllocError> {
+        match self {
+            ItemEnd::Applied(applied) => Ok(ItemEnd::Applied(*applied)),
+            ItemEnd::Refused(refusal) => Ok(ItemEnd::Refused(refusal.copy(alloc)?)),
+        }
+    }
+}
+
+impl Copying for Item {
+    fn copy(&self, alloc: Global) -> Result<Self, AllocError> {
+        Ok(Item {
+            kind: self.kind,
+            id: self.id.copy(alloc)?,
+            end: self.end.copy(alloc)?,
+        })
+    }
 }

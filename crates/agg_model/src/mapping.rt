@@ -1,6 +1,8 @@
 //! Mappings (Elasticsearch Reference 8, 'Mapping').
+use crate::copying::Copying;
 use crate::list::List;
 use crate::text::Text;
+use std::alloc::{AllocError, Global};
 
 /// The field data types of the engine.
 #[derive(Clone, Copy, Debug, PartialEq, Eq)]
@@ -49,4 +51,41 @@ pub struct Mapping {
     pub objects: List<Text>,
     /// Whether `dynamic` is `strict`, so that an unmapped name refuses the document.
     pub strict: bool,
+}
+
+impl Copying for FieldKind {
+    fn copy(&self, _alloc: Global) -> Result<Self, AllocError> {
+        Ok(*self)
+    }
+}
+
+impl Copying for Field {
+    fn copy(&self, alloc: Global) -> Result<Self, AllocError> {
+        Ok(Field {
+            path: self.path.copy(alloc)?,
+            kind: self.kind,
+            ignore_above: self.ignore_above,
+            context: self.context,
+        })
+    }
+}
+
+impl Copying for NestedPath {
+    fn copy(&self, alloc: Global) -> Result<Self, AllocError> {
+        Ok(NestedPath {
+            path: self.path.copy(alloc)?,
+            parent: self.parent,
+        })
+    }
+}
+
+impl Copying for Mapping {
+    fn copy(&self, alloc: Global) -> Result<Self, AllocError> {
+        Ok(Mapping {
+            fields: self.fields.copy(alloc)?,
+            nested: self.nested.copy(alloc)?,
+            objects: self.objects.copy(alloc)?,
+            strict: self.strict,
+        })
+    }
 }

@@ -1,6 +1,8 @@
 //! What a search may end in.
 use crate::breaker::Tripped;
+use crate::copying::Copying;
 use crate::text::Text;
+use std::alloc::{AllocError, Global};
 
 /// Why a search was refused.
 #[derive(Drop, PartialEq, Eq)]
@@ -38,4 +40,24 @@ pub enum Outcome {
     Tripped(Tripped),
     /// Memory ran out.
     Memory,
+}
+
+impl Copying for Refused {
+    fn copy(&self, alloc: Global) -> Result<Self, AllocError> {
+        match self {
+            Refused::NotJson => Ok(Refused::NotJson),
+            Refused::Bad { code, path } => Ok(Refused::Bad {
+                code: *code,
+                path: path.copy(alloc)?,
+            }),
+            Refused::TooManyBuckets { count, max } => Ok(Refused::TooManyBuckets {
+                count: *count,
+                max: *max,
+            }),
+            Refused::SumRange { path } => Ok(Refused::SumRange {
+                path: path.copy(alloc)?,
+            }),
+            Refused::TooWide => Ok(Refused::TooWide),
+        }
+    }
 }

@@ -1,6 +1,10 @@
 //! Partial results: the tree that one shard answers, and the union of several.
+ghost use Rattle.std.specs.Prelude.{◌≡◌, IfOk};
+
+use crate::copying::Copying;
 use crate::key::Key;
 use crate::list::List;
+use std::alloc::{AllocError, Global};
 
 /// The values that a metric has seen.
 #[derive(Clone, Copy, Debug, PartialEq, Eq)]
@@ -52,4 +56,76 @@ pub struct Partial {
     pub hits: u64,
     /// One node for each aggregation at the top.
     pub nodes: List<Node>,
+}
+
+impl Copying for Metric {
+    fn copy(&self, _alloc: Global) -> Result<Self, AllocError> {
+        Ok(*self)
+    }
+}
+
+#[cycle(partial)]
+fn copy_nodes(alloc: Global, nodes: &List<Node>) -> Result<List<Node>, AllocError>
+    ensures { IfOk result (λ c. c ≡ nodes.now) }
+{
+    let mut copied = List::new(alloc);
+    for node in nodes.as_slice() {
+        copied.push(node.copy(alloc)?)?;
+    }
+    Ok(copied)
+}
+
+#[cycle(partial)]
+fn copy_buckets(alloc: Global, buckets: &List<Bucket>) -> Result<List<Bucket>, AllocError>
+    ensures { IfOk result (λ c. c ≡ buckets.now) }
+{
+    let mut copied = List::new(alloc);
+    for bucket in buckets.as_slice() {
+        copied.push(bucket.copy(alloc)?)?;
+    }
+    Ok(copied)
+}
+
+impl Copying for Bucket {
+    #[cycle(partial)]
+    fn copy(&self, alloc: Global) -> Result<Self, AllocError> {
+        Ok(Bucket {
+            key: self.key.copy(alloc)?,
+            count: self.count,
+            covered: self.covered,
+            children: copy_nodes(alloc, &self.children)?,
+        })
+    }
+}
+
+impl Copying for Node {
+    #[cycle(partial)]
+    fn copy(&self, alloc: Global) -> Result<Self, AllocError> {
+        match self {
+            Node::Keyed {
+                buckets,
+                error,
+                full,
+                cut,
+            } => Ok(Node::Keyed {
+                buckets: copy_buckets(alloc, buckets)?,
+                error: *error,
+                full: *full,
+                cut: *cut,
+            }),
+            Node::Fixed { buckets } => Ok(Node::Fixed {
+                buckets: copy_buckets(alloc, buckets)?,
+            }),
+            Node::Number(metric) => Ok(Node::Number(*metric)),
+        }
+    }
+}
+
+impl Copying for Partial {
+    fn copy(&self, alloc: Global) -> Result<Self, AllocError> {
+        Ok(Partial {
+            hits: self.hits,
+            nodes: self.nodes.copy(alloc)?,
+        })
+    }
 }

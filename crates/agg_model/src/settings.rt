@@ -1,6 +1,8 @@
 //! The settings that the program's words give.
 use crate::breaker::Limits;
+use crate::copying::Copying;
 use crate::text::Text;
+use std::alloc::{AllocError, Global};
 
 /// The script that `--generate` asks for.
 #[derive(Clone, Copy, Debug, PartialEq, Eq)]
@@ -32,4 +34,25 @@ pub struct Settings {
 pub struct Usage {
     pub key: Text,
     pub value: Text,
+}
+
+impl Copying for Generate {
+    fn copy(&self, _alloc: Global) -> Result<Self, AllocError> {
+        Ok(*self)
+    }
+}
+
+impl Copying for Settings {
+    fn copy(&self, _alloc: Global) -> Result<Self, AllocError> {
+        Ok(*self)
+    }
+}
+
+impl Copying for Usage {
+    fn copy(&self, alloc: Global) -> Result<Self, AllocError> {
+        Ok(Usage {
+            key: self.key.copy(alloc)?,
+            value: self.value.copy(alloc)?,
+        })
+    }
 }
