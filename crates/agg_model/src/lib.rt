@@ -18,4 +18,6 @@ pub mod partial;
 pub mod query;
 pub mod row;
 pub mod settings;
+#[cfg(test)]
+mod tests;
 pub mod text;

@@ -1,0 +1,82 @@
+use crate::aggregation::{Agg, CompositeSource, Kind, Search};
+use crate::boxed::Boxed;
+use crate::bytes::Bytes;
+use crate::copying::Copying;
+use crate::key::Key;
+use crate::list::List;
+use crate::query::{Probe, Query};
+use crate::text::Text;
+use std::alloc::{AllocError, Global};
+use std::test::Fail;
+
+fn one<T: Drop>(alloc: Global, item: T) -> Result<List<T>, AllocError> {
+    let mut items = List::new(alloc);
+    items.push(item)?;
+    Ok(items)
+}
+
+/// A composite over one source after a key, under a nested query.
+fn search(alloc: Global) -> Result<Search, AllocError> {
+    let value = Probe::Word(Text::of(alloc, "k")?);
+    let query = Boxed::new(alloc, Query::Term { field: 1, value })?;
+    let source = CompositeSource {
+        name: Text::of(alloc, "c")?,
+        field: 0,
+        interval: Some(10),
+        descending: true,
+        missing_bucket: false,
+    };
+    let kind = Kind::Composite {
+        sources: one(alloc, source)?,
+        size: 2,
+        after: Some(Key::Many(one(alloc, Key::Whole(-10))?)),
+    };
+    let agg = Agg {
+        name: Text::of(alloc, "a")?,
+        kind,
+        children: List::new(alloc),
+    };
+    Ok(Search {
+        query: Query::Nested { path: 0, query },
+        aggs: one(alloc, agg)?,
+        body_bytes: 7,
+    })
+}
+
+#[test]
+fn with_memory_a_copy_is_made_and_equals_what_it_copies(rt: HostRuntime) -> Result<(), Fail> {
+    let search = search(rt.alloc())?;
+    assert!(rt; search.copy(rt.alloc())? == search);
+    Ok(())
+}
+
+#[test]
+fn with_memory_bytes_and_texts_are_taken_and_lent(rt: HostRuntime) -> Result<(), Fail> {
+    let bytes = Bytes::of(rt.alloc(), b"a\n")?.copy(rt.alloc())?;
+    assert!(rt; bytes.as_slice() == b"a\n".as_slice() && bytes.len() == 2 && !bytes.is_empty());
+    assert!(rt; Bytes::from_vec(bytes.into_vec()).len() == 2);
+    let text = Text::from_string(String::from_str(rt.alloc(), "é")?);
+    assert!(rt; text.as_str() == "é" && text.len() == 2 && !text.is_empty());
+    assert!(rt; text < Text::of(rt.alloc(), "ê")?);
+    Ok(())
+}
+
+#[test]
+fn null_comes_before_every_other_key(rt: HostRuntime) -> Result<(), Fail> {
+    let word = Key::Word(Text::of(rt.alloc(), "a")?);
+    let many = Key::Many(one(rt.alloc(), Key::Null)?);
+    let keys = [
+        &Key::Whole(-1),
+        &Key::Flag(false),
+        &Key::Flag(true),
+        &word,
+        &Key::Fixed(0),
+        &many,
+    ];
+    let mut last = &Key::Null;
+    for key in keys {
+        assert!(rt; last < key);
+        last = key;
+    }
+    Ok(())
+}
