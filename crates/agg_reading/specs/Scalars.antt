@@ -1,0 +1,83 @@
+-- The values that a JSON value stands for in a field (Elasticsearch Reference 8, 'Field data types').
+use Rattle.std.specs.Prelude.{ℕ, ◌^◌, ℤ, pos, neg_ℤ, int_le, int_lt, List, [], ◌∷◌, length, drop, Option, Some, None, option_map, option_and_then, Bool, true, false, ◌&&◌, nat_lt, nat_le, if◌then◌else◌, codes}
+use Rattle.std.specs.Str.{bytes_eq, all_ascii_digits, chars}
+use Rattle.std.specs.Str.Parse.{starts_with_minus, signed_digits_value}
+use Rattle.std.specs.Fmt.{signed_decimal}
+use Rattle.serde_json.specs.Data.{Data, null, boolean, number, string, array, object}
+use Rattle.serde_json.specs.Find.{as_integer}
+use Rattle.agg_model.specs.declared.query.Probe.{Probe}
+use Rattle.agg_model.specs.declared.query.Probe.TheVariants as probe
+use Rattle.agg_model.specs.declared.row.Scalar.{Scalar}
+use Rattle.agg_model.specs.declared.row.Scalar.TheVariants as scalar
+use Rattle.agg_model.specs.declared.mapping.FieldKind.{FieldKind}
+use Rattle.agg_model.specs.declared.mapping.FieldKind.TheVariants.{Long, Integer, Short, Byte, Keyword, Boolean}
+
+abbrev pub digits_of : List ℕ → List ℕ
+digits_of s = if starts_with_minus s then drop 1 s else s
+
+-- an optional `-` and 1 to 38 digits
+abbrev pub is_decimal : List ℕ → Bool
+is_decimal s = nat_lt 0 (length (digits_of s)) && nat_le (length (digits_of s)) 38 && all_ascii_digits (digits_of s)
+
+unfoldable pub decimal_of : List ℕ → Option ℤ
+decimal_of s = if is_decimal s then Some (signed_digits_value 10 s) else None
+
+-- A whole number, or a decimal text. A number is whole where it is an integer of 64 bits, signed or unsigned; `1.0`, `1e2` and `-0` are not.
+unfoldable pub whole : Data → Option ℤ
+whole (number n) = as_integer n
+whole (string s) = decimal_of s
+whole _ = None
+
+abbrev pub word_of : Bool → List ℕ
+word_of true = codes "true"
+word_of false = codes "false"
+
+-- a text, a whole number in decimal, or the word of a boolean
+unfoldable pub word : Data → Option (List ℕ)
+word (number n) = option_map signed_decimal (as_integer n)
+word (string s) = Some s
+word (boolean b) = Some (word_of b)
+word _ = None
+
+abbrev pub flag_of : List ℕ → Option Bool
+flag_of s = if bytes_eq s (codes "true") then Some true else (if bytes_eq s (codes "false") then Some false else None)
+
+unfoldable pub flag : Data → Option Bool
+flag (boolean b) = Some b
+flag (string s) = flag_of s
+flag _ = None
+
+abbrev pub is_whole_kind : FieldKind → Bool
+is_whole_kind Keyword = false
+is_whole_kind Boolean = false
+is_whole_kind _ = true
+
+-- what a query, `include`, `exclude` or `after` asks a field for
+unfoldable pub probe_of : FieldKind → Data → Option Probe
+probe_of Keyword d = option_map probe.Word (word d)
+probe_of Boolean d = option_map probe.Flag (flag d)
+probe_of _ d = option_map probe.Whole (whole d)
+
+-- from -2^(bits-1) up to, not including, 2^(bits-1)
+abbrev pub fits_below : ℕ → ℤ → Bool
+fits_below half z = int_le (neg_ℤ (pos half)) z && int_lt z (pos half)
+
+abbrev pub half_of : FieldKind → ℕ
+half_of Integer = 2 ^ 31
+half_of Short = 2 ^ 15
+half_of Byte = 2 ^ 7
+half_of _ = 2 ^ 63
+
+-- whether a whole number lies in the range of a field of this kind
+abbrev pub fits_kind : FieldKind → ℤ → Bool
+fits_kind kind z = fits_below (half_of kind) z
+
+-- the same value as the value of a row, whose whole numbers have 64 bits
+abbrev pub stored : Probe → Option Scalar
+stored (probe.Whole z) = if fits_below (2 ^ 63) z then Some (scalar.Whole z) else None
+stored (probe.Word w) = Some (scalar.Word w)
+stored (probe.Flag b) = Some (scalar.Flag b)
+
+-- a text has more Unicode characters than this
+abbrev pub is_longer : List ℕ → ℕ → Bool
+is_longer text most = nat_lt most (length (chars text))

@@ -1,0 +1,49 @@
+//! The words that choose how the value beside them is read.
+use agg_model::mapping::FieldKind;
+
+/// The queries ('Query DSL').
+#[derive(Clone, Copy, Debug, PartialEq, Eq)]
+pub enum QueryName {
+    MatchAll,
+    Term,
+    Terms,
+    Range,
+    Exists,
+    Ids,
+    Bool,
+    Nested,
+}
+
+/// The kinds of aggregations ('Aggregations').
+#[derive(Clone, Copy, Debug, PartialEq, Eq)]
+pub enum KindName {
+    Avg,
+    Composite,
+    Filter,
+    Filters,
+    Global,
+    Histogram,
+    Max,
+    Min,
+    Missing,
+    Nested,
+    ReverseNested,
+    Sum,
+    Terms,
+    ValueCount,
+}
+
+/// The kinds of sources ('Composite aggregation').
+#[derive(Clone, Copy, Debug, PartialEq, Eq)]
+pub enum SourceName {
+    Histogram,
+    Terms,
+}
+
+/// The types of a mapping ('Field data types').
+#[derive(Clone, Copy, Debug, PartialEq, Eq)]
+pub enum FieldType {
+    Leaf(FieldKind),
+    Object,
+    Nested,
+}
