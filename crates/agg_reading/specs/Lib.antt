@@ -4,5 +4,11 @@ pub mod Json
 pub mod Scalars
 pub mod Numbers
 pub mod Fields
+pub mod Properties
+pub mod Mapping
+pub mod IndexLine
+pub mod Action
+pub mod Rows
+pub mod Document
 pub mod Leaves
 pub mod Query

@@ -1,0 +1,83 @@
+-- Action lines (Elasticsearch Reference 8, 'Bulk API'). 32 is a malformed line, 33 an `update`; neither has a pointer.
+use Rattle.std.specs.Prelude.{ℕ, List, [], ◌∷◌, ◌++◌, length, Option, Some, None, Ok, Bool, true, false, ◌&&◌, ◌||◌, if◌then◌else◌, nat_le, nat_lt, codes, decimal, is_none, option_map}
+use Rattle.std.specs.List.{list_all}
+use Rattle.std.specs.Fmt.{signed_decimal}
+use Rattle.std.specs.Str.{bytes_eq}
+use Rattle.serde_json.specs.Data.{Data, null, number, string, Members}
+use Rattle.serde_json.specs.Find.{as_integer, get_member}
+use Rattle.agg_model.specs.declared.bulk.ActionKind.{ActionKind}
+use Rattle.agg_model.specs.declared.bulk.ActionKind.TheVariants.{Index, Create, Delete}
+use Rattle.agg_reading.specs.Outcome.{Outcome, ◌>>=◌, ◌>>◌, refuse, or_refuse}
+use Rattle.agg_reading.specs.Json.{reading, object_at, sole_at}
+
+-- what an action line says: the action, the id, and the routing
+abbrev pub Heading : Type 0
+Heading = ActionKind × List ℕ × List ℕ
+
+unfoldable pub action_named : List ℕ → Option ActionKind
+action_named s =
+    if bytes_eq s (codes "index") then Some Index else (
+    if bytes_eq s (codes "create") then Some Create else (
+    if bytes_eq s (codes "delete") then Some Delete else None))
+
+abbrev pub unless_null : Option Data → Option Data
+unless_null (Some null) = None
+unless_null d = d
+
+-- a member that is there and not null
+unfoldable pub set_member : List ℕ → Members → Option Data
+set_member name ms = unless_null (get_member name ms)
+
+abbrev pub is_name_of : List ℕ → Option Data → Bool
+is_name_of index None = true
+is_name_of index (Some (string s)) = bytes_eq s index
+is_name_of index (Some _) = false
+
+-- `_index` is this index, and the members that concurrent writers use are not set
+unfoldable pub is_plain : List ℕ → Members → Bool
+is_plain index ms =
+    is_name_of index (set_member (codes "_index") ms)
+    && list_all (λ name. is_none (set_member name ms)) (codes "if_primary_term" ∷ codes "if_seq_no" ∷ codes "pipeline" ∷ codes "version" ∷ codes "version_type" ∷ [])
+
+-- a text or a whole number, which counts as its decimal text
+abbrev pub label_of : Option Data → Outcome (Option (List ℕ))
+label_of None = Ok None
+label_of (Some (string s)) = Ok (Some s)
+label_of (Some (number n)) = or_refuse 32 [] (as_integer n) >>= λ z. Ok (Some (signed_decimal z))
+label_of (Some _) = refuse 32 []
+
+unfoldable pub label_in : List ℕ → Members → Outcome (Option (List ℕ))
+label_in name ms = label_of (set_member name ms)
+
+-- an absent id is made from the number of the action; a delete has to name one
+abbrev pub id_or : ActionKind → ℕ → Option (List ℕ) → Outcome (List ℕ)
+id_or Delete before None = refuse 32 []
+id_or _ before None = Ok (codes "_auto_" ++ decimal before)
+id_or _ before (Some id) = if nat_lt 0 (length id) && nat_le (length id) 512 then Ok id else refuse 32 []
+
+abbrev pub routing_or : List ℕ → Option (List ℕ) → List ℕ
+routing_or id None = id
+routing_or id (Some routing) = routing
+
+-- the members of the one action
+unfoldable pub heading_at : List ℕ → ℕ → ActionKind → Members → Outcome Heading
+heading_at index before kind ms =
+    if is_plain index ms then (do
+      said ← label_in (codes "_id") ms
+      id ← id_or kind before said
+      routing ← label_in (codes "routing") ms
+      Ok (kind, id, routing_or id routing))
+    else refuse 32 []
+
+-- before : how many actions come before
+unfoldable pub action_value_at : List ℕ → ℕ → Data → Outcome Heading
+action_value_at index before d = do
+  ms ← object_at 32 [] d
+  said ← sole_at 32 [] ms
+  inner ← object_at 32 [] said.1
+  if bytes_eq said.0 (codes "update") then refuse 33 [] else (do
+    kind ← or_refuse 32 [] (action_named said.0)
+    heading_at index before kind inner)
+
+unfoldable pub action_at : List ℕ → ℕ → List ℕ → Outcome Heading
+action_at index before bytes = or_refuse 32 [] (reading bytes) >>= action_value_at index before
