@@ -10,5 +10,9 @@ pub mod IndexLine
 pub mod Action
 pub mod Rows
 pub mod Document
+pub mod Routing
+pub mod Store
+pub mod Lines
+pub mod Script
 pub mod Leaves
 pub mod Query
