@@ -1,5 +1,5 @@
 -- The index line: name, settings and mappings (Elasticsearch Reference 8, 'Create index API').
-use Rattle.std.specs.Prelude.{ℕ, ℤ, pos, negsuc, List, [], ◌∷◌, ◌++◌, length, Option, Some, None, Ok, Bool, true, false, ◌&&◌, ◌==◌, if◌then◌else◌, nat_le, nat_lt, codes, unwrap_or}
+use Rattle.std.specs.Prelude.{ℕ, ℤ, pos, negsuc, List, [], ◌∷◌, ◌++◌, length, Option, Some, None, Ok, ◌&&◌, ◌==◌, if◌then◌else◌, nat_le, nat_lt, codes, unwrap_or}
 use Rattle.serde_json.specs.Data.{Data, object, Members}
 use Rattle.serde_json.specs.Find.{get_member}
 use Rattle.agg_model.specs.declared.mapping.Mapping.{Mapping}

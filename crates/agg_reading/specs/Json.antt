@@ -1,9 +1,9 @@
 -- JSON in bytes, and the parts of an object, each found or refused (RFC 8259).
 -- `read` takes nesting up to 127, and of a repeated name the last value; members stand in byte order of their names.
-use Rattle.std.specs.Prelude.{ℕ, List, [], ◌∷◌, ◌++◌, Option, Some, None, Ok, Err, ⊤, ◌&&◌, Bool, true, false, not, if◌then◌else◌}
+use Rattle.std.specs.Prelude.{ℕ, List, ◌++◌, Option, Some, None, Ok, Err, ⊤, Bool, if◌then◌else◌}
 use Rattle.std.specs.List.{list_any}
 use Rattle.std.specs.Str.{bytes_eq, is_utf8}
-use Rattle.serde_json.specs.Data.{Data, null, boolean, number, string, array, object, Items, Members, no_members, member}
+use Rattle.serde_json.specs.Data.{Data, Items, Members, no_members, member}
 use Rattle.serde_json.specs.Find.{as_object, as_array, as_str, get_member}
 use Rattle.serde_json.specs.Read.{read}
 use Rattle.agg_reading.specs.declared.fault.RequestFault.TheVariants.{NotJson}

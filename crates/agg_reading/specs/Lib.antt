@@ -16,3 +16,12 @@ pub mod Lines
 pub mod Script
 pub mod Leaves
 pub mod Query
+pub mod Orders
+pub mod Terms
+pub mod Histogram
+pub mod Filters
+pub mod Composite
+pub mod After
+pub mod Metrics
+pub mod Aggregations
+pub mod Request

@@ -1,5 +1,5 @@
 -- Mappings (Elasticsearch Reference 8, 'Mapping', 'dynamic').
-use Rattle.std.specs.Prelude.{ℕ, ◌+◌, List, [], ◌∷◌, ◌++◌, map, Option, Some, None, Ok, Bool, true, false, not, ◌&&◌, ◌||◌, if◌then◌else◌, codes, unwrap_or}
+use Rattle.std.specs.Prelude.{ℕ, ◌+◌, List, [], ◌∷◌, ◌++◌, map, Option, Some, None, Ok, Bool, true, false, if◌then◌else◌, codes, unwrap_or}
 use Rattle.std.specs.Option.{option_map_or}
 use Rattle.std.specs.Str.{bytes_eq}
 use Rattle.serde_json.specs.Data.{Data, boolean, string, Members}

@@ -1,6 +1,6 @@
 -- Members of one plain value: numbers, booleans, words of a set (RFC 8259).
 -- A value of another JSON type is 103; one of the right type outside its range or set is 104, as a number that is not whole.
-use Rattle.std.specs.Prelude.{ℕ, ◌+◌, ℤ, List, [], ◌∷◌, Option, Some, None, Ok, Bool, ⊤, ◌&&◌, if◌then◌else◌, nat_le, ◌^◌}
+use Rattle.std.specs.Prelude.{ℕ, ℤ, List, Option, Some, None, Ok, Bool, ◌&&◌, if◌then◌else◌, nat_le, ◌^◌}
 use Rattle.serde_json.specs.Data.{Data, Num}
 use Rattle.serde_json.specs.Find.{as_number, as_u64, as_integer, as_bool}
 use Rattle.agg_reading.specs.Outcome.{Outcome, ◌>>=◌, refuse, or_refuse}

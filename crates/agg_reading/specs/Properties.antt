@@ -1,19 +1,17 @@
 -- The walk of `properties` (Elasticsearch Reference 8, 'Mapping', 'Field data types', 'ignore_above').
 -- A refusal of an index line has the number 31 and the pointer of the first thing refused.
-use Rattle.std.specs.Prelude.{ℕ, zero, suc, ◌+◌, List, [], ◌∷◌, ◌++◌, length, Option, Some, None, Ok, Bool, true, false, not, ◌&&◌, ◌==◌, if◌then◌else◌, nat_le, nat_lt, codes, is_some}
+use Rattle.std.specs.Prelude.{ℕ, zero, suc, ◌+◌, List, [], ◌∷◌, ◌++◌, length, Option, Some, None, Ok, Bool, not, ◌&&◌, ◌==◌, if◌then◌else◌, nat_le, nat_lt, codes, is_some}
 use Rattle.std.specs.List.{list_any}
 use Rattle.std.specs.Ordering.{nat_cmp, is_lt}
 use Rattle.std.specs.Cmp.Lexicographic.{slice_cmp}
 use Rattle.std.specs.Str.{bytes_eq}
-use Rattle.serde_json.specs.Data.{Data, Num, Members, no_members, member}
+use Rattle.serde_json.specs.Data.{Data, Members, no_members, member}
 use Rattle.serde_json.specs.Find.{as_number, as_u64, get_member}
 use Rattle.agg_model.specs.declared.mapping.FieldKind.{FieldKind}
 use Rattle.agg_model.specs.declared.mapping.FieldKind.TheVariants.{Long, Integer, Short, Byte, Keyword, Boolean}
 use Rattle.agg_reading.specs.declared.names.FieldType.{FieldType}
 use Rattle.agg_reading.specs.declared.names.FieldType.TheVariants.{Leaf, Object, Nested}
 use Rattle.agg_reading.specs.declared.parts.Found.{Found}
-use Rattle.agg_reading.specs.declared.parts.FoundField.{FoundField}
-use Rattle.agg_reading.specs.declared.parts.FoundPath.{FoundPath}
 use Rattle.agg_reading.specs.Outcome.{Outcome, ◌>>=◌, ◌>>◌, refuse, or_refuse}
 use Rattle.agg_reading.specs.Pointer.{member_step}
 use Rattle.agg_reading.specs.Json.{object_at, text_at, known, optional}

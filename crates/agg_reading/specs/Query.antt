@@ -1,5 +1,5 @@
 -- Queries (Elasticsearch Reference 8, 'Query DSL': compound and joining queries).
-use Rattle.std.specs.Prelude.{ℕ, zero, suc, ◌+◌, List, [], ◌∷◌, ◌++◌, length, Option, Some, None, Ok, Bool, true, false, ◌&&◌, ◌==◌, if◌then◌else◌, nat_le, codes, unwrap_or}
+use Rattle.std.specs.Prelude.{ℕ, zero, suc, ◌+◌, List, [], ◌∷◌, ◌++◌, length, Option, Some, None, Ok, ◌==◌, if◌then◌else◌, nat_le, codes, unwrap_or}
 use Rattle.std.specs.Str.{bytes_eq}
 use Rattle.serde_json.specs.Data.{Data, array, Items, no_items, item, Members}
 use Rattle.serde_json.specs.Find.{get_member}

@@ -1,22 +1,22 @@
 -- A script: the index line, an empty line, bulk lines up to an empty line, then pairs of a header and a body
 -- (Elasticsearch Reference 8, 'Bulk API', 'Multi search API').
-use Rattle.std.specs.Prelude.{ℕ, ◌+◌, List, [], ◌∷◌, ◌++◌, Option, Some, None, Result, Ok, Err, Bool, true, false, nat_le, if◌then◌else◌}
+use Rattle.std.specs.Prelude.{ℕ, ◌+◌, List, [], ◌∷◌, ◌++◌, Option, Some, None, Ok, Err, Bool, true, false, nat_le, if◌then◌else◌}
 use Rattle.agg_model.specs.declared.bulk.Action.{Action}
 use Rattle.agg_model.specs.declared.bulk.ActionKind.{ActionKind}
-use Rattle.agg_model.specs.declared.bulk.ActionKind.TheVariants.{Index, Create, Delete}
+use Rattle.agg_model.specs.declared.bulk.ActionKind.TheVariants.{Delete}
 use Rattle.agg_model.specs.declared.bulk.Applied.{Applied}
 use Rattle.agg_model.specs.declared.bulk.Item.{Item}
 use Rattle.agg_model.specs.declared.bulk.ItemEnd.{ItemEnd}
 use Rattle.agg_model.specs.declared.bulk.ItemEnd.TheVariants as end
 use Rattle.agg_model.specs.declared.bulk.ItemRefusal.{ItemRefusal}
 use Rattle.agg_reading.specs.declared.fault.RequestFault.{RequestFault}
-use Rattle.agg_reading.specs.declared.fault.RequestFault.TheVariants.{NotJson, Bad, Memory}
+use Rattle.agg_reading.specs.declared.fault.RequestFault.TheVariants.{Bad}
 use Rattle.agg_reading.specs.Outcome.{Outcome, ◌>>=◌, ◌>>◌, or_refuse}
 use Rattle.agg_reading.specs.Json.{reading, object_at}
 use Rattle.agg_reading.specs.IndexLine.{IndexLine, index_line_at}
 use Rattle.agg_reading.specs.Action.{Heading, action_at}
 use Rattle.agg_reading.specs.Store.{Store, applied}
-use Rattle.agg_reading.specs.Lines.{Line, Place, start, past, is_empty_line, ScriptRefusal, Script, refuse_script, checked, lines}
+use Rattle.agg_reading.specs.Lines.{Line, Place, start, past, is_empty_line, ScriptRefusal, Script, refuse_script, checked}
 
 -- The refusal of a line, with its number. The readings of lines answer no other fault.
 abbrev pub refusal_at : ℕ → RequestFault → ScriptRefusal
@@ -119,8 +119,14 @@ pub record Bodies : Type 0 where
   pub bodies : List (List ℕ)
   pub refused : Option ScriptRefusal
 
-abbrev pub ended_by : {A : Type 0} → Script A → (A → Bodies) → Bodies
-ended_by (Ok x) rest = rest x
+abbrev pub no_more : Bodies
+no_more = record { bodies = []; refused = None }
+
+abbrev pub stopped : ℕ → ℕ → Bodies
+stopped number line = record { bodies = []; refused = Some (record { number = number; line = line; path = [] }) }
+
+abbrev pub ended_by : {A : Type 0} → Script A → Bodies → Bodies
+ended_by (Ok x) rest = rest
 ended_by (Err e) rest = record { bodies = []; refused = Some e }
 
 abbrev pub with_body : List ℕ → Bodies → Bodies
@@ -132,11 +138,10 @@ header_at line text = at_line line (or_refuse 39 [] (reading text) >>= object_at
 
 -- the pairs; an empty line where a header is due is passed over, and 36 is a header without a body line
 unfoldable pub pairs : Place → List Line → Bodies
-pairs place [] = record { bodies = []; refused = None }
+pairs place [] = no_more
 pairs place (h ∷ []) =
-    ended_by (checked place h) (λ _. if is_empty_line h.text then record { bodies = []; refused = None } else
-        ended_by (header_at (place.number + 1) h.text) (λ _. ended_by (refuse_script 36 (place.number + 1)) (λ b. b)))
+    ended_by (checked place h) (if is_empty_line h.text then no_more else
+        ended_by (header_at (place.number + 1) h.text) (stopped 36 (place.number + 1)))
 pairs place (h ∷ b ∷ ls) =
-    ended_by (checked place h) (λ _. if is_empty_line h.text then pairs (past h place) (b ∷ ls) else
-        ended_by (header_at (place.number + 1) h.text) (λ _.
-            ended_by (checked (past h place) b) (λ _. with_body b.text (pairs (past b (past h place)) ls))))
+    ended_by (checked place h) (if is_empty_line h.text then pairs (past h place) (b ∷ ls) else
+        ended_by (header_at (place.number + 1) h.text >> checked (past h place) b) (with_body b.text (pairs (past b (past h place)) ls)))

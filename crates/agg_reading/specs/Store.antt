@@ -1,5 +1,5 @@
 -- What bulk actions leave (Elasticsearch Reference 8, 'Bulk API', 'Index API').
-use Rattle.std.specs.Prelude.{ℕ, ◌+◌, ◌^◌, List, [], ◌∷◌, length, map, filter, sum_by, flat_map, nat_lt, Option, Some, None, Ok, Err, Bool, true, false, ◌&&◌, ◌==◌, is_some, option_to_list, if◌then◌else◌}
+use Rattle.std.specs.Prelude.{ℕ, ◌+◌, ◌^◌, List, [], ◌∷◌, length, map, filter, sum_by, flat_map, nat_lt, Option, Some, None, Ok, Bool, true, false, ◌&&◌, ◌==◌, is_some, option_to_list, if◌then◌else◌}
 use Rattle.std.specs.List.{range_with_len}
 use Rattle.std.specs.Str.{bytes_eq}
 use Rattle.agg_model.specs.declared.mapping.Mapping.{Mapping}
@@ -11,7 +11,7 @@ use Rattle.agg_model.specs.declared.row.Children.{Children, Children', Row_of-Ro
 use Rattle.agg_model.specs.declared.row.Document.{Document}
 use Rattle.agg_model.specs.declared.bulk.Action.{Action}
 use Rattle.agg_model.specs.declared.bulk.ActionKind.{ActionKind}
-use Rattle.agg_model.specs.declared.bulk.ActionKind.TheVariants.{Index, Create, Delete}
+use Rattle.agg_model.specs.declared.bulk.ActionKind.TheVariants.{Create, Delete}
 use Rattle.agg_model.specs.declared.bulk.Applied.{Applied}
 use Rattle.agg_model.specs.declared.bulk.Applied.TheVariants.{Created, Updated, Deleted, NotFound}
 use Rattle.agg_reading.specs.Outcome.{Outcome, ◌>>=◌, refuse}

@@ -1,4 +1,5 @@
 //! What a reading has in hand before it is done.
+use agg_model::aggregation::Kind;
 use agg_model::list::List;
 use agg_model::mapping::FieldKind;
 use agg_model::row::{Children, FieldValues};
@@ -68,4 +69,16 @@ pub struct NamedOrder {
 pub struct Counts {
     pub queries: u32,
     pub aggregations: u32,
+}
+
+/// A kind of aggregation as read, before its children.
+#[derive(Drop)]
+pub struct ReadKind {
+    /// With no order yet.
+    pub kind: Kind,
+    pub order: List<NamedOrder>,
+    /// The context of the rows that it hands on.
+    pub within: u32,
+    /// How many queries of the search were begun up to its end.
+    pub queries: u32,
 }
