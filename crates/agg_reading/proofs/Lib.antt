@@ -4,3 +4,6 @@ mod RefusedBodies
 mod AcceptedKinds
 mod AcceptedQueries
 mod RefusedQueries
+mod AcceptedIndexLines
+mod RefusedIndexLines
+mod ActionLines
