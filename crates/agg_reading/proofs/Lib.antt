@@ -7,3 +7,4 @@ mod RefusedQueries
 mod AcceptedIndexLines
 mod RefusedIndexLines
 mod ActionLines
+mod Documents
