@@ -8,3 +8,5 @@ mod AcceptedIndexLines
 mod RefusedIndexLines
 mod ActionLines
 mod Documents
+mod Hashes
+mod Scripts
