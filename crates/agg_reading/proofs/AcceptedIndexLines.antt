@@ -1,7 +1,6 @@
 -- Index lines, and what they say.
-use Rattle.std.specs.Prelude.{◌≡◌, refl, ℕ, List, [], ◌∷◌, Option, Some, None, Ok, Err, true, false, codes}
+use Rattle.std.specs.Prelude.{◌≡◌, refl, [], ◌∷◌, Some, None, Ok, true, false, codes}
 use Rattle.agg_model.specs.declared.mapping.FieldKind.TheVariants.{Long, Integer, Short, Byte, Keyword, Boolean}
-use Rattle.agg_reading.specs.Outcome.{refuse}
 use Rattle.agg_reading.specs.IndexLine.{index_line_at}
 use Rattle.agg_reading.proofs.Computing.{computing}
 

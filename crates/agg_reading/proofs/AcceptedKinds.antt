@@ -1,15 +1,12 @@
 -- Bodies with each kind of aggregation, and the searches that they are.
-use Rattle.std.specs.Prelude.{◌≡◌, refl, ℕ, ℤ, pos, negsuc, List, [], ◌∷◌, Option, Some, None, Ok, Err, true, false, codes}
+use Rattle.std.specs.Prelude.{◌≡◌, refl, pos, negsuc, [], ◌∷◌, Some, None, Ok, true, false, codes}
 use Rattle.agg_model.specs.declared.aggregation.Agg.{roll-Agg}
 use Rattle.agg_model.specs.declared.aggregation.Kind.TheVariants as kind
 use Rattle.agg_model.specs.declared.aggregation.OrderBy.TheVariants as by
 use Rattle.agg_model.specs.declared.query.Query as query
 use Rattle.agg_model.specs.declared.query.Probe.TheVariants as probe
-use Rattle.agg_model.specs.declared.query.RangeOp.TheVariants as op
 use Rattle.agg_model.specs.declared.row.Scalar.TheVariants as scalar
 use Rattle.agg_model.specs.declared.key.Key.TheVariants as key
-use Rattle.agg_reading.specs.declared.fault.RequestFault.TheVariants.{NotJson}
-use Rattle.agg_reading.specs.Outcome.{refuse}
 use Rattle.agg_reading.specs.Request.{search_of}
 use Rattle.agg_reading.proofs.Computing.{computing}
 use Rattle.agg_reading.proofs.Mappings.{plain, nested_orders}

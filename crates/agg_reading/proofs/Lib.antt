@@ -10,3 +10,4 @@ mod ActionLines
 mod Documents
 mod Hashes
 mod Scripts
+mod Limits

@@ -1,18 +1,10 @@
 -- Bodies that are refused, each with the number and the pointer of the first thing refused.
-use Rattle.std.specs.Prelude.{◌≡◌, refl, ℕ, ℤ, pos, negsuc, List, [], ◌∷◌, Option, Some, None, Ok, Err, true, false, codes}
-use Rattle.agg_model.specs.declared.aggregation.Agg.{roll-Agg}
-use Rattle.agg_model.specs.declared.aggregation.Kind.TheVariants as kind
-use Rattle.agg_model.specs.declared.aggregation.OrderBy.TheVariants as by
-use Rattle.agg_model.specs.declared.query.Query as query
-use Rattle.agg_model.specs.declared.query.Probe.TheVariants as probe
-use Rattle.agg_model.specs.declared.query.RangeOp.TheVariants as op
-use Rattle.agg_model.specs.declared.row.Scalar.TheVariants as scalar
-use Rattle.agg_model.specs.declared.key.Key.TheVariants as key
+use Rattle.std.specs.Prelude.{◌≡◌, refl, [], Err, codes}
 use Rattle.agg_reading.specs.declared.fault.RequestFault.TheVariants.{NotJson}
 use Rattle.agg_reading.specs.Outcome.{refuse}
 use Rattle.agg_reading.specs.Request.{search_of}
 use Rattle.agg_reading.proofs.Computing.{computing}
-use Rattle.agg_reading.proofs.Mappings.{plain, nested_orders}
+use Rattle.agg_reading.proofs.Mappings.{plain}
 
 an_unknown_field_is_108 : search_of plain (codes "{\"aggs\":{\"t\":{\"terms\":{\"field\":\"x\"}}}}") ≡ refuse 108 (codes "/aggs/t/terms/field")
 unfolding computing

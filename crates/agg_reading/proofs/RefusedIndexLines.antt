@@ -1,6 +1,5 @@
 -- Index lines that are refused, each with the pointer of the first thing refused.
-use Rattle.std.specs.Prelude.{◌≡◌, refl, ℕ, List, [], ◌∷◌, Option, Some, None, Ok, Err, true, false, codes}
-use Rattle.agg_model.specs.declared.mapping.FieldKind.TheVariants.{Long, Integer, Short, Byte, Keyword, Boolean}
+use Rattle.std.specs.Prelude.{◌≡◌, refl, [], codes}
 use Rattle.agg_reading.specs.Outcome.{refuse}
 use Rattle.agg_reading.specs.IndexLine.{index_line_at}
 use Rattle.agg_reading.proofs.Computing.{computing}

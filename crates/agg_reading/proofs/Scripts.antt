@@ -1,18 +1,17 @@
 -- Scripts, loaded or refused.
-use Rattle.std.specs.Prelude.{◌≡◌, refl, ℕ, ℤ, pos, List, [], ◌∷◌, ◌++◌, length, nat_lt, if◌then◌else◌, Option, Some, None, Ok, Err, true, false, codes}
+use Rattle.std.specs.Prelude.{◌≡◌, refl, ℕ, ℤ, pos, List, [], ◌∷◌, ◌++◌, length, nat_lt, if◌then◌else◌, Option, Some, None, Ok, Err, codes}
 use Rattle.std.proofs.Common.{sym, subst}
 use Rattle.agg_model.specs.declared.row.Document.{Document}
 use Rattle.agg_model.specs.declared.row.Row.{Row, roll-Row}
-use Rattle.agg_model.specs.declared.row.Scalar.{Scalar}
 use Rattle.agg_model.specs.declared.row.Scalar.TheVariants as scalar
 use Rattle.agg_model.specs.declared.bulk.ActionKind.TheVariants.{Index, Create, Delete}
-use Rattle.agg_model.specs.declared.bulk.Applied.TheVariants.{Created, Updated, Deleted, NotFound}
+use Rattle.agg_model.specs.declared.bulk.Applied.TheVariants.{Created, Deleted, NotFound}
 use Rattle.agg_model.specs.declared.bulk.Item.{Item}
 use Rattle.agg_model.specs.declared.bulk.ItemEnd.TheVariants.{Applied, Refused}
 use Rattle.agg_reading.specs.Outcome.{◌>>=◌}
 use Rattle.agg_reading.specs.IndexLine.{IndexLine}
-use Rattle.agg_reading.specs.Lines.{Line, lines, start, line_fault, ScriptRefusal, Script, refuse_script}
-use Rattle.agg_reading.specs.Store.{live_documents, shards_of}
+use Rattle.agg_reading.specs.Lines.{lines, start, line_fault, Script, refuse_script}
+use Rattle.agg_reading.specs.Store.{live_documents}
 use Rattle.agg_reading.specs.Script.{Loaded, Bodies, loaded, pairs, heading_of}
 use Rattle.agg_reading.proofs.Computing.{computing}
 use Rattle.agg_reading.proofs.Mappings.{plain}

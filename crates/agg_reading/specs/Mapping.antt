@@ -33,11 +33,11 @@ numbered_path nested p = record { path = p.path; parent = context_of nested p.wi
 -- contexts are numbers of nested paths, which are known only at the end
 unfoldable pub numbered : Bool → Found → Mapping
 numbered strict found = record {
-    fields = map (numbered_field found.nested) found.fields;
-    nested = map (numbered_path found.nested) found.nested;
-    objects = found.objects;
-    strict = strict;
-  }
+  fields = map (numbered_field found.nested) found.fields;
+  nested = map (numbered_path found.nested) found.nested;
+  objects = found.objects;
+  strict = strict;
+}
 
 -- whether `dynamic` is strict: `false`, `"false"` or `"strict"`
 unfoldable pub dynamic_at : List ℕ → Data → Outcome Bool

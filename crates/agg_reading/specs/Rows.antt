@@ -53,15 +53,15 @@ unfoldable pub with_value : ℕ → Scalar → List FieldValues → List FieldVa
 with_value field s [] = record { field = field; values = s ∷ [] } ∷ []
 with_value field s (f ∷ fs) =
     match_ordering (nat_cmp field f.field)
-        (record { field = field; values = s ∷ [] } ∷ f ∷ fs)
-        (record { field = field; values = f.values ++ s ∷ [] } ∷ fs)
-        (f ∷ with_value field s fs)
+    (record { field = field; values = s ∷ [] } ∷ f ∷ fs)
+    (record { field = field; values = f.values ++ s ∷ [] } ∷ fs)
+    (f ∷ with_value field s fs)
 
 -- one more row beneath at a nested path, behind those before; the paths stay ascending
 unfoldable pub with_row : ℕ → Row → List Children → List Children
 with_row path r [] = roll-Children (record { path = path; rows = r ∷ [] }) ∷ []
 with_row path r (c ∷ cs) =
     match_ordering (nat_cmp path (out-Children c).path)
-        (roll-Children (record { path = path; rows = r ∷ [] }) ∷ c ∷ cs)
-        (roll-Children (record { path = path; rows = (out-Children c).rows ++ r ∷ [] }) ∷ cs)
-        (c ∷ with_row path r cs)
+    (roll-Children (record { path = path; rows = r ∷ [] }) ∷ c ∷ cs)
+    (roll-Children (record { path = path; rows = (out-Children c).rows ++ r ∷ [] }) ∷ cs)
+    (c ∷ with_row path r cs)

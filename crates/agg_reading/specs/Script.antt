@@ -42,11 +42,11 @@ item_refusal _ = record { number = 0; path = [] }
 
 abbrev pub with_item : Action → ItemEnd → Store → Loading → Loading
 with_item action ended store now = record {
-    index = now.index;
-    store = store;
-    items = now.items ++ record { kind = action.kind; id = action.id; end = ended } ∷ [];
-    actions = now.actions + 1;
-  }
+  index = now.index;
+  store = store;
+  items = now.items ++ record { kind = action.kind; id = action.id; end = ended } ∷ [];
+  actions = now.actions + 1;
+}
 
 -- a refused item leaves the store as it was
 abbrev pub after : Action → Outcome (Applied × Store) → Loading → Loading
@@ -95,8 +95,8 @@ bulk now place (l ∷ s ∷ ls) =
     (if is_empty_line l.text then Ok (done_at now (past l place) (s ∷ ls)) else (do
       heading ← heading_of (place.number + 1) l now
       if is_delete heading.0 then bulk (with_action heading [] now) (past l place) (s ∷ ls) else (
-        checked (past l place) s >>
-        (if is_empty_line s.text then refuse_script 34 (place.number + 1) else bulk (with_action heading s.text now) (past s (past l place)) ls))))
+          checked (past l place) s >>
+          (if is_empty_line s.text then refuse_script 34 (place.number + 1) else bulk (with_action heading s.text now) (past s (past l place)) ls))))
 
 abbrev pub begun : IndexLine → Loading
 begun index = record { index = index; store = []; items = []; actions = 0 }
@@ -141,7 +141,7 @@ unfoldable pub pairs : Place → List Line → Bodies
 pairs place [] = no_more
 pairs place (h ∷ []) =
     ended_by (checked place h) (if is_empty_line h.text then no_more else
-        ended_by (header_at (place.number + 1) h.text) (stopped 36 (place.number + 1)))
+    ended_by (header_at (place.number + 1) h.text) (stopped 36 (place.number + 1)))
 pairs place (h ∷ b ∷ ls) =
     ended_by (checked place h) (if is_empty_line h.text then pairs (past h place) (b ∷ ls) else
-        ended_by (header_at (place.number + 1) h.text >> checked (past h place) b) (with_body b.text (pairs (past b (past h place)) ls)))
+    ended_by (header_at (place.number + 1) h.text >> checked (past h place) b) (with_body b.text (pairs (past b (past h place)) ls)))

@@ -77,7 +77,7 @@ unfoldable pub put_row : Action → Row → Store → Outcome (Applied × Store)
 put_row action root store =
     if is_create action.kind && is_some (live_at action.id store) then refuse 26 []
     else kept (if is_some (live_at action.id store) then Updated else Created)
-        (with_document action.id (Some (record { id = action.id; routing = action.routing; root = root })) store)
+    (with_document action.id (Some (record { id = action.id; routing = action.routing; root = root })) store)
 
 unfoldable pub deleted : List ℕ → Store → Applied × Store
 deleted id store = if is_some (live_at id store) then (Deleted, with_document id None store) else (NotFound, store)
