@@ -1,11 +1,10 @@
 -- Members of one plain value: numbers, booleans, words of a set (RFC 8259).
 -- A value of another JSON type is 103; one of the right type outside its range or set is 104, as a number that is not whole.
-use Rattle.std.specs.Prelude.{ℕ, ℤ, List, Option, Some, None, Ok, Bool, ◌&&◌, if◌then◌else◌, nat_le, ◌^◌}
+use Rattle.std.specs.Prelude.{ℕ, ℤ, List, Option, Some, None, Ok, Bool, ◌&&◌, if◌then◌else◌, nat_le}
 use Rattle.serde_json.specs.Data.{Data, Num}
-use Rattle.serde_json.specs.Find.{as_number, as_u64, as_integer, as_bool}
+use Rattle.serde_json.specs.Find.{as_number, as_u64, as_i64, as_bool}
 use Rattle.agg_reading.specs.Outcome.{Outcome, ◌>>=◌, refuse, or_refuse}
 use Rattle.agg_reading.specs.Json.{text_at, is_among}
-use Rattle.agg_reading.specs.Scalars.{fits_below}
 
 unfoldable pub number_at : List ℕ → Data → Outcome Num
 number_at at d = or_refuse 103 at (as_number d)
@@ -18,13 +17,9 @@ in_range least most at (Some n) = if nat_le least n && nat_le n most then Ok n e
 unfoldable pub whole_at : ℕ → ℕ → List ℕ → Data → Outcome ℕ
 whole_at least most at d = number_at at d >>= λ n. in_range least most at (as_u64 n)
 
-abbrev pub in_64_bits : List ℕ → Option ℤ → Outcome ℤ
-in_64_bits at None = refuse 104 at
-in_64_bits at (Some z) = if fits_below (2 ^ 63) z then Ok z else refuse 104 at
-
 -- a whole number of signed 64 bits
 unfoldable pub signed_at : List ℕ → Data → Outcome ℤ
-signed_at at d = number_at at d >>= λ n. in_64_bits at (as_integer n)
+signed_at at d = number_at at d >>= λ n. or_refuse 104 at (as_i64 n)
 
 unfoldable pub truth_at : List ℕ → Data → Outcome Bool
 truth_at at d = or_refuse 103 at (as_bool d)
