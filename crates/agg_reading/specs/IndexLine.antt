@@ -2,17 +2,12 @@
 use Rattle.std.specs.Prelude.{ℕ, ℤ, pos, negsuc, List, [], ◌∷◌, ◌++◌, length, Option, Some, None, Ok, ◌&&◌, ◌==◌, if◌then◌else◌, nat_le, nat_lt, codes, unwrap_or}
 use Rattle.serde_json.specs.Data.{Data, object, Members}
 use Rattle.serde_json.specs.Find.{get_member}
-use Rattle.agg_model.specs.declared.mapping.Mapping.{Mapping}
+use Rattle.agg_reading.specs.declared.parts.IndexLine.{IndexLine}
 use Rattle.agg_reading.specs.Outcome.{Outcome, ◌>>=◌, ◌>>◌, refuse, or_refuse}
 use Rattle.agg_reading.specs.Pointer.{member_step}
 use Rattle.agg_reading.specs.Json.{reading, object_at, text_at, known, optional}
 use Rattle.agg_reading.specs.Scalars.{whole}
 use Rattle.agg_reading.specs.Mapping.{mapping_at, empty_mapping}
-
-pub record IndexLine : Type 0 where
-  pub name : List ℕ
-  pub mapping : Mapping
-  pub shards : ℕ
 
 abbrev pub shards_in : List ℕ → Option ℤ → Outcome ℕ
 shards_in at (Some (pos n)) = if nat_le 1 n && nat_le n 1024 then Ok n else refuse 31 at

@@ -13,7 +13,8 @@ use Rattle.agg_reading.specs.declared.fault.RequestFault.{RequestFault}
 use Rattle.agg_reading.specs.declared.fault.RequestFault.TheVariants.{Bad}
 use Rattle.agg_reading.specs.Outcome.{Outcome, ◌>>=◌, ◌>>◌, or_refuse}
 use Rattle.agg_reading.specs.Json.{reading, object_at}
-use Rattle.agg_reading.specs.IndexLine.{IndexLine, index_line_at}
+use Rattle.agg_reading.specs.declared.parts.IndexLine.{IndexLine}
+use Rattle.agg_reading.specs.IndexLine.{index_line_at}
 use Rattle.agg_reading.specs.Action.{Heading, action_at}
 use Rattle.agg_reading.specs.Store.{Store, applied}
 use Rattle.agg_reading.specs.Lines.{Line, Place, start, past, is_empty_line, ScriptRefusal, Script, refuse_script, checked}

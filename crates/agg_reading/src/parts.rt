@@ -1,7 +1,7 @@
 //! What a reading has in hand before it is done.
 use agg_model::aggregation::Kind;
 use agg_model::list::List;
-use agg_model::mapping::FieldKind;
+use agg_model::mapping::{FieldKind, Mapping};
 use agg_model::row::{Children, FieldValues};
 use agg_model::text::Text;
 
@@ -29,6 +29,15 @@ pub struct Found {
     pub fields: List<FoundField>,
     pub nested: List<FoundPath>,
     pub objects: List<Text>,
+}
+
+/// What an index line says.
+#[derive(Drop)]
+pub struct IndexLine {
+    pub name: Text,
+    pub mapping: Mapping,
+    /// 1 to 1,024.
+    pub shards: u32,
 }
 
 /// A row while its object is walked: fields ascending, the values of each in the order of the walk.
