@@ -11,3 +11,5 @@ mod Documents
 mod Hashes
 mod Scripts
 mod Limits
+pub mod MappingLaws
+pub mod IndexLineLaws

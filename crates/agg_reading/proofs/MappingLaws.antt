@@ -1,0 +1,112 @@
+-- What every mapping keeps that an index line gives: at most 1,000 fields and nested paths.
+use Rattle.std.specs.Prelude.{◌≡◌, refl, ℕ, zero, suc, ◌+◌, ◌≤◌, ◌<◌, ◌++◌, List, [], ◌∷◌, length, map, Bool, true, false, Option, Some, None, Result, Ok, Err, IfOk, IfSome, nat_le, if◌then◌else◌, unwrap_or, is_some, codes, ⊤}
+use Rattle.std.proofs.Common.{arith, ap, sym, ◌∙◌}
+use Rattle.std.proofs.lemmas.Bool.Decides.{nat_tests}
+use Rattle.std.proofs.lemmas.List.{length-map}
+use Rattle.serde_json.specs.Data.{Data, Members, no_members, member}
+use Rattle.agg_model.specs.declared.mapping.FieldKind.{FieldKind}
+use Rattle.agg_model.specs.declared.mapping.Mapping.{Mapping}
+use Rattle.agg_reading.specs.declared.names.FieldType.{FieldType}
+use Rattle.agg_reading.specs.declared.names.FieldType.TheVariants.{Leaf, Object, Nested}
+use Rattle.agg_reading.specs.declared.parts.Found.{Found}
+use Rattle.agg_reading.specs.declared.parts.IndexLine.{IndexLine}
+use Rattle.agg_reading.specs.Outcome.{Outcome, ◌>>=◌, refuse}
+use Rattle.agg_reading.specs.Pointer.{member_step}
+use Rattle.agg_reading.specs.Json.{object_at, known, optional, optional_of}
+use Rattle.agg_reading.specs.Properties.{is_before, place, is_field_name, bound_at, leaf_names, leaf_at, is_full, with_nested, with_object, fields_from, properties_at, properties_of, inner_at, by_type, type_in, property_at}
+use Rattle.agg_reading.specs.Mapping.{numbered, numbered_field, numbered_path, found_in, nothing_found, dynamic_at, mapping_at}
+
+-- a reading that goes on, where every value lets the rest keep Q
+pub then_ok : {A B E : Type 0} (Q : B → Type 0) (r : Result A E) (f : A → Result B E) → ((x : A) → IfOk (f x) Q) → IfOk (r >>= f) Q
+then_ok Q (Ok x) f h = h x
+then_ok Q (Err e) f h = tt
+
+-- the same, where the rest rests on what the first keeps
+pub next_ok : {A B E : Type 0} (P : A → Type 0) (Q : B → Type 0) (r : Result A E) (f : A → Result B E) → IfOk r P → ((x : A) → P x → IfOk (f x) Q) → IfOk (r >>= f) Q
+next_ok P Q (Ok x) f p h = h x p
+next_ok P Q (Err e) f p h = tt
+
+pub if_ok : {A E : Type 0} (Q : A → Type 0) (b : Bool) (x y : Result A E) → (b ≡ true → IfOk x Q) → (b ≡ false → IfOk y Q) → IfOk (if b then x else y) Q
+if_ok Q true x y h k = h refl
+if_ok Q false x y h k = k refl
+
+length-place : {A : Type 0} (path_of : A → List ℕ) (x : A) (ys : List A) → length (place path_of x ys) ≡ suc (length ys)
+unfolding place
+length-place path_of x [] = refl
+length-place path_of x (y ∷ ys) =
+    elim (is_before (path_of x) (path_of y)) as (λ b. length (if b then x ∷ y ∷ ys else y ∷ place path_of x ys) ≡ suc (suc (length ys))) [ true ↦ refl | false ↦ ap suc (length-place path_of x ys) ]
+
+abbrev pub Fits : Found → Type 0
+Fits found = length found.fields + length found.nested ≤ 1000
+
+not_full : (found : Found) → is_full found ≡ false → length found.fields + length found.nested < 1000
+not_full found e = grind (arith, nat_tests)
+
+leaf_at-fits : (kind : FieldKind) (within path at : List ℕ) (found : Found) (ms : Members) → IfOk (leaf_at kind within path at found ms) Fits
+unfolding leaf_at
+leaf_at-fits kind within path at found ms =
+    if_ok Fits (is_full found) (refuse 31 at) _ (λ e. tt) (λ e.
+        then_ok Fits (known 31 (leaf_names kind) at ms) _ (λ _.
+        then_ok Fits (optional bound_at (codes "ignore_above") at ms) _ (λ above.
+        rw (length-place (λ f. f.path) (record { path = path; kind = kind; ignore_above = above; within = within }) found.fields) (omega (arith, not_full found e)))))
+
+-- what adds fields keeps the bound
+abbrev Keeps : (List ℕ → List ℕ → List ℕ → Found → Data → Outcome Found) → Type 0
+Keeps field = (within path at : List ℕ) (found : Found) (d : Data) → Fits found → IfOk (field within path at found d) Fits
+
+fields_from-fits : (field : List ℕ → List ℕ → List ℕ → Found → Data → Outcome Found) → Keeps field → (within front at : List ℕ) (found : Found) (ms : Members) → Fits found → IfOk (fields_from field within front at found ms) Fits
+unfolding fields_from
+fields_from-fits field h within front at found no_members b = b
+fields_from-fits field h within front at found (member k d ms) b =
+    if_ok Fits (is_field_name k) _ (refuse 31 (at ++ member_step k))
+        (λ e. next_ok Fits Fits (field within (front ++ k) (at ++ member_step k) found d) _ (h within (front ++ k) (at ++ member_step k) found d b) (λ next c. fields_from-fits field h within front at next ms c))
+        (λ e. tt)
+
+properties_of-fits : (field : List ℕ → List ℕ → List ℕ → Found → Data → Outcome Found) → Keeps field → (within front at : List ℕ) (found : Found) (o : Option Data) → Fits found → IfOk (properties_of field within front at found o) Fits
+unfolding properties_at
+properties_of-fits field h within front at found None b = b
+properties_of-fits field h within front at found (Some d) b = then_ok Fits (object_at 31 at d) _ (λ ms. fields_from-fits field h within front at found ms b)
+
+inner_at-fits : (field : List ℕ → List ℕ → List ℕ → Found → Data → Outcome Found) → Keeps field → (within path at : List ℕ) (found : Found) (ms : Members) → Fits found → IfOk (inner_at field within path at found ms) Fits
+unfolding inner_at
+inner_at-fits field h within path at found ms b =
+    then_ok Fits (known 31 (codes "properties" ∷ codes "type" ∷ []) at ms) _ (λ _. properties_of-fits field h within _ _ found _ b)
+
+nested_fits : (within path : List ℕ) (found : Found) → is_full found ≡ false → Fits (with_nested within path found)
+nested_fits within path found e =
+    rw (length-place (λ p. p.path) (record { path = path; within = within }) found.nested) (omega (arith, not_full found e))
+
+by_type-fits : (field : List ℕ → List ℕ → List ℕ → Found → Data → Outcome Found) → Keeps field → (t : FieldType) (within path at : List ℕ) (found : Found) (ms : Members) → Fits found → IfOk (by_type field t within path at found ms) Fits
+by_type-fits field h (Leaf kind) within path at found ms b = leaf_at-fits kind within path at found ms
+by_type-fits field h Object within path at found ms b = inner_at-fits field h within path at (with_object path found) ms b
+by_type-fits field h Nested within path at found ms b =
+    if_ok Fits (is_full found) (refuse 31 at) _ (λ e. tt) (λ e. inner_at-fits field h path path at (with_nested within path found) ms (nested_fits within path found e))
+
+property_at-fits : (left : ℕ) → Keeps (property_at left)
+unfolding property_at
+property_at-fits zero within path at found d b = tt
+property_at-fits (suc left) within path at found d b =
+    then_ok Fits (object_at 31 at d) _ (λ ms. then_ok Fits (type_in at ms) _ (λ t. by_type-fits (property_at left) (property_at-fits left) t within path at found ms b))
+
+-- at most 1,000 fields and nested paths
+abbrev pub MappingFits : Mapping → Type 0
+MappingFits m = length m.fields + length m.nested ≤ 1000
+
+numbered-fits : (strict : Bool) (found : Found) → Fits found → MappingFits (numbered strict found)
+unfolding numbered
+numbered-fits strict found b = rw (length-map found.fields (numbered_field found.nested), length-map found.nested (numbered_path found.nested)) b
+
+found_in-fits : (at : List ℕ) (ms : Members) → IfOk (found_in at ms) Fits
+unfolding found_in
+found_in-fits at ms = properties_of-fits (property_at 20) (property_at-fits 20) [] [] _ nothing_found _ (omega arith)
+
+numbered_after-fits : (at : List ℕ) (ms : Members) (strict : Option Bool) → IfOk (found_in at ms >>= λ found. Ok (numbered (unwrap_or strict false) found)) MappingFits
+numbered_after-fits at ms strict =
+    next_ok Fits MappingFits (found_in at ms) (λ found. Ok (numbered (unwrap_or strict false) found)) (found_in-fits at ms) (λ found b. numbered-fits (unwrap_or strict false) found b)
+
+pub mapping_at-fits : (at : List ℕ) (d : Data) → IfOk (mapping_at at d) MappingFits
+unfolding mapping_at
+mapping_at-fits at d =
+    then_ok MappingFits (object_at 31 at d) _ (λ ms.
+    then_ok MappingFits (known 31 (codes "dynamic" ∷ codes "properties" ∷ []) at ms) _ (λ _.
+    then_ok MappingFits (optional dynamic_at (codes "dynamic") at ms) _ (λ strict. numbered_after-fits at ms strict)))
