@@ -2,7 +2,7 @@
 use Rattle.std.specs.Prelude.{◌≡◌, refl, ℕ, ℤ, pos, negsuc, ◌+◌, ◌≤◌, ◌++◌, List, [], ◌∷◌, length, Bool, true, false, Option, Some, None, Result, Ok, Err, IfOk, IfSome, nat_le, ◌&&◌, ◌==◌, if◌then◌else◌, unwrap_or, codes}
 use Rattle.std.proofs.Common.{arith}
 use Rattle.std.proofs.lemmas.Bool.Decides.{nat_tests}
-use Rattle.serde_json.specs.Data.{Data, Members}
+use Rattle.serde_json.specs.Data.{Data, null, boolean, number, string, array, object, Members}
 use Rattle.agg_model.specs.declared.mapping.Mapping.{Mapping}
 use Rattle.agg_reading.specs.declared.parts.IndexLine.{IndexLine}
 use Rattle.agg_reading.specs.Outcome.{Outcome, ◌>>=◌, refuse, or_refuse}
@@ -51,3 +51,61 @@ two_named-fits : (at : List ℕ) (ms : Members) → IfOk (shards_named (codes "i
 two_named-fits at ms =
     next_ok MaybeFit BothFit (shards_named (codes "index.number_of_shards") at ms) (λ dotted. shards_named (codes "number_of_shards") at ms >>= λ plain. Ok (dotted, plain)) (shards_named-fits _ at ms) (λ dotted p.
     next_ok MaybeFit BothFit (shards_named (codes "number_of_shards") at ms) (λ plain. Ok (dotted, plain)) (shards_named-fits _ at ms) (λ plain q. (p, q)))
+
+inner_shards_of-fits : (at : List ℕ) (o : Option Data) → IfOk (inner_shards_of at o) BothFit
+inner_shards_of-fits at None = (tt, tt)
+inner_shards_of-fits at (Some null) = (tt, tt)
+inner_shards_of-fits at (Some (boolean b)) = (tt, tt)
+inner_shards_of-fits at (Some (number n)) = (tt, tt)
+inner_shards_of-fits at (Some (string s)) = (tt, tt)
+inner_shards_of-fits at (Some (array ds)) = (tt, tt)
+inner_shards_of-fits at (Some (object ms)) = two_named-fits at ms
+
+inner_shards-fits : (at : List ℕ) (ms : Members) → IfOk (inner_shards at ms) BothFit
+unfolding inner_shards
+inner_shards-fits at ms = inner_shards_of-fits _ _
+
+agreed_all-fits : (at : List ℕ) (dotted : Option ℕ) (inner : Option ℕ × Option ℕ) (plain : Option ℕ) → MaybeFit dotted → BothFit inner → MaybeFit plain → IfOk (agreed_all at dotted inner plain) MaybeFit
+unfolding agreed_all
+agreed_all-fits at dotted inner plain p q r =
+    next_ok MaybeFit MaybeFit (agreed dotted _ inner.0) _ (agreed-fits dotted _ inner.0 p q.0) (λ one a.
+    next_ok MaybeFit MaybeFit (agreed one _ inner.1) _ (agreed-fits one _ inner.1 a q.1) (λ two b.
+    agreed-fits two _ plain b r))
+
+or_one : (o : Option ℕ) → MaybeFit o → ShardsFit (unwrap_or o 1)
+or_one None p = (omega arith, omega arith)
+or_one (Some n) p = p
+
+pub settings_at-fits : (at : List ℕ) (d : Data) → IfOk (settings_at at d) ShardsFit
+unfolding settings_at
+settings_at-fits at d =
+    then_ok ShardsFit (object_at 31 at d) _ (λ ms.
+    next_ok BothFit ShardsFit (inner_shards at ms) _ (inner_shards-fits at ms) (λ inner q.
+    next_ok MaybeFit ShardsFit (shards_named (codes "index.number_of_shards") at ms) _ (shards_named-fits _ at ms) (λ dotted p.
+    next_ok MaybeFit ShardsFit (shards_named (codes "number_of_shards") at ms) _ (shards_named-fits _ at ms) (λ plain r.
+    next_ok MaybeFit ShardsFit (agreed_all at dotted inner plain) (λ shards. Ok (unwrap_or shards 1)) (agreed_all-fits at dotted inner plain p q r) (λ shards s. or_one shards s)))))
+
+-- what an index line keeps
+pub record LineFits (l : IndexLine) : Type 0 where
+  pub mapping : MappingFits l.mapping
+  pub shards : ShardsFit l.shards
+
+or_empty : (o : Option Mapping) → IfSome o MappingFits → MappingFits (unwrap_or o empty_mapping)
+or_empty None p = omega arith
+or_empty (Some m) p = p
+
+index_value_at-fits : (d : Data) → IfOk (index_value_at d) LineFits
+unfolding index_value_at
+index_value_at-fits d =
+    then_ok LineFits (object_at 31 [] d) _ (λ ms.
+    then_ok LineFits (known 31 (codes "index" ∷ codes "mappings" ∷ codes "settings" ∷ []) [] ms) _ (λ _.
+    then_ok LineFits (optional index_name_at (codes "index") [] ms) _ (λ name.
+    next_ok (λ o. IfSome o MappingFits) LineFits (optional mapping_at (codes "mappings") [] ms) _ (optional_of-ok MappingFits mapping_at _ _ mapping_at-fits) (λ mapping m.
+    next_ok MaybeFit LineFits (optional settings_at (codes "settings") [] ms) _ (optional_of-ok ShardsFit settings_at _ _ settings_at-fits) (λ shards s.
+    then_ok LineFits (or_refuse 31 [] name) (λ given. Ok (record { name = given; mapping = unwrap_or mapping empty_mapping; shards = unwrap_or shards 1 })) (λ given.
+    record { mapping = or_empty mapping m; shards = or_one shards s }))))))
+
+-- an index line that is read has few fields and some shards
+pub index_line_at-fits : (bytes : List ℕ) → IfOk (index_line_at bytes) LineFits
+unfolding index_line_at
+index_line_at-fits bytes = then_ok LineFits (or_refuse 31 [] (reading bytes)) index_value_at index_value_at-fits
