@@ -1,12 +1,11 @@
 -- What every index line keeps that is read: at most 1,000 fields and nested paths, and 1 to 1,024 shards.
-use Rattle.std.specs.Prelude.{◌≡◌, refl, ℕ, ℤ, pos, negsuc, ◌+◌, ◌≤◌, ◌++◌, List, [], ◌∷◌, length, Bool, true, false, Option, Some, None, Result, Ok, Err, IfOk, IfSome, nat_le, ◌&&◌, ◌==◌, if◌then◌else◌, unwrap_or, codes}
+use Rattle.std.specs.Prelude.{ℕ, ℤ, pos, negsuc, ◌≤◌, List, [], ◌∷◌, Option, Some, None, Ok, IfOk, IfSome, nat_le, ◌&&◌, ◌==◌, unwrap_or, codes}
 use Rattle.std.proofs.Common.{arith}
 use Rattle.std.proofs.lemmas.Bool.Decides.{nat_tests}
 use Rattle.serde_json.specs.Data.{Data, null, boolean, number, string, array, object, Members}
 use Rattle.agg_model.specs.declared.mapping.Mapping.{Mapping}
 use Rattle.agg_reading.specs.declared.parts.IndexLine.{IndexLine}
 use Rattle.agg_reading.specs.Outcome.{Outcome, ◌>>=◌, refuse, or_refuse}
-use Rattle.agg_reading.specs.Pointer.{member_step}
 use Rattle.agg_reading.specs.Json.{reading, object_at, known, optional, optional_of}
 use Rattle.agg_reading.specs.Scalars.{whole}
 use Rattle.agg_reading.specs.Mapping.{mapping_at, empty_mapping}

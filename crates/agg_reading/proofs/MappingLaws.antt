@@ -1,6 +1,6 @@
 -- What every mapping keeps that an index line gives: at most 1,000 fields and nested paths.
-use Rattle.std.specs.Prelude.{◌≡◌, refl, ℕ, zero, suc, ◌+◌, ◌≤◌, ◌<◌, ◌++◌, List, [], ◌∷◌, length, map, Bool, true, false, Option, Some, None, Result, Ok, Err, IfOk, IfSome, nat_le, if◌then◌else◌, unwrap_or, is_some, codes, ⊤}
-use Rattle.std.proofs.Common.{arith, ap, sym, ◌∙◌}
+use Rattle.std.specs.Prelude.{◌≡◌, refl, ℕ, zero, suc, ◌+◌, ◌≤◌, ◌<◌, ◌++◌, List, [], ◌∷◌, length, Bool, true, false, Option, Some, None, Result, Ok, Err, IfOk, if◌then◌else◌, unwrap_or, codes}
+use Rattle.std.proofs.Common.{arith, ap}
 use Rattle.std.proofs.lemmas.Bool.Decides.{nat_tests}
 use Rattle.std.proofs.lemmas.List.{length-map}
 use Rattle.serde_json.specs.Data.{Data, Members, no_members, member}
@@ -9,10 +9,9 @@ use Rattle.agg_model.specs.declared.mapping.Mapping.{Mapping}
 use Rattle.agg_reading.specs.declared.names.FieldType.{FieldType}
 use Rattle.agg_reading.specs.declared.names.FieldType.TheVariants.{Leaf, Object, Nested}
 use Rattle.agg_reading.specs.declared.parts.Found.{Found}
-use Rattle.agg_reading.specs.declared.parts.IndexLine.{IndexLine}
 use Rattle.agg_reading.specs.Outcome.{Outcome, ◌>>=◌, refuse}
 use Rattle.agg_reading.specs.Pointer.{member_step}
-use Rattle.agg_reading.specs.Json.{object_at, known, optional, optional_of}
+use Rattle.agg_reading.specs.Json.{object_at, known, optional}
 use Rattle.agg_reading.specs.Properties.{is_before, place, is_field_name, bound_at, leaf_names, leaf_at, is_full, with_nested, with_object, fields_from, properties_at, properties_of, inner_at, by_type, type_in, property_at}
 use Rattle.agg_reading.specs.Mapping.{numbered, numbered_field, numbered_path, found_in, nothing_found, dynamic_at, mapping_at}
 
@@ -46,9 +45,9 @@ leaf_at-fits : (kind : FieldKind) (within path at : List ℕ) (found : Found) (m
 unfolding leaf_at
 leaf_at-fits kind within path at found ms =
     if_ok Fits (is_full found) (refuse 31 at) _ (λ e. tt) (λ e.
-        then_ok Fits (known 31 (leaf_names kind) at ms) _ (λ _.
-        then_ok Fits (optional bound_at (codes "ignore_above") at ms) _ (λ above.
-        rw (length-place (λ f. f.path) (record { path = path; kind = kind; ignore_above = above; within = within }) found.fields) (omega (arith, not_full found e)))))
+    then_ok Fits (known 31 (leaf_names kind) at ms) _ (λ _.
+    then_ok Fits (optional bound_at (codes "ignore_above") at ms) _ (λ above.
+    rw (length-place (λ f. f.path) (record { path = path; kind = kind; ignore_above = above; within = within }) found.fields) (omega (arith, not_full found e)))))
 
 -- what adds fields keeps the bound
 abbrev Keeps : (List ℕ → List ℕ → List ℕ → Found → Data → Outcome Found) → Type 0
@@ -59,8 +58,8 @@ unfolding fields_from
 fields_from-fits field h within front at found no_members b = b
 fields_from-fits field h within front at found (member k d ms) b =
     if_ok Fits (is_field_name k) _ (refuse 31 (at ++ member_step k))
-        (λ e. next_ok Fits Fits (field within (front ++ k) (at ++ member_step k) found d) _ (h within (front ++ k) (at ++ member_step k) found d b) (λ next c. fields_from-fits field h within front at next ms c))
-        (λ e. tt)
+    (λ e. next_ok Fits Fits (field within (front ++ k) (at ++ member_step k) found d) _ (h within (front ++ k) (at ++ member_step k) found d b) (λ next c. fields_from-fits field h within front at next ms c))
+    (λ e. tt)
 
 properties_of-fits : (field : List ℕ → List ℕ → List ℕ → Found → Data → Outcome Found) → Keeps field → (within front at : List ℕ) (found : Found) (o : Option Data) → Fits found → IfOk (properties_of field within front at found o) Fits
 unfolding properties_at
