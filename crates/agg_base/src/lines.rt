@@ -1,20 +1,17 @@
-ghost use Rattle.std.specs.Prelude.{◌≡◌, ◌≤◌, ◌<◌, ◌+◌, ◌^◌, ◌↔◌, ◌∷◌, ◌++◌, [], None, Some, Ok, Err, true, false, ℕ, List, length, vec_len, IfOk, IfErr, IfNone, IfSome, OnErr, OnOk, OnSome, IsTrue, option_map};
+ghost use Rattle.std.specs.Prelude.{◌≡◌, ◌≢◌, ◌≤◌, ◌<◌, ◌+◌, ◌^◌, ◌↔◌, ◌∷◌, ◌++◌, [], None, Some, Ok, Err, true, false, ℕ, List, length, vec_len, IfOk, IfErr, IfNone, IfSome, OnErr, OnOk, OnSome, IsTrue, option_map};
 ghost use Rattle.std.specs.Result.{result_err};
 ghost use Rattle.std.specs.Io.KnownBytes.{prepend_known, IsAtEnd};
 ghost use Rattle.agg_base.specs.Cut.{IsPlain, Answers, IsLine, lines_of, first_line, next_of, fault_of, as_result, whole_of};
 ghost use Rattle.agg_base.specs.Outside.{Rose};
-ghost use Rattle.agg_base.specs.declared.limits.TheConstants.{MAX_INPUT, MAX_LINE};
+ghost use Rattle.agg_base.specs.declared.limits.TheConstants.{BLOCK, MAX_INPUT, MAX_LINE};
 ghost use Rattle.agg_base.specs.declared.lines.LineFault.TheVariants.{Memory};
 
-use crate::limits::{MAX_INPUT, MAX_LINE};
+use crate::limits::{BLOCK, MAX_INPUT, MAX_LINE};
 use crate::source::{Failed, Source};
 use agg_model::bytes::Bytes;
 use memchr::memchr;
 use std::alloc::{AllocError, Global};
 use std::mem;
-
-/// How many bytes are read at once.
-const BLOCK: usize = 65_536;
 
 const NEWLINE: u8 = b'\n';
 
@@ -49,7 +46,8 @@ enum LineEnd {
 
 /// The number of bytes before the first newline, or of all.
 fn before_newline(bytes: &[u8]) -> usize
-    ensures { result ≡ length (first_line bytes.now) }
+    ensures place { result ≡ length (first_line bytes.now) }
+    ensures within { result ≤ length bytes.now }
 {
     memchr(NEWLINE, bytes).unwrap_or(bytes.len())
 }
@@ -65,7 +63,12 @@ fn empty_block(alloc: Global) -> Result<Vec<u8>, AllocError>
 fn check_limits(position: u64, bytes: usize, is_ended: bool) -> Result<(), LineFault>
     requires position { position ≤ MAX_INPUT }
     requires bytes { bytes < 2 ^ 63 }
-    ensures { result ≡ as_result (fault_of position bytes (whole_of bytes is_ended)) }
+    ensures answer { result ≡ as_result (fault_of position bytes (whole_of bytes is_ended)) }
+    ensures short { OnOk result (bytes ≤ MAX_LINE) }
+    ensures within { OnOk result (position + whole_of bytes is_ended ≤ MAX_INPUT) }
+    ensures line_too_long { result ≡ Err LineFault.LineTooLong → MAX_LINE < bytes }
+    ensures input_too_long { result ≡ Err LineFault.InputTooLong → MAX_INPUT < position + whole_of bytes is_ended }
+    ensures no_other { IfErr result (λ fault. fault ≢ LineFault.Read) }
 {
     let whole = bytes + usize::from(is_ended);
     if position + whole.min(MAX_LINE + 1) as u64 > MAX_INPUT {
@@ -75,6 +78,31 @@ fn check_limits(position: u64, bytes: usize, is_ended: bool) -> Result<(), LineF
         return Err(LineFault::LineTooLong);
     }
     Ok(())
+}
+
+/// Appends to the front of a line what `ahead` has of it, and answers the number of these bytes: it is less than all
+/// where a newline stands behind them.
+fn take_piece(position: u64, line: &mut Vec<u8>, ahead: &[u8]) -> Result<usize, LineFault>
+    requires plain { IsPlain line.old.items }
+    requires within { position + vec_len line.old ≤ MAX_INPUT }
+    requires block { length ahead.now ≤ BLOCK }
+    ensures place { IfOk result (λ place. place ≡ length (first_line ahead.now)) }
+    ensures line { OnOk result (line.new.items ≡ line.old.items ++ first_line ahead.now) }
+    ensures grown { IfOk result (λ place. vec_len line.new ≡ vec_len line.old + place) }
+    ensures plain { OnOk result (IsPlain line.new.items) }
+    ensures ended { IfOk result (λ place. place < length ahead.now → fault_of position (vec_len line.new) (vec_len line.new + 1) ≡ None) }
+    ensures short { OnOk result (vec_len line.new ≤ MAX_LINE) }
+    ensures still_within { OnOk result (position + vec_len line.new ≤ MAX_INPUT) }
+    ensures same { OnErr result (line.new.items ≡ line.old.items) }
+    ensures refused { IfErr result (λ fault. (rest : List ℕ) → Answers (next_of position (line.old.items ++ (ahead.now ++ rest))) (Err fault)) }
+    ensures no_read { IfErr result (λ fault. fault ≢ LineFault.Read) }
+    ensures line_too_long { result ≡ Err LineFault.LineTooLong → MAX_LINE < vec_len line.old + length ahead.now }
+    ensures input_too_long { result ≡ Err LineFault.InputTooLong → MAX_INPUT < position + vec_len line.old + length ahead.now }
+{
+    let place = before_newline(ahead);
+    check_limits(position, line.len() + place, place < ahead.len())?;
+    line.extend_from_slice(&ahead[..place])?;
+    Ok(place)
 }
 
 /// The lines of a source, one after another. The first fault is kept, and there is no line after it.
@@ -93,7 +121,7 @@ pub struct Lines<'a, S: Source> {
     kept: Option<LineFault>,
     ghost ordered: { start ≤ end },
     ghost inside: { end ≤ length buffer.items },
-    ghost room: { 0 < length buffer.items },
+    ghost block: { length buffer.items ≡ BLOCK },
     ghost plain: { IsPlain line.items },
     ghost short: { vec_len line ≤ MAX_LINE },
     ghost within: { position + vec_len line ≤ MAX_INPUT },
@@ -119,7 +147,7 @@ impl<'a, S: Source> Lines<'a, S> {
 
     /// The lines of what `source` has left, read by way of `buffer`.
     fn over(alloc: Global, source: &'a mut S, buffer: Vec<u8>) -> Lines<'a, S>
-        requires { 0 < vec_len buffer }
+        requires { vec_len buffer ≡ BLOCK }
         ensures same_source { source_name result ≡ source.entry.ghost_name }
         ensures source { source_of result ≡ source.old }
         ensures unread { unread result ≡ S.left source.old }
@@ -243,10 +271,8 @@ impl<'a, S: Source> Lines<'a, S> {
             return Ok(Some(LineEnd::Input));
         }
         let ahead = &self.buffer.as_slice()[self.start..self.end];
-        let place = before_newline(ahead);
+        let place = take_piece(self.position, &mut self.line, ahead)?;
         let is_ended = place < ahead.len();
-        check_limits(self.position, self.line.len() + place, is_ended)?;
-        self.line.extend_from_slice(&ahead[..place])?;
         self.start += place;
         if is_ended {
             self.start += 1;
