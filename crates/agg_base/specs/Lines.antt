@@ -47,12 +47,13 @@ Stays old new = (unread new ≡ unread old) × (position new ≡ position old) �
 
 -- what a piece of a line leaves: a longer front of the line, the whole line before its newline, or all that was left
 abbrev pub Took : {S : Type 0} {g : Ghosts S} → Lines S g → Lines S g → Option LineEnd → Type 0
-Took old new None = (unread new ≡ unread old) × (vec_len old.line < vec_len new.line)
+Took old new None = (unread new ≡ unread old) × (vec_len old.line < vec_len new.line) × (bytes_read old ≤ bytes_read new)
 Took old new (Some Newline) =
     (unread old ≡ prepend_known (new.line.items ++ newline ∷ []) (to_come new))
     × (fault_of (position old) (vec_len new.line) (vec_len new.line + 1) ≡ None)
+    × (bytes_read old ≤ bytes_read new + 1)
 Took {g = g} old new (Some Input) =
-    (unread new ≡ unread old) × IsAtEnd (to_come new) × IsAtEnd (g.left (source_of new))
+    (unread new ≡ unread old) × IsAtEnd (to_come new) × IsAtEnd (g.left (source_of new)) × (bytes_read old ≤ bytes_read new)
 
 -- what only the handing out of a line changes; a newline that was gone over is not yet counted
 abbrev pub KeepsCounts : {S : Type 0} {g : Ghosts S} → Lines S g → Lines S g → Type 0

@@ -242,6 +242,7 @@ impl<'a, S: Source> Lines<'a, S> {
     fn gather(&mut self) -> Result<LineEnd, LineFault>
         ensures took { IfOk result (λ end. Took self.old self.new (Some end)) }
         ensures err { OnErr result (unread self.new ≡ unread self.old) }
+        ensures bytes_read { OnErr result (bytes_read self.old ≤ bytes_read self.new) }
         ensures answer { IfErr result (λ fault. IfSome (unread self.old) (λ rest. Answers (next_of (position self.old) rest) (Err fault))) }
         ensures read { result ≡ Err LineFault.Read → Rose (S.faults (source_of self.old)) (S.faults (source_of self.new)) }
         ensures line_too_long { result ≡ Err LineFault.LineTooLong → position self.old + MAX_LINE < bytes_read self.new }
@@ -260,6 +261,7 @@ impl<'a, S: Source> Lines<'a, S> {
     fn step(&mut self) -> Result<Option<LineEnd>, LineFault>
         ensures took { IfOk result (Took self.old self.new) }
         ensures err { OnErr result (unread self.new ≡ unread self.old) }
+        ensures bytes_read { OnErr result (bytes_read self.old ≤ bytes_read self.new) }
         ensures answer { IfErr result (λ fault. IfSome (unread self.old) (λ rest. Answers (next_of (position self.old) rest) (Err fault))) }
         ensures read { result ≡ Err LineFault.Read → Rose (S.faults (source_of self.old)) (S.faults (source_of self.new)) }
         ensures line_too_long { result ≡ Err LineFault.LineTooLong → position self.old + MAX_LINE < bytes_read self.new }
@@ -291,6 +293,7 @@ impl<'a, S: Source> Lines<'a, S> {
         ensures never_falls { S.faults (source_of self.old) ≤ S.faults (source_of self.new) }
         ensures line { self.new.line ≡ self.old.line }
         ensures counts { KeepsCounts self.old self.new }
+        ensures bytes_read { bytes_read self.old ≤ bytes_read self.new }
     {
         if self.start < self.end {
             return Ok(true);

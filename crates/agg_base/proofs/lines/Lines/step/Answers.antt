@@ -43,7 +43,8 @@ returns-then-is_ended-clause-took g c =
         (c.in_ok-place.ensures.line ∙ ap (λ v. v.items ++ first_line ahead) c.fill.ensures.line)
         (subst (λ n. n < length ahead) place below)
         (after_piece seen now.buffer.items now.start now.end c.in_ok-place.place (length (first_line ahead)) c.as_slice.ensures.value place (omega (arith, long, below))),
-      ap (λ n. fault_of n (vec_len c.take_piece.new.line) (vec_len c.take_piece.new.line + 1)) (sym c.fill.ensures.counts.0) ∙ c.in_ok-place.ensures.ended below
+      ap (λ n. fault_of n (vec_len c.take_piece.new.line) (vec_len c.take_piece.new.line + 1)) (sym c.fill.ensures.counts.0) ∙ c.in_ok-place.ensures.ended below,
+      omega (arith, c.fill.ensures.bytes_read, c.in_ok-place.ensures.grown, ap (λ v. vec_len v) c.fill.ensures.line, long, below)
     )
 
 pub invariant_of-self-else-is_ended-clause-ordered : goal.invariant_of-self-else-is_ended-clause-ordered
@@ -71,5 +72,6 @@ returns-clause-took g c =
       ∙ open_piece was.line.items c.take_piece.new.line.items ahead left (c.in_ok-place.ensures.line ∙ ap (λ v. v.items ++ first_line ahead) c.fill.ensures.line) (subst (λ n. length ahead ≤ n) place all)
       ∙ ap (λ (t : List ℕ). prepend_known was.line.items (prepend_known (slice_range t now.start now.end) left)) c.as_slice.ensures.value
       ∙ ap (prepend_known was.line.items) c.fill.ensures.to_come,
-      omega (arith, c.in_ok-place.ensures.grown, ap (λ v. vec_len v) c.fill.ensures.line, all, long, is_ahead)
+      omega (arith, c.in_ok-place.ensures.grown, ap (λ v. vec_len v) c.fill.ensures.line, all, long, is_ahead),
+      omega (arith, c.fill.ensures.bytes_read, c.in_ok-place.ensures.grown, ap (λ v. vec_len v) c.fill.ensures.line, used)
     )
