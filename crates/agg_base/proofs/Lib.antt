@@ -3,3 +3,5 @@ pub mod FaultLemmas
 pub mod StepLemmas
 pub mod WriteLemmas
 pub mod HandedLemmas
+pub mod SearchLemmas
+pub mod MemoryLemmas

@@ -2,6 +2,7 @@
 #![tactic(auto)]
 
 pub mod adapters;
+mod failing;
 pub mod limits;
 pub mod lines;
 pub mod memory_sink;

@@ -4,6 +4,7 @@ ghost use Rattle.std.specs.Io.KnownBytes.{append_known};
 ghost use Rattle.agg_base.specs.Outside.{Rose};
 ghost use Rattle.agg_base.specs.Memory.{Store, store_fails, stored, after_write, is_failing};
 
+use crate::failing::{ascending, is_among};
 use crate::sink::Sink;
 use crate::source::Failed;
 use agg_model::list::List as Numbers;
@@ -52,14 +53,12 @@ impl MemorySink {
         ensures calls { IfOk result (λ s. s.calls ≡ 0) }
         ensures faults { IfOk result (λ s. s.faults ≡ 0) }
     {
-        let mut failing = failing.into_vec();
-        failing.as_mut_slice().sort_unstable();
         let written = Vec::with_capacity(alloc, room)?;
         Ok(MemorySink {
             written,
             room,
             piece,
-            failing,
+            failing: ascending(failing),
             calls: 0,
             faults: 0,
         })
@@ -79,6 +78,7 @@ impl Sink for MemorySink {
     ghost faults = { λ s. s.faults };
 
     fn write(&mut self, buf: &[u8]) -> Result<usize, Failed>
+        requires { 0 < length buf.now }
         ensures answer { result_ok result ≡ (if store_fails self.old then None else Some (stored self.old (length buf.now))) }
         ensures after { self.new ≡ after_write self.old buf.now }
         ensures some { IfOk result (λ n. 1 ≤ n) }
@@ -89,7 +89,7 @@ impl Sink for MemorySink {
         ensures fault { OnErr result (Rose self.old.faults self.new.faults) }
     {
         let is_failing = self.room == 0
-            || self.failing.as_slice().binary_search(&self.calls).is_ok();
+            || is_among(self.failing.as_slice(), self.calls);
         self.calls = self.calls.saturating_add(1);
         if is_failing {
             self.faults = self.faults.saturating_add(1);

@@ -4,6 +4,7 @@ ghost use Rattle.std.specs.Io.KnownBytes.{prepend_known, IsAtEnd};
 ghost use Rattle.agg_base.specs.Outside.{Rose};
 ghost use Rattle.agg_base.specs.Memory.{Feed, feed_fails, fed, after_read, is_failing};
 
+use crate::failing::{ascending, is_among};
 use crate::source::{Failed, Source};
 use agg_model::bytes::Bytes;
 use agg_model::list::List as Numbers;
@@ -45,17 +46,24 @@ impl MemorySource {
         ensures calls { result.calls ≡ 0 }
         ensures faults { result.faults ≡ 0 }
     {
-        let mut failing = failing.into_vec();
-        failing.as_mut_slice().sort_unstable();
         MemorySource {
             bytes: bytes.into_vec(),
             given: 0,
             piece,
-            failing,
+            failing: ascending(failing),
             calls: 0,
             faults: 0,
         }
     }
+}
+
+/// Copies the first `count` bytes.
+fn copy_front(from: &[u8], to: &mut [u8], count: usize)
+    requires from { count ≤ length from.now }
+    requires to { count ≤ length to.old }
+    ensures { take count to.new ≡ take count from.now }
+{
+    to[..count].copy_from_slice(&from[..count]);
 }
 
 impl Source for MemorySource {
@@ -64,6 +72,7 @@ impl Source for MemorySource {
     ghost faults = { λ s. s.faults };
 
     fn read(&mut self, buf: &mut [u8]) -> Result<usize, Failed>
+        requires { 0 < length buf.old }
         ensures answer { result_ok result ≡ (if feed_fails self.old then None else Some (fed self.old (length buf.old))) }
         ensures after { self.new ≡ after_read self.old (length buf.old) }
         ensures within { IfOk result (λ n. n ≤ length buf.old) }
@@ -73,7 +82,7 @@ impl Source for MemorySource {
         ensures never_falls { self.old.faults ≤ self.new.faults }
         ensures fault { OnErr result (Rose self.old.faults self.new.faults) }
     {
-        let is_failing = self.failing.as_slice().binary_search(&self.calls).is_ok();
+        let is_failing = is_among(self.failing.as_slice(), self.calls);
         self.calls = self.calls.saturating_add(1);
         if is_failing {
             self.faults = self.faults.saturating_add(1);
@@ -81,7 +90,7 @@ impl Source for MemorySource {
         }
         let rest = &self.bytes.as_slice()[self.given..];
         let given = buf.len().min(self.piece).min(rest.len());
-        buf[..given].copy_from_slice(&rest[..given]);
+        copy_front(rest, buf, given);
         self.given += given;
         Ok(given)
     }
