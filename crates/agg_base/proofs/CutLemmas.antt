@@ -1,9 +1,7 @@
 -- The first line of a list, and the lines of one that begins with bytes that are no newline.
-use Rattle.std.proofs.Common.{◌≡◌, ◌≢◌, ◌<◌, ◌≤◌, ◌==◌, ◌+◌, not, ℕ, zero, suc, Bool, true, false, List, [], ◌∷◌, ◌++◌, Option, Some, None, refl, sym, ap, subst, ◌∙◌, append_assoc, length, take, drop, slice_index, inl, inr, arith}
-use Rattle.std.specs.List.{list_all}
+use Rattle.std.proofs.Common.{◌≡◌, ◌≢◌, ◌<◌, ◌≤◌, ◌==◌, ℕ, zero, suc, true, false, List, [], ◌∷◌, ◌++◌, Option, Some, None, refl, sym, ap, ◌∙◌, length, take, drop, slice_index, arith}
 use Rattle.std.specs.Prelude.{unwrap_or}
-use Rattle.std.specs.Io.KnownBytes.{prepend_known, IsAtEnd}
-use Rattle.std.proofs.lemmas.Bool.{eqb-true, cond_both, cond-true, cond-false, false≢true, and_parts, and_from, not-true, not_from_false}
+use Rattle.std.proofs.lemmas.Bool.{eqb-true, cond_both, cond-false, false≢true, and_parts, and_from, not-true, not_from_false}
 use Rattle.memchr.specs.Find.{IsFirstByte, is_byte}
 use Rattle.agg_base.specs.Cut.{newline, IsPlain, in_front, lines_of, first_line, whole_line}
 
@@ -49,9 +47,9 @@ pub drop-first_line : (xs : List ℕ) → length (first_line xs) < length xs →
 drop-first_line [] lt = absurd (omega arith)
 drop-first_line (b ∷ bs) lt =
     let holds =
-        cond_both (b == newline) [] (b ∷ first_line bs) (λ v. length v < length (b ∷ bs) → drop (length v) (b ∷ bs) ≡ newline ∷ drop (suc (length v)) (b ∷ bs))
-        (λ yes _. ap (λ (n : ℕ). n ∷ bs) (eqb-true b newline yes))
-        (λ no below. drop-first_line bs (omega arith)) in
+    cond_both (b == newline) [] (b ∷ first_line bs) (λ v. length v < length (b ∷ bs) → drop (length v) (b ∷ bs) ≡ newline ∷ drop (suc (length v)) (b ∷ bs))
+    (λ yes _. ap (λ (n : ℕ). n ∷ bs) (eqb-true b newline yes))
+    (λ no below. drop-first_line bs (omega arith)) in
     holds lt
 
 first_byte : (s : ℕ) (ss : List ℕ) → IsPlain (s ∷ ss) → s == newline ≡ false

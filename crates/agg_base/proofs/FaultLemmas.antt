@@ -1,5 +1,5 @@
 -- What the limits refuse, and the next line of what begins with bytes that are no newline.
-use Rattle.std.proofs.Common.{◌≡◌, ◌≢◌, ◌⊎◌, ◌<◌, ◌≤◌, ◌==◌, ◌+◌, min, ℕ, zero, suc, Bool, true, false, List, [], ◌∷◌, ◌++◌, Option, Some, None, Result, Ok, Err, refl, sym, ap, subst, ◌∙◌, append_assoc, append-nil, add-zero, ltb, length, take, drop, length-append, take-append-drop, inl, inr, ⊎_elim, arith}
+use Rattle.std.proofs.Common.{◌≡◌, ◌⊎◌, ◌<◌, ◌≤◌, ◌+◌, min, ℕ, suc, Bool, true, false, List, [], ◌∷◌, ◌++◌, Option, Some, None, Result, Ok, Err, refl, sym, ap, subst, ◌∙◌, append_assoc, add-zero, ltb, length, drop, length-append, take-append-drop, inl, inr, ⊎_elim, arith}
 use Rattle.std.proofs.lemmas.Bool.{cond-true, cond-false, lt-ltb, le-ltb, ltb-true, cases_lt}
 use Rattle.agg_base.specs.Cut.{newline, IsPlain, Answers, first_line, whole_line, next_of, fault_of, or_fault, as_result, whole_of}
 use Rattle.agg_base.specs.declared.lines.LineFault.{LineFault}
@@ -39,8 +39,8 @@ pub fault_of-more : (before n a b : ℕ) (fault : LineFault) → fault_of before
 fault_of-more before n a b fault is =
     ⊎_elim (λ lt. fault_of-input before (n + a) (n + b) (omega arith) ∙ sym (fault_of-input before n n lt) ∙ is)
     (λ other. ⊎_elim
-      (λ h. let le = h.0 in let lt = h.1 in fault_of-line before (n + a) (n + b) (omega arith) (omega arith) ∙ sym (fault_of-line before n n le lt) ∙ is)
-      (λ w. let e = sym (fault_of-none before n n w.input w.line) ∙ is in absurd cc) other)
+    (λ h. let le = h.0 in let lt = h.1 in fault_of-line before (n + a) (n + b) (omega arith) (omega arith) ∙ sym (fault_of-line before n n le lt) ∙ is)
+    (λ w. let e = sym (fault_of-none before n n w.input w.line) ∙ is in absurd cc) other)
     (limit_cases before n n)
 
 as_result-err : (o : Option LineFault) (fault : LineFault) → as_result o ≡ Err fault → o ≡ Some fault
@@ -57,7 +57,7 @@ next_of-some before (b ∷ bs) some = refl
 
 -- the next line where plain bytes stand in front of the rest
 pub next_of-append : (before : ℕ) (seen rest : List ℕ) → IsPlain seen → 0 < length seen + length rest →
-  next_of before (seen ++ rest) ≡ or_fault (fault_of before (length seen + length (first_line rest)) (length seen + length (whole_line rest))) (seen ++ first_line rest)
+    next_of before (seen ++ rest) ≡ or_fault (fault_of before (length seen + length (first_line rest)) (length seen + length (whole_line rest))) (seen ++ first_line rest)
 next_of-append before seen rest plain some =
     next_of-some before (seen ++ rest) (omega (arith, length-append seen rest))
     ∙ rw (first_line-append seen rest plain, whole_line-append seen rest plain, length-append seen (first_line rest), length-append seen (whole_line rest)) refl
@@ -84,9 +84,9 @@ refused_ended before seen rest fault plain is =
 refused_open : (before : ℕ) (seen rest : List ℕ) (fault : LineFault) → IsPlain seen → before ≤ MAX_INPUT → fault_of before (length seen) (length seen) ≡ Some fault → next_of before (seen ++ rest) ≡ Err fault
 refused_open before seen rest fault plain within is =
     let some : 0 < length seen =
-        ⊎_elim (λ lt. omega arith)
-        (λ other. ⊎_elim (λ h. omega (arith, h.1)) (λ w. let e = sym (fault_of-none before (length seen) (length seen) w.input w.line) ∙ is in absurd cc) other)
-        (limit_cases before (length seen) (length seen)) in
+    ⊎_elim (λ lt. omega arith)
+    (λ other. ⊎_elim (λ h. omega (arith, h.1)) (λ w. let e = sym (fault_of-none before (length seen) (length seen) w.input w.line) ∙ is in absurd cc) other)
+    (limit_cases before (length seen) (length seen)) in
     fault_is _ _ _ fault (next_of-append before seen rest plain (omega arith))
     (fault_of-more before (length seen) (length (first_line rest)) (length (whole_line rest)) fault is)
 
@@ -101,7 +101,7 @@ cut_at line ahead rest =
     ∙ sym (append_assoc line front (back ++ rest))
 
 refused_at : (before : ℕ) (line ahead rest : List ℕ) (n : ℕ) (is_ended : Bool) (fault : LineFault) → IsPlain line → before ≤ MAX_INPUT → n ≡ length (first_line ahead) → is_ended ≡ ltb n (length ahead) →
-  as_result (fault_of before (length line + n) (whole_of (length line + n) is_ended)) ≡ Err fault → next_of before (line ++ (ahead ++ rest)) ≡ Err fault
+    as_result (fault_of before (length line + n) (whole_of (length line + n) is_ended)) ≡ Err fault → next_of before (line ++ (ahead ++ rest)) ≡ Err fault
 refused_at before line ahead rest n true fault plain within place ended is =
     let seen = line ++ first_line ahead in
     let len : length seen ≡ length line + n = length-append line (first_line ahead) ∙ ap (λ m. length line + m) (sym place) in
@@ -109,18 +109,18 @@ refused_at before line ahead rest n true fault plain within place ended is =
     let back = drop-first_line ahead (subst (λ m. m < length ahead) place below) in
     ap (next_of before) (cut_at line ahead rest ∙ ap (λ (t : List ℕ). seen ++ (t ++ rest)) back)
     ∙ refused_ended before seen (drop (suc (length (first_line ahead))) ahead ++ rest) fault (plain-append line (first_line ahead) plain (plain_first_line ahead))
-      (ap (λ m. fault_of before m (m + 1)) len ∙ as_result-err _ fault is)
+    (ap (λ m. fault_of before m (m + 1)) len ∙ as_result-err _ fault is)
 refused_at before line ahead rest n false fault plain within place ended is =
     let seen = line ++ first_line ahead in
     let len : length seen ≡ length line + n = length-append line (first_line ahead) ∙ ap (λ m. length line + m) (sym place) in
     ap (next_of before) (cut_at line ahead rest)
     ∙ refused_open before seen (drop (length (first_line ahead)) ahead ++ rest) fault (plain-append line (first_line ahead) plain (plain_first_line ahead)) within
-      (ap (λ m. fault_of before m m) len ∙ ap (fault_of before (length line + n)) (sym (add-zero (length line + n))) ∙ as_result-err _ fault is)
+    (ap (λ m. fault_of before m m) len ∙ ap (fault_of before (length line + n)) (sym (add-zero (length line + n))) ∙ as_result-err _ fault is)
 
 -- what the next line is where the limits refuse its front: m bytes of it before the block, and n in the block
 pub refused : (before : ℕ) (line ahead rest : List ℕ) (m n : ℕ) (is_ended : Bool) (fault : LineFault) → IsPlain line → before ≤ MAX_INPUT → m ≡ length line → n ≡ length (first_line ahead) → is_ended ≡ ltb n (length ahead) →
-  as_result (fault_of before (m + n) (whole_of (m + n) is_ended)) ≡ Err fault → Answers (next_of before (line ++ (ahead ++ rest))) (Err fault)
+    as_result (fault_of before (m + n) (whole_of (m + n) is_ended)) ≡ Err fault → Answers (next_of before (line ++ (ahead ++ rest))) (Err fault)
 refused before line ahead rest m n is_ended fault plain within length_is place ended is =
     answers_err _ fault
     (refused_at before line ahead rest n is_ended fault plain within place ended
-      (subst (λ k. as_result (fault_of before (k + n) (whole_of (k + n) is_ended)) ≡ Err fault) length_is is))
+    (subst (λ k. as_result (fault_of before (k + n) (whole_of (k + n) is_ended)) ≡ Err fault) length_is is))

@@ -1,7 +1,6 @@
 -- What it means that a gathered line is handed out, over plain lists.
-use Rattle.std.proofs.Common.{◌≡◌, ◌≢◌, ◌<◌, ◌≤◌, ◌+◌, ℕ, List, [], ◌∷◌, ◌++◌, Option, Some, None, Ok, refl, sym, ap, subst, ◌∙◌, append_assoc, append-nil, add-zero, length, IfSome, option_map, arith}
+use Rattle.std.proofs.Common.{◌≡◌, ◌<◌, ◌≤◌, ◌+◌, ℕ, List, [], ◌∷◌, ◌++◌, Option, Some, None, Ok, refl, sym, ap, subst, ◌∙◌, append_assoc, append-nil, add-zero, length, IfSome, option_map, arith}
 use Rattle.std.specs.Io.KnownBytes.{prepend_known, IsAtEnd}
-use Rattle.std.proofs.lemmas.List.{nil_from_length}
 use Rattle.agg_base.specs.Cut.{newline, IsPlain, Answers, lines_of, next_of, fault_of, or_fault}
 use Rattle.agg_base.specs.declared.limits.TheConstants.{MAX_LINE, MAX_INPUT}
 use Rattle.agg_base.specs.declared.lines.LineFault.{LineFault}
@@ -42,7 +41,7 @@ module _ (before n : ℕ) (line handed : List ℕ) (plain : IsPlain line) (same 
       ap Some (ap lines_of (append_assoc line (newline ∷ []) rest) ∙ lines_of-line line rest plain ∙ ap (λ (t : List ℕ). t ∷ lines_of rest) (sym same))
 
   pub whole_lines : (old mid new : Option (List ℕ)) (left_over : List ℕ) (now : Option (List ℕ)) → old ≡ prepend_known (line ++ newline ∷ []) mid → left_over ≡ [] → now ≡ mid → new ≡ prepend_known left_over now →
-    option_map lines_of old ≡ option_map (λ rest. handed ∷ lines_of rest) new
+      option_map lines_of old ≡ option_map (λ rest. handed ∷ lines_of rest) new
   whole_lines old mid new left_over now e empty same_now is =
       ap (option_map lines_of) e ∙ whole_lines_known mid
       ∙ ap (option_map (λ rest. handed ∷ lines_of rest)) (sym (is ∙ ap (λ (t : List ℕ). prepend_known t now) empty ∙ prepend-nil now ∙ same_now))
@@ -61,12 +60,12 @@ module _ (before n : ℕ) (line handed : List ℕ) (plain : IsPlain line) (same 
   last_lines_known None end some = refl
   last_lines_known (Some rest) end some =
       ap Some (
-        ap (λ (t : List ℕ). lines_of (line ++ t)) end ∙ ap lines_of (append-nil line)
-        ∙ lines_of-last line plain (λ e. let l = ap length e in omega arith)
-        ∙ ap (λ (t : List ℕ). t ∷ []) (sym same) ∙ ap (λ (t : List ℕ). handed ∷ lines_of t) (sym end))
+      ap (λ (t : List ℕ). lines_of (line ++ t)) end ∙ ap lines_of (append-nil line)
+      ∙ lines_of-last line plain (λ e. let l = ap length e in omega arith)
+      ∙ ap (λ (t : List ℕ). t ∷ []) (sym same) ∙ ap (λ (t : List ℕ). handed ∷ lines_of t) (sym end))
 
   pub last_lines : (old mid new : Option (List ℕ)) (left_over : List ℕ) (now : Option (List ℕ)) → prepend_known line mid ≡ old → IsAtEnd mid → 0 < n → left_over ≡ [] → now ≡ mid → new ≡ prepend_known left_over now →
-    option_map lines_of old ≡ option_map (λ rest. handed ∷ lines_of rest) new
+      option_map lines_of old ≡ option_map (λ rest. handed ∷ lines_of rest) new
   last_lines old mid new left_over now e end some empty same_now is =
       ap (option_map lines_of) (sym e) ∙ last_lines_known mid end some
       ∙ ap (option_map (λ rest. handed ∷ lines_of rest)) (sym (is ∙ ap (λ (t : List ℕ). prepend_known t now) empty ∙ prepend-nil now ∙ same_now))

@@ -1,6 +1,6 @@
 -- What a source in memory gives, over plain lists.
-use Rattle.std.proofs.Common.{◌≡◌, ◌≤◌, ◌<◌, ◌+◌, ◌-◌, min, ℕ, List, [], ◌++◌, sym, ap, ◌∙◌, length, take, drop, arith}
-use Rattle.std.proofs.lemmas.List.{take_rest, take-append-drop, drop-drop, length-drop, nil_from_length}
+use Rattle.std.proofs.Common.{◌≡◌, ◌<◌, ◌+◌, ◌-◌, min, ℕ, List, [], ◌++◌, sym, ap, ◌∙◌, length, take, drop, arith}
+use Rattle.std.proofs.lemmas.List.{take_rest, take-append-drop, drop-drop, nil_from_length}
 
 -- n bytes from place g on were given, of bytes that the code sees as `seen`
 pub split_rest : (bytes seen rest front : List ℕ) (g n : ℕ) → seen ≡ bytes → drop g bytes ≡ rest → front ≡ take n (take (length seen - g) (drop g seen)) → rest ≡ front ++ drop (g + n) bytes

@@ -1,5 +1,5 @@
 -- What is left to write after one more call, over plain lists.
-use Rattle.std.proofs.Common.{◌≡◌, ◌≤◌, ◌+◌, ◌-◌, ℕ, List, ◌++◌, Option, Some, None, refl, sym, ap, subst, ◌∙◌, append_assoc, length, take, drop, arith}
+use Rattle.std.proofs.Common.{◌≡◌, ◌≤◌, ◌+◌, ◌-◌, ℕ, List, ◌++◌, Option, Some, None, refl, sym, ap, ◌∙◌, append_assoc, length, take, drop, arith}
 use Rattle.std.specs.Io.KnownBytes.{append_known}
 use Rattle.std.proofs.Math.Seq.{take-append-add}
 use Rattle.std.proofs.lemmas.List.{take_rest, take-append-drop, length-take-le, length-drop, drop-drop}
@@ -25,12 +25,12 @@ module _ (bytes rest next : List ℕ) (n : ℕ) (within : length rest ≤ length
       ∙ ap (λ k. drop k bytes) (let e : length bytes - length rest + n ≡ length bytes - length next = omega (arith, length_next) in e)
 
   pub next_taken : (first before after : Option (List ℕ)) → before ≡ append_known first (take (length bytes - length rest) bytes) → after ≡ append_known before (take n rest) →
-    after ≡ append_known first (take (length bytes - length next) bytes)
+      after ≡ append_known first (take (length bytes - length next) bytes)
   next_taken first before after told more =
       let done = length bytes - length rest in
       more ∙ ap (λ o. append_known o (take n rest)) told
       ∙ append-append first (take done bytes) (take n rest)
       ∙ ap (append_known first) (
-        ap (λ (t : List ℕ). take done bytes ++ take n t) is
-        ∙ sym (take-add bytes done n (omega arith))
-        ∙ ap (λ k. take k bytes) (let e : done + n ≡ length bytes - length next = omega (arith, length_next) in e))
+      ap (λ (t : List ℕ). take done bytes ++ take n t) is
+      ∙ sym (take-add bytes done n (omega arith))
+      ∙ ap (λ k. take k bytes) (let e : done + n ≡ length bytes - length next = omega (arith, length_next) in e))

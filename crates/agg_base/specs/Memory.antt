@@ -1,5 +1,5 @@
 -- Sources and sinks in memory: what they hold, and in which calls they fail.
-use Rattle.std.specs.Prelude.{ℕ, ◌==◌, ◌+◌, ◌-◌, ◌||◌, Bool, List, ◌++◌, length, take, drop, min, if◌then◌else◌}
+use Rattle.std.specs.Prelude.{ℕ, ◌==◌, ◌-◌, ◌||◌, Bool, List, ◌++◌, length, take, drop, min, if◌then◌else◌}
 use Rattle.std.specs.List.{list_any}
 use Rattle.agg_base.specs.Outside.{one_more}
 

@@ -9,3 +9,5 @@ pub mod memory_sink;
 pub mod memory_source;
 pub mod sink;
 pub mod source;
+#[cfg(test)]
+mod tests;

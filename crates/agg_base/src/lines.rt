@@ -108,6 +108,7 @@ fn take_piece(position: u64, line: &mut Vec<u8>, ahead: &[u8]) -> Result<usize, 
 /// The lines of a source, one after another. The first fault is kept, and there is no line after it.
 ///
 /// The place of a line in the input is the number of bytes that were handed out before it, each line with its newline.
+#[derive(Drop)]
 pub struct Lines<'a, S: Source> {
     source: &'a mut S,
     // The block that was read last, of which `start..end` is not yet used.

@@ -88,8 +88,7 @@ impl Sink for MemorySink {
         ensures never_falls { self.old.faults ≤ self.new.faults }
         ensures fault { OnErr result (Rose self.old.faults self.new.faults) }
     {
-        let is_failing = self.room == 0
-            || is_among(self.failing.as_slice(), self.calls);
+        let is_failing = self.room == 0 || is_among(self.failing.as_slice(), self.calls);
         self.calls = self.calls.saturating_add(1);
         if is_failing {
             self.faults = self.faults.saturating_add(1);

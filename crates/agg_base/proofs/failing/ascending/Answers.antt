@@ -1,4 +1,4 @@
-use Rattle.std.proofs.Common.{◌≡◌, ◌==◌, ◌∙◌, ℕ, List, sym, ap, drop, length}
+use Rattle.std.proofs.Common.{◌==◌, ◌∙◌, ℕ, List, sym, ap}
 use Rattle.std.proofs.lemmas.List.{take_at}
 use Rattle.std.proofs.lemmas.List.Sorted.{list_any-IsPermutation}
 use Rattle.agg_base.specs.Memory.{is_failing}

@@ -1,4 +1,4 @@
-use Rattle.std.proofs.Common.{◌≡◌, ◌+◌, ◌++◌, ◌∙◌, sym, ap, subst, refl, ℕ, List, take, ltb, length, arith, rules}
+use Rattle.std.proofs.Common.{◌++◌, ◌∙◌, sym, ap, subst, refl, ℕ, List, take, ltb, length, arith}
 use Rattle.std.proofs.lemmas.Result.{err_from_is_err_and}
 use Rattle.agg_base.proofs.CutLemmas.{take-first_line, plain-append, plain_first_line}
 use Rattle.agg_base.proofs.FaultLemmas.{refused}
@@ -25,6 +25,6 @@ returns-clause-plain c =
     let line = c.args.line.now.items in
     let ahead = c.args.ahead.now in
     let is = c.in_ok-extend_from_slice.ensures.items
-      ∙ ap (λ n. line ++ take n ahead) c.before_newline-place.ensures.place
-      ∙ ap (λ (t : List ℕ). line ++ t) (take-first_line ahead) in
+    ∙ ap (λ n. line ++ take n ahead) c.before_newline-place.ensures.place
+    ∙ ap (λ (t : List ℕ). line ++ t) (take-first_line ahead) in
     subst IsPlain (sym is) (plain-append line _ c.requires.plain (plain_first_line ahead))
