@@ -1,0 +1,4 @@
+pub mod Cut
+pub mod Lines
+pub mod Memory
+pub mod Outside
