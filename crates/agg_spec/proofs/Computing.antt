@@ -1,4 +1,7 @@
 -- All that unfolds when a definition runs on a value that is written out.
+use Rattle.std.specs.Fmt.{digits}
+use Rattle.serde_json.proofs.OnLiterals.{serde_json_on_literals}
+
 unfoldable pub computing : Unit {0}
 unfolding
     Rattle.agg_model.specs.declared.row.Children.TheViews.roll-Row Rattle.agg_model.specs.declared.row.Children.TheViews.roll-Children
@@ -11,5 +14,8 @@ unfolding
     Rattle.agg_model.specs.declared.partial.Node.TheBlock.shown-the_row-Bucket-1
     Rattle.agg_model.specs.declared.aggregation.Agg.TheBlock.hidden-the_row-Agg-0
     Rattle.agg_model.specs.declared.key.Key.TheBlock.hidden-the_row-Key-0 Rattle.agg_model.specs.declared.key.Key.TheBlock.shown-the_row-Key-0
+    Rattle.agg_model.specs.declared.answer.BucketAnswer.TheViews.out-NodeAnswer Rattle.agg_model.specs.declared.answer.BucketAnswer.TheViews.out-BucketAnswer
+    Rattle.agg_model.specs.declared.answer.BucketAnswer.TheBlock.shown-the_row-BucketAnswer-1
+    digits serde_json_on_literals
     denote.Hole.Carrier.out denote.Hole.Carrier.roll denote.Hole.Carrier.shown denote.Hole.Carrier.hidden
 computing = tt

@@ -39,26 +39,26 @@ leaf name k = roll-Agg (record { name = name; kind = k; children = [] })
 
 abbrev search : Search
 search = record {
-    query = query.All;
-    aggs = roll-Agg (record {
-        name = codes "by";
-        kind = kind.Terms 1 10 25 1 by_count None [] None false;
-        children = leaf (codes "h") (kind.Histogram 0 100 0 0 (record { min = None; max = None }) (record { min = None; max = None }) false by_key None) ∷ leaf (codes "s") (kind.Sum 0 None) ∷ [];
-      }) ∷ [];
-    body_bytes = 0;
-  }
+  query = query.All;
+  aggs = roll-Agg (record {
+    name = codes "by";
+    kind = kind.Terms 1 10 25 1 by_count None [] None false;
+    children = leaf (codes "h") (kind.Histogram 0 100 0 0 (record { min = None; max = None }) (record { min = None; max = None }) false by_key None) ∷ leaf (codes "s") (kind.Sum 0 None) ∷ [];
+  }) ∷ [];
+  body_bytes = 0;
+}
 
 abbrev plain : Key → ℕ → BucketAnswer
 plain k n = roll-BucketAnswer (record { key = k; count = n; error = None; children = [] })
 
 abbrev region : List ℕ → ℤ → ℤ → ℤ → BucketAnswer
 region name sum least greatest = roll-BucketAnswer (record {
-    key = key.Word name;
-    count = 10;
-    error = None;
-    children = roll-NodeAnswer (record { name = codes "h"; buckets = plain (key.Whole (pos 0)) 5 ∷ plain (key.Whole (pos 100)) 5 ∷ []; error = pos 0; other = 0; metric = no_metric })
-        ∷ roll-NodeAnswer (record { name = codes "s"; buckets = []; error = pos 0; other = 0; metric = record { count = 10; sum = sum; least = Some least; greatest = Some greatest } }) ∷ [];
-  })
+  key = key.Word name;
+  count = 10;
+  error = Some (pos 0);
+  children = roll-NodeAnswer (record { name = codes "h"; buckets = plain (key.Whole (pos 0)) 5 ∷ plain (key.Whole (pos 100)) 5 ∷ []; error = pos 0; other = 0; metric = no_metric })
+      ∷ roll-NodeAnswer (record { name = codes "s"; buckets = []; error = pos 0; other = 0; metric = record { count = 10; sum = sum; least = Some least; greatest = Some greatest } }) ∷ [];
+})
 
 row_19 : final search (whole search (map (λ s. shard search (shard_at s)) (0 ∷ 1 ∷ 2 ∷ [])))
     ≡ record { hits = 20; nodes = roll-NodeAnswer (record { name = codes "by"; buckets = region (codes "north") (pos 900) (pos 0) (pos 180) ∷ region (codes "south") (pos 1000) (pos 10) (pos 190) ∷ []; error = pos 0; other = 0; metric = no_metric }) ∷ [] }

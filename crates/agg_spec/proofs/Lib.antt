@@ -1,3 +1,4 @@
 mod Computing
 mod LargerRow
+mod Texts
 mod WorkedRows

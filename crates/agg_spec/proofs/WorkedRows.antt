@@ -20,9 +20,7 @@ use Rattle.agg_evaluation.specs.Rows.{Object, objects}
 use Rattle.agg_evaluation.specs.Shard.{shard}
 use Rattle.agg_evaluation.specs.Whole.{whole}
 use Rattle.agg_spec.specs.Final.{final, no_metric}
-
 use Rattle.agg_model.specs.declared.partial.Bucket.{out-Bucket, roll-Bucket}
-
 use Rattle.agg_evaluation.specs.Cost.{trace}
 use Rattle.agg_model.specs.declared.aggregation.Bounds.{Bounds}
 use Rattle.agg_model.specs.declared.query.Query.{Query}
@@ -39,11 +37,13 @@ doc vs = (codes "1", roll-Row (record { values = vs; children = [] }))
 
 abbrev a : List ℕ
 a = codes "a"
+
 abbrev b : List ℕ
 b = codes "b"
 
 abbrev first_shard : List Object
 first_shard = objects (doc (word a ∷ []) ∷ doc (word a ∷ []) ∷ doc (word a ∷ []) ∷ doc (word b ∷ []) ∷ doc (word b ∷ []) ∷ [])
+
 abbrev second_shard : List Object
 second_shard = objects (doc (word b ∷ []) ∷ doc (word b ∷ []) ∷ doc (word b ∷ []) ∷ doc (word a ∷ []) ∷ [])
 
@@ -61,8 +61,10 @@ bucket k n e = roll-BucketAnswer (record { key = k; count = n; error = e; childr
 
 abbrev by_count : List Order
 by_count = record { by = by.Count; descending = true } ∷ []
+
 abbrev by_key : List Order
 by_key = record { by = by.Key; descending = false } ∷ []
+
 abbrev by_rising_count : List Order
 by_rising_count = record { by = by.Count; descending = false } ∷ []
 
@@ -79,11 +81,11 @@ row_2 : two_shards (terms 1 1 by_count true) ≡ node (codes "t") (bucket (key.W
 unfolding computing
 row_2 = refl
 
-row_3 : two_shards (terms 1 1 by_key false) ≡ node (codes "t") (bucket (key.Word a) 4 None ∷ []) (pos 0) 5 ∷ []
+row_3 : two_shards (terms 1 1 by_key false) ≡ node (codes "t") (bucket (key.Word a) 4 (Some (pos 0)) ∷ []) (pos 0) 5 ∷ []
 unfolding computing
 row_3 = refl
 
-row_3_rising : two_shards (terms 1 1 by_rising_count false) ≡ node (codes "t") (bucket (key.Word a) 1 None ∷ []) (negsuc 0) 8 ∷ []
+row_3_rising : two_shards (terms 1 1 by_rising_count false) ≡ node (codes "t") (bucket (key.Word a) 1 (Some (negsuc 0)) ∷ []) (negsuc 0) 8 ∷ []
 unfolding computing
 row_3_rising = refl
 
@@ -95,11 +97,11 @@ row_4 : one_shard (terms 2 2 by_count true) (doc (word a ∷ []) ∷ doc (word a
 unfolding computing
 row_4 = refl
 
-row_5 : one_shard (terms 4 4 by_count false) five ≡ node (codes "t") (map (λ w. bucket (key.Word (w ∷ [])) 1 None) (codes "abcd")) (pos 1) 1 ∷ []
+row_5 : one_shard (terms 4 4 by_count false) five ≡ node (codes "t") (map (λ w. bucket (key.Word (w ∷ [])) 1 (Some (pos 0))) (codes "abcd")) (pos 1) 1 ∷ []
 unfolding computing
 row_5 = refl
 
-row_5_wide : one_shard (terms 3 14 by_count false) five ≡ node (codes "t") (map (λ w. bucket (key.Word (w ∷ [])) 1 None) (codes "abc")) (pos 0) 2 ∷ []
+row_5_wide : one_shard (terms 3 14 by_count false) five ≡ node (codes "t") (map (λ w. bucket (key.Word (w ∷ [])) 1 (Some (pos 0))) (codes "abc")) (pos 0) 2 ∷ []
 unfolding computing
 row_5_wide = refl
 
@@ -132,7 +134,7 @@ abbrev is_word : List ℕ → Query
 is_word w = query.Term 2 (probe.Word w)
 
 row_9 : one_shard (roll-Agg (record { name = codes "f"; kind = kind.Filters (Some (codes "x" ∷ codes "y" ∷ [])) (is_word (codes "p") ∷ is_word (codes "q") ∷ []) (Some (codes "rest")); children = [] }))
-      (doc (words (codes "pq") ∷ []) ∷ doc (words (codes "z") ∷ []) ∷ [])
+    (doc (words (codes "pq") ∷ []) ∷ doc (words (codes "z") ∷ []) ∷ [])
     ≡ node (codes "f") (bucket (key.Fixed 0) 1 None ∷ bucket (key.Fixed 1) 1 None ∷ bucket (key.Fixed 2) 1 None ∷ []) (pos 0) 0 ∷ []
 unfolding computing
 row_9 = refl
@@ -150,11 +152,11 @@ back = roll-Agg (record { name = codes "back"; kind = kind.ReverseNested 0; chil
 abbrev by_sku : Agg
 by_sku = roll-Agg (record { name = codes "by"; kind = kind.Terms 0 10 25 1 by_count None [] None false; children = back ∷ [] })
 
-abbrev parent_bucket : Key → ℕ → List NodeAnswer → BucketAnswer
-parent_bucket k n children = roll-BucketAnswer (record { key = k; count = n; error = None; children = children })
+abbrev parent_bucket : Key → ℕ → Option ℤ → List NodeAnswer → BucketAnswer
+parent_bucket k n e children = roll-BucketAnswer (record { key = k; count = n; error = e; children = children })
 
 row_10 : one_shard (roll-Agg (record { name = codes "o"; kind = kind.Nested 1; children = by_sku ∷ [] })) ((codes "1", order_row) ∷ [])
-    ≡ node (codes "o") (parent_bucket (key.Fixed 0) 2 (node (codes "by") (parent_bucket (key.Word (codes "k")) 2 (node (codes "back") (bucket (key.Fixed 0) 1 None ∷ []) (pos 0) 0 ∷ []) ∷ []) (pos 0) 0 ∷ []) ∷ []) (pos 0) 0 ∷ []
+    ≡ node (codes "o") (parent_bucket (key.Fixed 0) 2 None (node (codes "by") (parent_bucket (key.Word (codes "k")) 2 (Some (pos 0)) (node (codes "back") (bucket (key.Fixed 0) 1 None ∷ []) (pos 0) 0 ∷ []) ∷ []) (pos 0) 0 ∷ []) ∷ []) (pos 0) 0 ∷ []
 unfolding computing
 row_10 = refl
 
@@ -163,10 +165,10 @@ two = doc (words (codes "x") ∷ numbers (pos 1 ∷ pos 2 ∷ []) ∷ []) ∷ do
 
 abbrev composite : Bool → Option Key → Agg
 composite missing_bucket after = roll-Agg (record {
-    name = codes "c";
-    kind = kind.Composite (record { name = codes "k"; field = 2; interval = None; descending = false; missing_bucket = missing_bucket } ∷ record { name = codes "m"; field = 1; interval = None; descending = false; missing_bucket = false } ∷ []) 2 after;
-    children = [];
-  })
+  name = codes "c";
+  kind = kind.Composite (record { name = codes "k"; field = 2; interval = None; descending = false; missing_bucket = missing_bucket } ∷ record { name = codes "m"; field = 1; interval = None; descending = false; missing_bucket = false } ∷ []) 2 after;
+  children = [];
+})
 
 abbrev pair : ℕ → ℕ → Key
 pair w n = key.Many (key.Word (w ∷ []) ∷ key.Whole (pos n) ∷ [])

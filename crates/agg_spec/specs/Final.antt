@@ -69,17 +69,17 @@ finish_bucket children error b =
 abbrev pub no_metric : Metric
 no_metric = metric_sum []
 
-abbrev pub finish_terms : List ℕ → List Finisher → ℕ → ℕ → List Order → Bool → Parts → NodeAnswer
-finish_terms name children size min_doc_count order show_error p =
+abbrev pub finish_terms : List ℕ → List Finisher → ℕ → ℕ → List Order → Parts → NodeAnswer
+finish_terms name children size min_doc_count order p =
     let ordered = sorted (bucket_cmp (map (λ c. c.kind) children) order) (filter (λ b. nat_le min_doc_count (bucket_count b)) p.buckets) in
     let error_of = λ (covered : ℕ). count_error (errors_of order) p.error covered p.full in
     roll-NodeAnswer (record {
-        name = name;
-        buckets = map (λ b. finish_bucket children (if show_error then Some (error_of b.covered) else None) b) (take size ordered);
-        error = error_of 0;
-        other = p.cut + sum_by bucket_count (drop size ordered);
-        metric = no_metric;
-      })
+      name = name;
+      buckets = map (λ b. finish_bucket children (Some (error_of b.covered)) b) (take size ordered);
+      error = error_of 0;
+      other = p.cut + sum_by bucket_count (drop size ordered);
+      metric = no_metric;
+    })
 
 -- a bucket of no objects
 abbrev pub empty_bucket : List Finisher → Key → Bucket
@@ -106,9 +106,9 @@ is_present (n ∷ ns) extended = true
 abbrev pub filled_keys : ℕ → ℕ → Bounds → Bounds → List ℤ → List Key
 filled_keys interval offset extended hard ns =
     if is_present ns extended then
-      filter (is_between hard) (map Whole (steps_between interval
-          (reduce int_min (ns ++ option_to_list (option_map (rounded interval offset) extended.min)))
-          (reduce int_max (ns ++ option_to_list (option_map (rounded interval offset) extended.max)))))
+    filter (is_between hard) (map Whole (steps_between interval
+    (reduce int_min (ns ++ option_to_list (option_map (rounded interval offset) extended.min)))
+    (reduce int_max (ns ++ option_to_list (option_map (rounded interval offset) extended.max)))))
     else []
 
 abbrev pub histogram_buckets : List Finisher → ℕ → ℕ → ℕ → Bounds → Bounds → List Bucket → List Bucket
@@ -122,7 +122,7 @@ finish_buckets name children buckets =
 
 abbrev pub finish_at : List ℕ → List Finisher → Kind → Parts → NodeAnswer
 finish_at name children (kind.Terms field size shard_size min_doc_count order include exclude missing show_error) p =
-    finish_terms name children size min_doc_count order show_error p
+    finish_terms name children size min_doc_count order p
 finish_at name children (kind.Histogram field interval offset min_doc_count extended hard keyed order missing) p =
     finish_buckets name children (sorted (bucket_cmp (map (λ c. c.kind) children) order) (histogram_buckets children interval offset min_doc_count extended hard p.buckets))
 finish_at name children (kind.Composite sources size after) p =
@@ -131,10 +131,10 @@ finish_at name children _ p = roll-NodeAnswer (record { name = name; buckets = m
 
 abbrev pub finisher_of : Agg-F Finisher → Finisher
 finisher_of a = record {
-    kind = a.kind;
-    empty = whole_by (map (λ c. c.empty) a.children) a.kind (shape_of a.kind);
-    finish = λ n. finish_at a.name a.children a.kind (parts n);
-  }
+  kind = a.kind;
+  empty = whole_by (map (λ c. c.empty) a.children) a.kind (shape_of a.kind);
+  finish = λ n. finish_at a.name a.children a.kind (parts n);
+}
 
 abbrev pub finisher : Agg → Finisher
 finisher = fold_agg finisher_of

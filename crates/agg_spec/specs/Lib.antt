@@ -1,1 +1,9 @@
 pub mod Final
+pub mod Json
+pub mod Average
+pub mod AnswerTree
+pub mod Response
+pub mod BulkLine
+pub mod ErrorLines
+pub mod EndLines
+pub mod StatisticsLine

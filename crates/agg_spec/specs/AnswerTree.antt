@@ -1,0 +1,117 @@
+-- The JSON tree of an answer (the response bodies of 'Aggregations').
+use Rattle.std.specs.Prelude.{ℕ, ℤ, Bool, true, false, if◌then◌else◌, List, [], ◌∷◌, ◌++◌, map, flat_map, zip, Option, Some, None, option_to_list, codes}
+use Rattle.std.specs.List.{last_or}
+use Rattle.std.specs.Option.{option_map_or}
+use Rattle.std.specs.Fmt.{signed_decimal}
+use Rattle.serde_json.specs.Data.{Data, null, boolean, string}
+use Rattle.agg_model.specs.declared.key.Key.{Key, out-Key}
+use Rattle.agg_model.specs.declared.key.Key.TheOpen.{Key-F}
+use Rattle.agg_model.specs.declared.key.Key.TheVariants as key
+use Rattle.agg_model.specs.declared.answer.BucketAnswer.{BucketAnswer, out-BucketAnswer}
+use Rattle.agg_model.specs.declared.answer.NodeAnswer.{NodeAnswer, out-NodeAnswer}
+use Rattle.agg_model.specs.declared.answer.BucketAnswer.TheOpen.{NodeAnswer-F}
+use Rattle.agg_model.specs.declared.aggregation.Kind.{Kind}
+use Rattle.agg_model.specs.declared.aggregation.Kind.TheVariants as kind
+use Rattle.agg_model.specs.declared.aggregation.CompositeSource.{CompositeSource}
+use Rattle.agg_model.specs.declared.aggregation.Agg.{Agg}
+use Rattle.agg_model.specs.declared.aggregation.Agg.TheOpen.{Agg-F}
+use Rattle.agg_evaluation.specs.Folds.{fold_agg}
+use Rattle.agg_spec.specs.Json.{Member, object_of, array_of, count, whole_number}
+use Rattle.agg_spec.specs.Average.{average}
+
+-- the tree of an answer to one aggregation
+abbrev pub Printer : Type 0
+Printer = NodeAnswer → Data
+
+-- the answers to the aggregations, each under its name
+abbrev pub named_answers : List Printer → List NodeAnswer → List Member
+named_answers [] nodes = []
+named_answers (p ∷ ps) [] = []
+named_answers (p ∷ ps) (n ∷ ns) = ((out-NodeAnswer n).name, p n) ∷ named_answers ps ns
+
+abbrev pub flag_text : Bool → List ℕ
+flag_text b = if b then codes "true" else codes "false"
+
+-- the key of a bucket of terms; a truth value has a number and a text
+abbrev pub term_members : Key → List Member
+term_members (key.Whole n) = (codes "key", whole_number n) ∷ []
+term_members (key.Word w) = (codes "key", string w) ∷ []
+term_members (key.Flag b) = (codes "key", count (if b then 1 else 0)) ∷ (codes "key_as_string", string (flag_text b)) ∷ []
+term_members _ = (codes "key", null) ∷ []
+
+abbrev pub error_members : Bool → Option ℤ → List Member
+error_members true (Some error) = (codes "doc_count_error_upper_bound", whole_number error) ∷ []
+error_members _ _ = []
+
+abbrev pub key_number : Key → List ℕ
+key_number (key.Whole n) = signed_decimal n
+key_number _ = []
+
+-- one part of a composite key
+abbrev pub part_value : Key → Data
+part_value (key.Whole n) = whole_number n
+part_value (key.Word w) = string w
+part_value (key.Flag b) = boolean b
+part_value _ = null
+
+abbrev pub named_parts : List CompositeSource → Key-F Key → List Member
+named_parts sources (Key-F.Many ks) = map (λ p. (p.0.name, part_value p.1)) (zip sources ks)
+named_parts sources _ = []
+
+-- a composite key, each part under the name of its source
+abbrev pub composite_value : List CompositeSource → Key → Data
+composite_value sources k = object_of (named_parts sources (out-Key k))
+
+-- the number of documents of a bucket, members of its kind, and the answers below it
+abbrev pub bucket_members : List Printer → List Member → BucketAnswer → List Member
+bucket_members children own b = (codes "doc_count", count (out-BucketAnswer b).count) ∷ (own ++ named_answers children (out-BucketAnswer b).children)
+
+abbrev pub term_bucket : List Printer → Bool → BucketAnswer → Data
+term_bucket children show_error b =
+    object_of (bucket_members children (term_members (out-BucketAnswer b).key ++ error_members show_error (out-BucketAnswer b).error) b)
+
+abbrev pub number_bucket : List Printer → BucketAnswer → Data
+number_bucket children b = object_of (bucket_members children (term_members (out-BucketAnswer b).key) b)
+
+abbrev pub plain_bucket : List Printer → BucketAnswer → Data
+plain_bucket children b = object_of (bucket_members children [] b)
+
+abbrev pub composite_bucket : List CompositeSource → List Printer → BucketAnswer → Data
+composite_bucket sources children b = object_of (bucket_members children ((codes "key", composite_value sources (out-BucketAnswer b).key) ∷ []) b)
+
+-- the last bucket's key, where there is a bucket
+abbrev pub after_key : List CompositeSource → List BucketAnswer → List Member
+after_key sources buckets = option_map_or (λ b. (codes "after_key", composite_value sources (out-BucketAnswer b).key) ∷ []) (last_or None buckets) []
+
+-- the buckets by name where there are names, else as a list
+abbrev pub filter_buckets : List Printer → Option (List (List ℕ)) → Option (List ℕ) → List BucketAnswer → Data
+filter_buckets children (Some names) other buckets = object_of (map (λ b. (b.0, plain_bucket children b.1)) (zip (names ++ option_to_list other) buckets))
+filter_buckets children None other buckets = array_of (map (plain_bucket children) buckets)
+
+abbrev pub histogram_buckets : List Printer → Bool → List BucketAnswer → Data
+histogram_buckets children true buckets = object_of (map (λ b. (key_number (out-BucketAnswer b).key, number_bucket children b)) buckets)
+histogram_buckets children false buckets = array_of (map (number_bucket children) buckets)
+
+abbrev pub value_of : Option ℤ → Data
+value_of = λ n. option_map_or whole_number n null
+
+abbrev pub tree_at : List Printer → Kind → NodeAnswer-F BucketAnswer NodeAnswer → Data
+tree_at children (kind.Terms field size shard_size min_doc_count order include exclude missing show_error) n = object_of (
+    (codes "buckets", array_of (map (term_bucket children show_error) n.buckets))
+    ∷ (codes "doc_count_error_upper_bound", whole_number n.error)
+    ∷ (codes "sum_other_doc_count", count n.other) ∷ [])
+tree_at children (kind.Histogram field interval offset min_doc_count extended hard keyed order missing) n =
+    object_of ((codes "buckets", histogram_buckets children keyed n.buckets) ∷ [])
+tree_at children (kind.Filters names filters other) n = object_of ((codes "buckets", filter_buckets children names other n.buckets) ∷ [])
+tree_at children (kind.Composite sources size after) n =
+    object_of (after_key sources n.buckets ++ (codes "buckets", array_of (map (composite_bucket sources children) n.buckets)) ∷ [])
+tree_at children (kind.Sum field missing) n = object_of ((codes "value", whole_number n.metric.sum) ∷ [])
+tree_at children (kind.Min field missing) n = object_of ((codes "value", value_of n.metric.least) ∷ [])
+tree_at children (kind.Max field missing) n = object_of ((codes "value", value_of n.metric.greatest) ∷ [])
+tree_at children (kind.Avg field missing) n = object_of (
+    (codes "count", count n.metric.count) ∷ (codes "sum", whole_number n.metric.sum) ∷ (codes "value_as_string", average n.metric.sum n.metric.count) ∷ [])
+tree_at children (kind.ValueCount field missing) n = object_of ((codes "value", count n.metric.count) ∷ [])
+tree_at children _ n = object_of (flat_map (bucket_members children []) n.buckets)
+
+abbrev pub printer : Agg → Printer
+printer = fold_agg (λ a n. tree_at a.children a.kind (out-NodeAnswer n))
