@@ -8,6 +8,8 @@ unfolding
     Rattle.agg_model.specs.declared.answer.BucketAnswer.TheViews.roll-NodeAnswer Rattle.agg_model.specs.declared.answer.BucketAnswer.TheViews.roll-BucketAnswer
     Rattle.agg_model.specs.declared.aggregation.Agg.TheViews.roll-Agg Rattle.agg_model.specs.declared.aggregation.Agg.TheViews.out-Agg
     Rattle.agg_model.specs.declared.partial.Node.TheViews.out-Node Rattle.agg_model.specs.declared.partial.Node.TheViews.roll-Node
+    Rattle.agg_model.specs.declared.query.Query.TheViews.out-Query Rattle.agg_model.specs.declared.query.Query.TheViews.roll-Query
+    Rattle.agg_model.specs.declared.query.Query.TheBlock.hidden-the_row-Query-0 Rattle.agg_model.specs.declared.query.Query.TheBlock.hidden-the_row-Query-1
     Rattle.agg_model.specs.declared.key.Key.TheViews.out-Key Rattle.agg_model.specs.declared.key.Key.TheViews.roll-Key
     Rattle.agg_model.specs.declared.row.Children.TheBlock.hidden-the_row-Children-1
     Rattle.agg_model.specs.declared.answer.BucketAnswer.TheBlock.hidden-the_row-BucketAnswer-1

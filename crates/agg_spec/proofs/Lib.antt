@@ -1,4 +1,11 @@
+mod CompositeExamples
 mod Computing
-mod LargerRow
+mod FilterExamples
+mod HistogramExamples
+mod LargerExamples
+mod MetricExamples
+mod NestedExamples
+mod OrderExamples
+mod Samples
+mod TermsExamples
 mod Texts
-mod WorkedRows

@@ -1,8 +1,14 @@
+pub mod CountErrors
+pub mod Filling
 pub mod Final
+pub mod BucketCount
+pub mod RangeCheck
+pub mod Index
 pub mod Json
 pub mod Average
 pub mod AnswerTree
 pub mod Response
+pub mod Outcome
 pub mod BulkLine
 pub mod ErrorLines
 pub mod EndLines

@@ -1,0 +1,59 @@
+-- The buckets of a histogram: those with few documents are left out, or the gaps between them are filled ('Histogram
+-- aggregation', minimum document count, `extended_bounds`, `hard_bounds`).
+use Rattle.std.specs.Prelude.{ℕ, ℤ, pos, ◌+ℤ◌, ◌-ℤ◌, ◌*ℤ◌, ◌+◌, ◌==◌, ◌&&◌, nat_le, int_le, Bool, true, false, if◌then◌else◌, List, [], ◌∷◌, ◌++◌, map, filter, filter_map, Option, Some, None, is_some, option_map, option_to_list, unwrap_or, find, unsigned_abs}
+use Rattle.std.specs.List.{reduce, range_with_len}
+use Rattle.std.specs.Int.{int_min, int_max, int_div_euclid}
+use Rattle.agg_model.specs.declared.key.Key.{Key}
+use Rattle.agg_model.specs.declared.key.Key.TheVariants.{Whole}
+use Rattle.agg_model.specs.declared.partial.Bucket.{Bucket}
+use Rattle.agg_model.specs.declared.aggregation.Bounds.{Bounds}
+use Rattle.agg_evaluation.specs.KeyOrder.{key_eq}
+use Rattle.agg_evaluation.specs.Orders.{bucket_key, bucket_count}
+use Rattle.agg_evaluation.specs.Keys.{interval_start, is_between}
+
+abbrev pub number_of_key : Key → Option ℤ
+number_of_key (Whole n) = Some n
+number_of_key _ = None
+
+-- from the first number to the second in steps of the interval
+abbrev pub steps_between : ℕ → Option ℤ → Option ℤ → List ℤ
+steps_between interval (Some least) (Some greatest) =
+    if int_le least greatest then
+    map (λ i. least +ℤ pos i *ℤ pos interval) (range_with_len 0 (unsigned_abs (int_div_euclid (greatest -ℤ least) (pos interval)) + 1))
+    else []
+steps_between interval _ _ = []
+
+-- the least of the numbers and of the key of the lower bound
+abbrev pub least_key : ℕ → ℕ → Bounds → List ℤ → Option ℤ
+least_key interval offset extended ns = reduce int_min (ns ++ option_to_list (option_map (interval_start interval offset) extended.min))
+
+-- the greatest of the numbers and of the key of the upper bound
+abbrev pub greatest_key : ℕ → ℕ → Bounds → List ℤ → Option ℤ
+greatest_key interval offset extended ns = reduce int_max (ns ++ option_to_list (option_map (interval_start interval offset) extended.max))
+
+-- where no bucket has a document, there are buckets only where both bounds are given
+abbrev pub has_buckets : Bounds → List ℤ → Bool
+has_buckets extended [] = is_some extended.min && is_some extended.max
+has_buckets extended (n ∷ ns) = true
+
+-- All keys from the least to the greatest. Each bound of `extended_bounds` widens its own side alone; `hard_bounds` cut keys.
+abbrev pub filled_keys : ℕ → ℕ → Bounds → Bounds → List ℤ → List Key
+filled_keys interval offset extended hard ns =
+    if has_buckets extended ns then
+    filter (is_between hard) (map Whole (steps_between interval (least_key interval offset extended ns) (greatest_key interval offset extended ns)))
+    else []
+
+-- the bucket of the key, or an empty one
+abbrev pub bucket_at : (Key → Bucket) → List Bucket → Key → Bucket
+bucket_at empty buckets key = unwrap_or (find (λ b. key_eq key (bucket_key b)) buckets) (empty key)
+
+-- the buckets with enough documents
+abbrev pub frequent : ℕ → List Bucket → List Bucket
+frequent min_doc_count buckets = filter (λ b. nat_le min_doc_count (bucket_count b)) buckets
+
+-- with a minimum of 0 the gaps are filled, with a higher one buckets below it are left out
+abbrev pub filled : (Key → Bucket) → ℕ → ℕ → ℕ → Bounds → Bounds → List Bucket → List Bucket
+filled empty interval offset min_doc_count extended hard buckets =
+    if min_doc_count == 0 then
+    map (bucket_at empty buckets) (filled_keys interval offset extended hard (filter_map (λ b. number_of_key (bucket_key b)) buckets))
+    else frequent min_doc_count buckets
