@@ -3,9 +3,9 @@ mod Computing
 mod FilterExamples
 mod HistogramExamples
 mod LargerExamples
+mod LineExamples
 mod MetricExamples
 mod NestedExamples
 mod OrderExamples
 mod Samples
 mod TermsExamples
-mod Texts
