@@ -7,5 +7,6 @@ mod LineExamples
 mod MetricExamples
 mod NestedExamples
 mod OrderExamples
+mod OutcomeExamples
 mod Samples
 mod TermsExamples
