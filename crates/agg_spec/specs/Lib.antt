@@ -9,6 +9,10 @@ pub mod Average
 pub mod AnswerTree
 pub mod Response
 pub mod Outcome
+pub mod Charges
+pub mod Solo
+pub mod Wave
+pub mod Granted
 pub mod BulkLine
 pub mod ErrorLines
 pub mod EndLines
