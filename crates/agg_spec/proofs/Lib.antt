@@ -9,4 +9,6 @@ mod NestedExamples
 mod OrderExamples
 mod OutcomeExamples
 mod Samples
+mod SoloExamples
 mod TermsExamples
+mod WaveExamples

@@ -25,6 +25,10 @@ merge_charge _ = 0
 abbrev pub least_merge_charge : ℕ → ℕ → List ℕ → ℕ
 least_merge_charge batch result costs = if nat_lt batch (length costs) then sum costs - greatest_of costs + result else merge_charge costs
 
+-- what a wave is granted at inflight requests
+abbrev pub spent_on_bodies : List Request → ℕ
+spent_on_bodies = sum_by (λ r. 2 * r.bytes)
+
 module _ (settings : Settings) (index : Index) where
   abbrev pub spent_by : Option Search → ℕ
   spent_by None = 0
@@ -33,10 +37,6 @@ module _ (settings : Settings) (index : Index) where
   abbrev pub least_by : Option Search → ℕ
   least_by None = 0
   least_by (Some search) = gross_sum index search + least_merge_charge settings.batch (result_cost index (Some search)) (task_costs index search)
-
-  -- what a wave is granted at inflight requests
-  abbrev pub spent_on_bodies : List Request → ℕ
-  spent_on_bodies = sum_by (λ r. 2 * r.bytes)
 
   -- what a wave is granted at request where each search has one batch
   abbrev pub spent_on_searches : List Request → ℕ

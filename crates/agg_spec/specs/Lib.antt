@@ -13,7 +13,14 @@ pub mod Charges
 pub mod Solo
 pub mod Wave
 pub mod Granted
+pub mod Pages
+pub mod Columns
+pub mod Generator
+pub mod Statistics
+pub mod Requests
+pub mod Answers
 pub mod BulkLine
 pub mod ErrorLines
 pub mod EndLines
 pub mod StatisticsLine
+pub mod Output

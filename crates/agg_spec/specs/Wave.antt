@@ -1,6 +1,6 @@
 -- What may be answered when several searches run side by side with many workers: the answers of a wave ('Multi search API';
 -- 'Circuit breaker settings'). Their charges may meet at the breakers in any order.
-use Rattle.std.specs.Prelude.{◌≡◌, ◌≢◌, ◌⊎◌, ◌≤◌, ◌<◌, ⊤, ℕ, ◌+◌, ◌*◌, ◌==◌, if◌then◌else◌, IsTrue, Bool, true, false, List, [], ◌∷◌, map, length, sum, sum_by, Option, Some, None, Result, Ok, Err, All, unsigned_abs}
+use Rattle.std.specs.Prelude.{◌≡◌, ◌⊎◌, ◌≤◌, ◌<◌, ⊤, ℕ, ◌+◌, ◌*◌, ◌==◌, if◌then◌else◌, IsTrue, Bool, true, false, List, [], ◌∷◌, map, length, sum, sum_by, Option, Some, None, is_some, Result, Ok, Err, All, unsigned_abs}
 use Rattle.agg_model.specs.declared.breaker.Child.TheVariants.{Inflight}
 use Rattle.agg_model.specs.declared.breaker.Which.TheVariants.{Request as AtRequest, Parent as AtParent}
 use Rattle.agg_model.specs.declared.breaker.Tripped.{Tripped}
@@ -83,7 +83,7 @@ module _ (settings : Settings) (index : Index) (held : ℕ) where
 
   -- a breaker refused a charge of a task, a merge or the response: the total was seen above its limit and within the ceiling
   pub record IsSeenTrip (ceiling : ℕ) (request : Request) (t : Tripped) : Type 0 where
-    pub runs : running_search settings index request ≢ None
+    pub runs : IsTrue (is_some (running_search settings index request))
     pub breaker : (t.which ≡ AtRequest) ⊎ (t.which ≡ AtParent)
     pub limit : t.limit ≡ limit_at t.which settings.limits
     pub above : t.limit < t.wanted

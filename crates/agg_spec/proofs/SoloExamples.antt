@@ -1,0 +1,195 @@
+-- Solo runs, computed: charges and holds, the first refused charge, and the statistics after it.
+use Rattle.std.specs.Prelude.{◌≡◌, refl, ℕ, pos, negsuc, true, false, List, [], ◌∷◌, Some, None, codes}
+use Rattle.agg_model.specs.declared.key.Key.TheVariants as key
+use Rattle.agg_model.specs.declared.row.Scalar.TheVariants as scalar
+use Rattle.agg_model.specs.declared.row.Row.{Row}
+use Rattle.agg_model.specs.declared.query.Query.TheVariants as query
+use Rattle.agg_model.specs.declared.query.Probe.TheVariants as probe
+use Rattle.agg_model.specs.declared.query.RangeOp.TheVariants as range
+use Rattle.agg_model.specs.declared.aggregation.Bounds.{Bounds}
+use Rattle.agg_model.specs.declared.aggregation.CompositeSource.{CompositeSource}
+use Rattle.agg_model.specs.declared.aggregation.Kind.TheVariants as kind
+use Rattle.agg_model.specs.declared.aggregation.Order.{Order}
+use Rattle.agg_model.specs.declared.aggregation.OrderBy.TheVariants as by
+use Rattle.agg_evaluation.specs.Keys.{no_bounds}
+use Rattle.agg_spec.specs.Index.{Index}
+use Rattle.agg_spec.proofs.Samples.{flags, numbers, words, row, parent_row, nested_at, item, index, one_shard, items_index, by_count, by_key, agg, leaf, search_of, aggregations_text}
+use Rattle.std.specs.Prelude.{◌+◌, ◌*◌, ◌≤◌, zero, suc, All, ℤ, Bool, IsTrue, map, length, Ok, Err, ⊤}
+use Rattle.std.proofs.Common.{inl, lit<, lit≤, arith}
+use Rattle.agg_model.specs.declared.aggregation.Search.{Search}
+use Rattle.agg_model.specs.declared.breaker.Limits.{Limits}
+use Rattle.agg_model.specs.declared.breaker.Tripped.{Tripped}
+use Rattle.agg_model.specs.declared.breaker.Which.TheVariants as which
+use Rattle.agg_model.specs.declared.settings.Settings.{Settings}
+use Rattle.agg_model.specs.declared.outcome.Outcome.{Outcome}
+use Rattle.agg_model.specs.declared.outcome.Outcome.TheVariants as ended
+use Rattle.agg_model.specs.declared.outcome.Refused.TheVariants as refused
+use Rattle.agg_evaluation.specs.Trace.{trace, peak, gross}
+use Rattle.agg_spec.specs.Index.{rows_by_shard}
+use Rattle.agg_spec.specs.Outcome.{Request, outcome}
+use Rattle.agg_spec.specs.Charges.{Amounts}
+use Rattle.agg_spec.specs.Solo.{batches, solo_outcome, solo_holds, solo_run}
+use Rattle.agg_spec.specs.Columns.{columns_charge, columns_refusal}
+use Rattle.agg_spec.specs.Statistics.{solo_totals}
+use Rattle.agg_spec.specs.StatisticsLine.{statistics_line}
+use Rattle.agg_spec.specs.Wave.{wave_ceiling, MayAnswerWave}
+use Rattle.agg_spec.specs.Granted.{spent_on_bodies, spent_on_searches, least_on_searches}
+use Rattle.agg_spec.specs.Pages.{pages, EachPage}
+use Rattle.agg_spec.proofs.Computing.{computing}
+
+abbrev default_limits : Limits
+default_limits = record { request = 644245094; fielddata = 429496729; inflight = 1073741824; parent = 751619276 }
+
+-- one worker that runs one search at a time
+abbrev settings : Limits → Settings
+settings limits = record { workers = 1; batch = 512; width = 1; limits = limits; max_buckets = 65536; scan = false; generate = None }
+
+abbrev request_limit : ℕ → Settings
+request_limit n = settings (record default_limits { request = n })
+
+abbrev request : ℕ → Search → Request
+request bytes search = record { bytes = bytes; search = Ok search }
+
+-- the terms of t in a body of 38 bytes
+abbrev terms : Request
+terms = request 38 (search_of query.All (leaf (codes "t") (kind.Terms 2 10 25 1 by_count None [] None false) ∷ []))
+
+abbrev no_documents : Index
+no_documents = one_shard []
+
+abbrev two_words : Index
+two_words = one_shard (row (words (codes "a" ∷ []) ∷ []) ∷ row (words (codes "b" ∷ []) ∷ []) ∷ [])
+
+abbrev two_shards : Index
+two_shards = index ((row (words (codes "a" ∷ []) ∷ []) ∷ row (words (codes "a" ∷ []) ∷ []) ∷ row (words (codes "a" ∷ []) ∷ []) ∷ row (words (codes "b" ∷ []) ∷ []) ∷ row (words (codes "b" ∷ []) ∷ []) ∷ []) ∷ (row (words (codes "b" ∷ []) ∷ []) ∷ row (words (codes "b" ∷ []) ∷ []) ∷ row (words (codes "b" ∷ []) ∷ []) ∷ row (words (codes "a" ∷ []) ∷ []) ∷ []) ∷ [])
+
+abbrev seven_shards : Index
+seven_shards = index ((row (words (codes "a" ∷ []) ∷ []) ∷ row (words (codes "a" ∷ []) ∷ []) ∷ row (words (codes "a" ∷ []) ∷ []) ∷ row (words (codes "b" ∷ []) ∷ []) ∷ []) ∷ (row (words (codes "a" ∷ []) ∷ []) ∷ row (words (codes "b" ∷ []) ∷ []) ∷ []) ∷ (row (words (codes "a" ∷ []) ∷ []) ∷ row (words (codes "b" ∷ []) ∷ []) ∷ row (words (codes "b" ∷ []) ∷ []) ∷ []) ∷ (row (words (codes "a" ∷ []) ∷ []) ∷ row (words (codes "a" ∷ []) ∷ []) ∷ row (words (codes "a" ∷ []) ∷ []) ∷ []) ∷ (row (words (codes "a" ∷ []) ∷ []) ∷ row (words (codes "b" ∷ []) ∷ []) ∷ row (words (codes "b" ∷ []) ∷ []) ∷ row (words (codes "b" ∷ []) ∷ []) ∷ []) ∷ (row (words (codes "a" ∷ []) ∷ []) ∷ row (words (codes "b" ∷ []) ∷ []) ∷ []) ∷ (row (words (codes "a" ∷ []) ∷ []) ∷ row (words (codes "a" ∷ []) ∷ []) ∷ []) ∷ [])
+
+columns_of_two_words : columns_charge two_words ≡ 19
+unfolding computing
+columns_of_two_words = refl
+
+columns_of_two_shards : columns_charge two_shards ≡ 79
+unfolding computing
+columns_of_two_shards = refl
+
+columns_beyond_a_limit : columns_refusal (record default_limits { fielddata = 18 }) 19 ≡ Some (record { which = which.Fielddata; wanted = 19; limit = 18 })
+unfolding computing
+columns_beyond_a_limit = refl
+
+columns_at_a_limit : columns_refusal (record default_limits { fielddata = 19 }) 19 ≡ None
+unfolding computing
+columns_at_a_limit = refl
+
+columns_beyond_the_parent : columns_refusal (record default_limits { parent = 0 }) 19 ≡ Some (record { which = which.Parent; wanted = 19; limit = 0 })
+unfolding computing
+columns_beyond_the_parent = refl
+
+statistics_of_no_documents :
+    statistics_line (solo_totals (settings default_limits) no_documents 0 (terms ∷ []))
+    ≡ codes "{\"breakers\":{\"fielddata\":{\"estimated_size_in_bytes\":0,\"granted_size_in_bytes\":0,\"limit_size_in_bytes\":429496729,\"overhead_percent\":103,\"tripped\":0},\"inflight_requests\":{\"estimated_size_in_bytes\":0,\"granted_size_in_bytes\":76,\"limit_size_in_bytes\":1073741824,\"overhead_percent\":200,\"tripped\":0},\"parent\":{\"estimated_size_in_bytes\":0,\"granted_size_in_bytes\":4949,\"limit_size_in_bytes\":751619276,\"overhead_percent\":100,\"tripped\":0},\"request\":{\"estimated_size_in_bytes\":0,\"granted_size_in_bytes\":4873,\"limit_size_in_bytes\":644245094,\"overhead_percent\":100,\"tripped\":0}}}"
+unfolding computing
+statistics_of_no_documents = refl
+
+-- the body, the empty result, two terms, the result alone, the response, and all given back
+holds_of_two_words :
+    map (λ a. a.request) (solo_holds (settings default_limits) two_words 19 terms) ≡ 0 ∷ 4608 ∷ 4737 ∷ 4866 ∷ 770 ∷ 1086 ∷ 0 ∷ 0 ∷ []
+unfolding computing
+holds_of_two_words = refl
+
+holds_at_the_parent :
+    map (λ a. a.parent) (solo_holds (settings default_limits) two_words 19 terms) ≡ 95 ∷ 4703 ∷ 4832 ∷ 4961 ∷ 865 ∷ 1181 ∷ 95 ∷ 19 ∷ []
+unfolding computing
+holds_at_the_parent = refl
+
+abbrev trips_at : ℕ → ℕ → Type 0
+trips_at limit wanted = solo_outcome (request_limit limit) two_words 19 terms ≡ ended.Tripped (record { which = which.Request; wanted = wanted; limit = limit })
+
+request_limit_of_0 : trips_at 0 4608
+unfolding computing
+request_limit_of_0 = refl
+
+request_limit_of_4607 : trips_at 4607 4608
+unfolding computing
+request_limit_of_4607 = refl
+
+request_limit_of_4608 : trips_at 4608 4737
+unfolding computing
+request_limit_of_4608 = refl
+
+request_limit_of_4736 : trips_at 4736 4737
+unfolding computing
+request_limit_of_4736 = refl
+
+request_limit_of_4737 : trips_at 4737 4866
+unfolding computing
+request_limit_of_4737 = refl
+
+request_limit_of_4865 : trips_at 4865 4866
+unfolding computing
+request_limit_of_4865 = refl
+
+-- the response
+request_limit_of_4866 : solo_outcome (request_limit 4866) two_words 19 terms ≡ outcome two_words 65536 terms
+unfolding computing
+request_limit_of_4866 = refl
+
+statistics_after_a_refused_task :
+    statistics_line (solo_totals (request_limit 4865) two_words 19 (terms ∷ []))
+    ≡ codes "{\"breakers\":{\"fielddata\":{\"estimated_size_in_bytes\":19,\"granted_size_in_bytes\":19,\"limit_size_in_bytes\":429496729,\"overhead_percent\":103,\"tripped\":0},\"inflight_requests\":{\"estimated_size_in_bytes\":0,\"granted_size_in_bytes\":76,\"limit_size_in_bytes\":1073741824,\"overhead_percent\":200,\"tripped\":0},\"parent\":{\"estimated_size_in_bytes\":19,\"granted_size_in_bytes\":4832,\"limit_size_in_bytes\":751619276,\"overhead_percent\":100,\"tripped\":0},\"request\":{\"estimated_size_in_bytes\":0,\"granted_size_in_bytes\":4737,\"limit_size_in_bytes\":4865,\"overhead_percent\":100,\"tripped\":1}}}"
+unfolding computing
+statistics_after_a_refused_task = refl
+
+statistics_after_a_response :
+    statistics_line (solo_totals (request_limit 4866) two_words 19 (terms ∷ []))
+    ≡ codes "{\"breakers\":{\"fielddata\":{\"estimated_size_in_bytes\":19,\"granted_size_in_bytes\":19,\"limit_size_in_bytes\":429496729,\"overhead_percent\":103,\"tripped\":0},\"inflight_requests\":{\"estimated_size_in_bytes\":0,\"granted_size_in_bytes\":76,\"limit_size_in_bytes\":1073741824,\"overhead_percent\":200,\"tripped\":0},\"parent\":{\"estimated_size_in_bytes\":19,\"granted_size_in_bytes\":5277,\"limit_size_in_bytes\":751619276,\"overhead_percent\":100,\"tripped\":0},\"request\":{\"estimated_size_in_bytes\":0,\"granted_size_in_bytes\":5182,\"limit_size_in_bytes\":4866,\"overhead_percent\":100,\"tripped\":0}}}"
+unfolding computing
+statistics_after_a_response = refl
+
+refused_by_the_parent :
+    solo_outcome (settings (record default_limits { parent = 95 })) two_words 19 terms ≡ ended.Tripped (record { which = which.Parent; wanted = 4703; limit = 95 })
+unfolding computing
+refused_by_the_parent = refl
+
+statistics_after_a_refusal_by_the_parent :
+    statistics_line (solo_totals (settings (record default_limits { parent = 95 })) two_words 19 (terms ∷ []))
+    ≡ codes "{\"breakers\":{\"fielddata\":{\"estimated_size_in_bytes\":19,\"granted_size_in_bytes\":19,\"limit_size_in_bytes\":429496729,\"overhead_percent\":103,\"tripped\":0},\"inflight_requests\":{\"estimated_size_in_bytes\":0,\"granted_size_in_bytes\":76,\"limit_size_in_bytes\":1073741824,\"overhead_percent\":200,\"tripped\":0},\"parent\":{\"estimated_size_in_bytes\":19,\"granted_size_in_bytes\":95,\"limit_size_in_bytes\":95,\"overhead_percent\":100,\"tripped\":1},\"request\":{\"estimated_size_in_bytes\":0,\"granted_size_in_bytes\":0,\"limit_size_in_bytes\":644245094,\"overhead_percent\":100,\"tripped\":0}}}"
+unfolding computing
+statistics_after_a_refusal_by_the_parent = refl
+
+refused_body :
+    solo_outcome (settings (record default_limits { parent = 0 })) no_documents 0 terms ≡ ended.Tripped (record { which = which.Parent; wanted = 76; limit = 0 })
+unfolding computing
+refused_body = refl
+
+body_that_is_not_json :
+    solo_outcome (settings default_limits) no_documents 0 (record { bytes = 8; search = Err refused.NotJson }) ≡ ended.Refused refused.NotJson
+unfolding computing
+body_that_is_not_json = refl
+
+trace_of_the_first_shard : map (trace (search_of query.All (leaf (codes "t") (kind.Terms 2 1 1 1 by_count None [] None true) ∷ []))) (rows_by_shard two_shards)
+    ≡ (pos 4608 ∷ pos 129 ∷ pos 129 ∷ negsuc 4224 ∷ []) ∷ (pos 4608 ∷ pos 129 ∷ pos 129 ∷ negsuc 4224 ∷ []) ∷ []
+unfolding computing
+trace_of_the_first_shard = refl
+
+-- the merge charges 1282 and then holds 770
+statistics_of_a_merge :
+    statistics_line (solo_totals (settings default_limits) two_shards 79 (request 95 (search_of query.All (leaf (codes "t") (kind.Terms 2 1 1 1 by_count None [] None true) ∷ [])) ∷ []))
+    ≡ codes "{\"breakers\":{\"fielddata\":{\"estimated_size_in_bytes\":79,\"granted_size_in_bytes\":79,\"limit_size_in_bytes\":429496729,\"overhead_percent\":103,\"tripped\":0},\"inflight_requests\":{\"estimated_size_in_bytes\":0,\"granted_size_in_bytes\":190,\"limit_size_in_bytes\":1073741824,\"overhead_percent\":200,\"tripped\":0},\"parent\":{\"estimated_size_in_bytes\":79,\"granted_size_in_bytes\":11605,\"limit_size_in_bytes\":751619276,\"overhead_percent\":100,\"tripped\":0},\"request\":{\"estimated_size_in_bytes\":0,\"granted_size_in_bytes\":11336,\"limit_size_in_bytes\":644245094,\"overhead_percent\":100,\"tripped\":0}}}"
+unfolding computing
+statistics_of_a_merge = refl
+
+batches_of_two : map length (batches 2 (rows_by_shard seven_shards)) ≡ 2 ∷ 2 ∷ 2 ∷ 1 ∷ []
+unfolding computing
+batches_of_two = refl
+
+statistics_of_four_batches :
+    statistics_line (solo_totals (record (settings default_limits) { batch = 2 }) seven_shards 178 (terms ∷ []))
+    ≡ codes "{\"breakers\":{\"fielddata\":{\"estimated_size_in_bytes\":178,\"granted_size_in_bytes\":178,\"limit_size_in_bytes\":429496729,\"overhead_percent\":103,\"tripped\":0},\"inflight_requests\":{\"estimated_size_in_bytes\":0,\"granted_size_in_bytes\":76,\"limit_size_in_bytes\":1073741824,\"overhead_percent\":200,\"tripped\":0},\"parent\":{\"estimated_size_in_bytes\":178,\"granted_size_in_bytes\":41818,\"limit_size_in_bytes\":751619276,\"overhead_percent\":100,\"tripped\":0},\"request\":{\"estimated_size_in_bytes\":0,\"granted_size_in_bytes\":41564,\"limit_size_in_bytes\":644245094,\"overhead_percent\":100,\"tripped\":0}}}"
+unfolding computing
+statistics_of_four_batches = refl
+
+response_whatever_the_batches : solo_outcome (record (settings default_limits) { batch = 2 }) seven_shards 178 terms ≡ outcome seven_shards 65536 terms
+unfolding computing
+response_whatever_the_batches = refl

@@ -1,0 +1,66 @@
+-- The pages of a composite aggregation, one search after another ('Composite aggregation', pagination: `after` and `after_key`).
+use Rattle.std.specs.Prelude.{⊤, ℕ, Bool, true, false, List, [], ◌∷◌, map, Option, Some, None, option_map, option_and_then, Result, Ok, Err}
+use Rattle.std.specs.List.{last_or}
+use Rattle.agg_model.specs.declared.key.Key.{Key}
+use Rattle.agg_model.specs.declared.answer.BucketAnswer.{out-BucketAnswer}
+use Rattle.agg_model.specs.declared.answer.NodeAnswer.{NodeAnswer, out-NodeAnswer}
+use Rattle.agg_model.specs.declared.aggregation.Kind.{Kind}
+use Rattle.agg_model.specs.declared.aggregation.Kind.TheVariants as kind
+use Rattle.agg_model.specs.declared.aggregation.Agg.{Agg, out-Agg, roll-Agg}
+use Rattle.agg_model.specs.declared.aggregation.Search.{Search}
+use Rattle.agg_model.specs.declared.outcome.Refused.{Refused}
+use Rattle.agg_model.specs.declared.outcome.Outcome.{Outcome}
+use Rattle.agg_model.specs.declared.outcome.Outcome.TheVariants as ended
+use Rattle.agg_spec.specs.Index.{Index}
+use Rattle.agg_spec.specs.Outcome.{Request, answer_of}
+
+abbrev pub is_composite : Kind → Bool
+is_composite (kind.Composite sources size after) = true
+is_composite _ = false
+
+-- whether the only aggregation at the top is a composite
+abbrev pub is_paged : List Agg → Bool
+is_paged (a ∷ []) = is_composite (out-Agg a).kind
+is_paged _ = false
+
+abbrev pub kind_after : Key → Kind → Kind
+kind_after key (kind.Composite sources size after) = kind.Composite sources size (Some key)
+kind_after key k = k
+
+abbrev pub agg_after : Key → Agg → Agg
+agg_after key a = roll-Agg (record { name = (out-Agg a).name; kind = kind_after key (out-Agg a).kind; children = (out-Agg a).children })
+
+-- the search for what follows the key
+abbrev pub search_after : Search → Key → Search
+search_after search key = record search { aggs = map (agg_after key) search.aggs }
+
+-- the key of the last bucket of the first answer
+abbrev pub last_key : List NodeAnswer → Option Key
+last_key [] = None
+last_key (n ∷ ns) = option_map (λ b. (out-BucketAnswer b).key) (last_or None (out-NodeAnswer n).buckets)
+
+abbrev pub next_search : Index → Bool → Search → Option Search
+next_search index true search = option_map (search_after search) (last_key (answer_of index search).nodes)
+next_search index false search = None
+
+abbrev pub request_after : Index → ℕ → Result Search Refused → Option Request
+request_after index bytes (Ok search) = option_map (λ s. record { bytes = bytes; search = Ok s }) (next_search index (is_paged search.aggs) search)
+request_after index bytes (Err r) = None
+
+-- the page after a page that ended so: there is none after a page without a bucket, or that is not answered
+abbrev pub next_page : Index → Request → Outcome → Option Request
+next_page index request (ended.Response line) = request_after index request.bytes request.search
+next_page index request _ = None
+
+-- the pages, given how each of them ended
+abbrev pub pages : Index → Option Request → List Outcome → List Request
+pages index None outcomes = []
+pages index (Some r) [] = []
+pages index (Some r) (o ∷ os) = r ∷ pages index (next_page index r o) os
+
+-- the outcomes are those of all pages: each ended as P says, and after the last there is none
+abbrev pub EachPage : (Request → Outcome → Type 0) → Index → Option Request → List Outcome → Type 0
+EachPage P index None [] = ⊤
+EachPage P index None (o ∷ os) = ⊥
+EachPage P index (Some r) [] = ⊥
+EachPage P index (Some r) (o ∷ os) = P r o × EachPage P index (next_page index r o) os
