@@ -8,6 +8,7 @@ mod MetricExamples
 mod NestedExamples
 mod OrderExamples
 mod OutcomeExamples
+mod OutputExamples
 mod Samples
 mod SoloExamples
 mod TermsExamples

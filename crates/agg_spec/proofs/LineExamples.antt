@@ -9,7 +9,6 @@ use Rattle.agg_model.specs.declared.bulk.Item.{Item}
 use Rattle.agg_model.specs.declared.breaker.Which.{Which}
 use Rattle.agg_model.specs.declared.breaker.Which.TheVariants as which
 use Rattle.agg_model.specs.declared.breaker.Tripped.{Tripped}
-use Rattle.agg_model.specs.declared.breaker.BreakerStats.{BreakerStats}
 use Rattle.agg_model.specs.declared.breaker.Totals.{Totals}
 use Rattle.agg_model.specs.declared.outcome.Refused.TheVariants as refused
 use Rattle.agg_model.specs.declared.settings.Usage.{Usage}
@@ -18,6 +17,7 @@ use Rattle.agg_spec.specs.BulkLine.{bulk_line}
 use Rattle.agg_spec.specs.ErrorLines.{exception_line, refusal_line}
 use Rattle.agg_spec.specs.EndLines.{usage_line, script_line}
 use Rattle.agg_spec.specs.StatisticsLine.{statistics_line}
+use Rattle.agg_spec.proofs.Samples.{stats}
 use Rattle.agg_spec.proofs.Computing.{computing}
 
 abbrev item : action.the_data → List ℕ → end.the_data → Item
@@ -28,10 +28,6 @@ refusal number path = end.Refused (record { number = number; path = path })
 
 abbrev tripped : Which → ℕ → ℕ → Tripped
 tripped which wanted limit = record { which = which; wanted = wanted; limit = limit }
-
--- estimated and granted bytes, limit, overhead and trips
-abbrev stats : ℕ → ℕ → ℕ → ℕ → ℕ → BreakerStats
-stats estimated granted limit overhead tripped = record { estimated = estimated; granted = granted; limit = limit; overhead = overhead; tripped = tripped }
 
 no_items :
     bulk_line (codes "i") [] false

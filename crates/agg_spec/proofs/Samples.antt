@@ -1,5 +1,5 @@
 -- Short names for the indices and searches of the examples. Field 0 is `b`, a boolean, 1 is `n`, a long, and 2 is `t`, a keyword.
-use Rattle.std.specs.Prelude.{ℕ, ℤ, Bool, true, false, List, [], ◌∷◌, map, Option, Some, None, codes}
+use Rattle.std.specs.Prelude.{ℕ, ℤ, Bool, true, false, List, [], ◌∷◌, map, Option, Some, None, Ok, codes}
 use Rattle.serde_json.specs.Written.{compact_text}
 use Rattle.agg_model.specs.declared.row.Scalar.TheVariants as scalar
 use Rattle.agg_model.specs.declared.row.FieldValues.{FieldValues}
@@ -10,13 +10,18 @@ use Rattle.agg_model.specs.declared.mapping.Field.{Field}
 use Rattle.agg_model.specs.declared.mapping.NestedPath.{NestedPath}
 use Rattle.agg_model.specs.declared.mapping.Mapping.{Mapping}
 use Rattle.agg_model.specs.declared.query.Query.{Query}
+use Rattle.agg_model.specs.declared.query.Query.TheVariants.{All}
 use Rattle.agg_model.specs.declared.aggregation.Kind.{Kind}
+use Rattle.agg_model.specs.declared.aggregation.Kind.TheVariants.{Terms}
 use Rattle.agg_model.specs.declared.aggregation.Order.{Order}
 use Rattle.agg_model.specs.declared.aggregation.OrderBy.TheVariants as by
 use Rattle.agg_model.specs.declared.aggregation.Agg.{Agg, roll-Agg}
 use Rattle.agg_model.specs.declared.aggregation.Search.{Search}
+use Rattle.agg_model.specs.declared.breaker.Limits.{Limits}
+use Rattle.agg_model.specs.declared.breaker.BreakerStats.{BreakerStats}
+use Rattle.agg_model.specs.declared.settings.Settings.{Settings}
 use Rattle.agg_spec.specs.Index.{Index}
-use Rattle.agg_spec.specs.Outcome.{answer_of}
+use Rattle.agg_spec.specs.Outcome.{Request, answer_of}
 use Rattle.agg_spec.specs.Json.{object_of}
 use Rattle.agg_spec.specs.AnswerTree.{printer, named_answers}
 
@@ -85,3 +90,24 @@ search_of query aggs = record { query = query; aggs = aggs; body_bytes = 0 }
 -- the text of the member `aggregations` of the response
 abbrev pub aggregations_text : Index → Search → List ℕ
 aggregations_text index search = compact_text (object_of (named_answers (map printer search.aggs) (answer_of index search).nodes))
+
+abbrev pub default_limits : Limits
+default_limits = record { request = 644245094; fielddata = 429496729; inflight = 1073741824; parent = 751619276 }
+
+-- one worker that runs one search at a time
+abbrev pub settings : Limits → Settings
+settings limits = record { workers = 1; batch = 512; width = 1; limits = limits; max_buckets = 65536; scan = false; generate = None }
+
+abbrev pub request_limit : ℕ → Settings
+request_limit n = settings (record default_limits { request = n })
+
+abbrev pub request : ℕ → Search → Request
+request bytes search = record { bytes = bytes; search = Ok search }
+
+-- the terms of t in a body of 38 bytes
+abbrev pub terms : Request
+terms = request 38 (search_of All (leaf (codes "t") (Terms 2 10 25 1 by_count None [] None false) ∷ []))
+
+-- estimated and granted bytes, limit, overhead and trips
+abbrev pub stats : ℕ → ℕ → ℕ → ℕ → ℕ → BreakerStats
+stats estimated granted limit overhead tripped = record { estimated = estimated; granted = granted; limit = limit; overhead = overhead; tripped = tripped }

@@ -17,10 +17,8 @@ use Rattle.agg_spec.proofs.Samples.{flags, numbers, words, row, parent_row, nest
 use Rattle.std.specs.Prelude.{◌+◌, ◌*◌, ◌≤◌, zero, suc, All, ℤ, Bool, IsTrue, map, length, Ok, Err, ⊤}
 use Rattle.std.proofs.Common.{inl, lit<, lit≤, arith}
 use Rattle.agg_model.specs.declared.aggregation.Search.{Search}
-use Rattle.agg_model.specs.declared.breaker.Limits.{Limits}
 use Rattle.agg_model.specs.declared.breaker.Tripped.{Tripped}
 use Rattle.agg_model.specs.declared.breaker.Which.TheVariants as which
-use Rattle.agg_model.specs.declared.settings.Settings.{Settings}
 use Rattle.agg_model.specs.declared.outcome.Outcome.{Outcome}
 use Rattle.agg_model.specs.declared.outcome.Outcome.TheVariants as ended
 use Rattle.agg_model.specs.declared.outcome.Refused.TheVariants as refused
@@ -35,24 +33,8 @@ use Rattle.agg_spec.specs.StatisticsLine.{statistics_line}
 use Rattle.agg_spec.specs.Wave.{wave_ceiling, MayAnswerWave}
 use Rattle.agg_spec.specs.Granted.{spent_on_bodies, spent_on_searches, least_on_searches}
 use Rattle.agg_spec.specs.Pages.{pages, EachPage}
+use Rattle.agg_spec.proofs.Samples.{default_limits, settings, request_limit, request, terms}
 use Rattle.agg_spec.proofs.Computing.{computing}
-
-abbrev default_limits : Limits
-default_limits = record { request = 644245094; fielddata = 429496729; inflight = 1073741824; parent = 751619276 }
-
--- one worker that runs one search at a time
-abbrev settings : Limits → Settings
-settings limits = record { workers = 1; batch = 512; width = 1; limits = limits; max_buckets = 65536; scan = false; generate = None }
-
-abbrev request_limit : ℕ → Settings
-request_limit n = settings (record default_limits { request = n })
-
-abbrev request : ℕ → Search → Request
-request bytes search = record { bytes = bytes; search = Ok search }
-
--- the terms of t in a body of 38 bytes
-abbrev terms : Request
-terms = request 38 (search_of query.All (leaf (codes "t") (kind.Terms 2 10 25 1 by_count None [] None false) ∷ []))
 
 abbrev no_documents : Index
 no_documents = one_shard []
