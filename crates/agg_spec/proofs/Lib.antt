@@ -10,6 +10,8 @@ mod OrderExamples
 mod OutcomeExamples
 mod OutputExamples
 mod Samples
+mod ScriptExamples
 mod SoloExamples
+mod StatusExamples
 mod TermsExamples
 mod WaveExamples

@@ -1,17 +1,14 @@
 -- The lines of bulk actions, of refusals, of breakers and of statistics, computed.
-use Rattle.std.specs.Prelude.{◌≡◌, refl, ℕ, pos, negsuc, true, false, List, [], ◌∷◌, length, codes}
+use Rattle.std.specs.Prelude.{◌≡◌, refl, ℕ, pos, negsuc, true, false, List, [], ◌∷◌, codes}
 use Rattle.serde_json.specs.Written.{compact_text}
 use Rattle.agg_model.specs.declared.bulk.ActionKind.TheVariants as action
 use Rattle.agg_model.specs.declared.bulk.Applied.TheVariants as applied
 use Rattle.agg_model.specs.declared.bulk.ItemEnd.TheVariants as end
-use Rattle.agg_model.specs.declared.bulk.ItemRefusal.{ItemRefusal}
 use Rattle.agg_model.specs.declared.bulk.Item.{Item}
 use Rattle.agg_model.specs.declared.breaker.Which.{Which}
 use Rattle.agg_model.specs.declared.breaker.Which.TheVariants as which
 use Rattle.agg_model.specs.declared.breaker.Tripped.{Tripped}
-use Rattle.agg_model.specs.declared.breaker.Totals.{Totals}
 use Rattle.agg_model.specs.declared.outcome.Refused.TheVariants as refused
-use Rattle.agg_model.specs.declared.settings.Usage.{Usage}
 use Rattle.agg_spec.specs.Average.{average}
 use Rattle.agg_spec.specs.BulkLine.{bulk_line}
 use Rattle.agg_spec.specs.ErrorLines.{exception_line, refusal_line}

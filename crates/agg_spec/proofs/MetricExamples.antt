@@ -1,19 +1,10 @@
 -- Answers of sum, min, max, avg and value count, computed.
-use Rattle.std.specs.Prelude.{◌≡◌, refl, ℕ, pos, negsuc, true, false, List, [], ◌∷◌, Some, None, codes}
-use Rattle.agg_model.specs.declared.key.Key.TheVariants as key
+use Rattle.std.specs.Prelude.{◌≡◌, refl, pos, negsuc, true, false, [], ◌∷◌, Some, None, codes}
 use Rattle.agg_model.specs.declared.row.Scalar.TheVariants as scalar
-use Rattle.agg_model.specs.declared.row.Row.{Row}
 use Rattle.agg_model.specs.declared.query.Query.TheVariants as query
-use Rattle.agg_model.specs.declared.query.Probe.TheVariants as probe
-use Rattle.agg_model.specs.declared.query.RangeOp.TheVariants as range
-use Rattle.agg_model.specs.declared.aggregation.Bounds.{Bounds}
-use Rattle.agg_model.specs.declared.aggregation.CompositeSource.{CompositeSource}
 use Rattle.agg_model.specs.declared.aggregation.Kind.TheVariants as kind
-use Rattle.agg_model.specs.declared.aggregation.Order.{Order}
-use Rattle.agg_model.specs.declared.aggregation.OrderBy.TheVariants as by
-use Rattle.agg_evaluation.specs.Keys.{no_bounds}
 use Rattle.agg_spec.specs.Index.{Index}
-use Rattle.agg_spec.proofs.Samples.{flags, numbers, words, row, parent_row, nested_at, item, index, one_shard, items_index, by_count, by_key, agg, leaf, search_of, aggregations_text}
+use Rattle.agg_spec.proofs.Samples.{numbers, words, row, one_shard, by_count, leaf, search_of, aggregations_text}
 use Rattle.agg_spec.proofs.Computing.{computing}
 
 abbrev repeated_values : Index

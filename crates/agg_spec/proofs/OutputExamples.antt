@@ -1,13 +1,7 @@
 -- Output, computed: from the bytes of the input to the bytes that are written.
-use Rattle.std.specs.Prelude.{◌≡◌, refl, ℕ, ◌++◌, true, false, List, [], ◌∷◌, length, Option, Some, None, Result, Ok, Err, codes}
-use Rattle.std.proofs.Common.{inl, inr}
-use Rattle.agg_model.specs.declared.breaker.Tripped.{Tripped}
+use Rattle.std.specs.Prelude.{refl, ℕ, List, [], ◌∷◌, length, Ok, codes}
+use Rattle.std.proofs.Common.{inl}
 use Rattle.agg_model.specs.declared.breaker.Which.TheVariants as which
-use Rattle.agg_model.specs.declared.breaker.Totals.{Totals}
-use Rattle.agg_model.specs.declared.settings.Settings.{Settings}
-use Rattle.agg_model.specs.declared.settings.Usage.{Usage}
-use Rattle.agg_model.specs.declared.settings.Generate.{Generate}
-use Rattle.agg_model.specs.declared.outcome.Outcome.{Outcome}
 use Rattle.agg_model.specs.declared.outcome.Outcome.TheVariants as ended
 use Rattle.agg_model.specs.declared.outcome.Refused.TheVariants as refused
 use Rattle.agg_spec.specs.Output.{IsOutput}

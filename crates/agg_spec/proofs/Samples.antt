@@ -1,5 +1,5 @@
 -- Short names for the indices and searches of the examples. Field 0 is `b`, a boolean, 1 is `n`, a long, and 2 is `t`, a keyword.
-use Rattle.std.specs.Prelude.{ℕ, ℤ, Bool, true, false, List, [], ◌∷◌, map, Option, Some, None, Ok, codes}
+use Rattle.std.specs.Prelude.{ℕ, ℤ, Bool, true, false, List, [], ◌∷◌, map, None, Ok, codes}
 use Rattle.serde_json.specs.Written.{compact_text}
 use Rattle.agg_model.specs.declared.row.Scalar.TheVariants as scalar
 use Rattle.agg_model.specs.declared.row.FieldValues.{FieldValues}

@@ -1,39 +1,16 @@
 -- Waves, computed: their ceilings, what they are granted, and answers that are allowed.
-use Rattle.std.specs.Prelude.{◌≡◌, refl, ℕ, pos, negsuc, true, false, List, [], ◌∷◌, Some, None, codes}
-use Rattle.agg_model.specs.declared.key.Key.TheVariants as key
-use Rattle.agg_model.specs.declared.row.Scalar.TheVariants as scalar
-use Rattle.agg_model.specs.declared.row.Row.{Row}
-use Rattle.agg_model.specs.declared.query.Query.TheVariants as query
-use Rattle.agg_model.specs.declared.query.Probe.TheVariants as probe
-use Rattle.agg_model.specs.declared.query.RangeOp.TheVariants as range
-use Rattle.agg_model.specs.declared.aggregation.Bounds.{Bounds}
-use Rattle.agg_model.specs.declared.aggregation.CompositeSource.{CompositeSource}
-use Rattle.agg_model.specs.declared.aggregation.Kind.TheVariants as kind
-use Rattle.agg_model.specs.declared.aggregation.Order.{Order}
-use Rattle.agg_model.specs.declared.aggregation.OrderBy.TheVariants as by
-use Rattle.agg_evaluation.specs.Keys.{no_bounds}
+use Rattle.std.specs.Prelude.{◌≡◌, refl, ℕ, [], ◌∷◌, codes}
 use Rattle.agg_spec.specs.Index.{Index}
-use Rattle.agg_spec.proofs.Samples.{flags, numbers, words, row, parent_row, nested_at, item, index, one_shard, items_index, by_count, by_key, agg, leaf, search_of, aggregations_text}
-use Rattle.std.specs.Prelude.{◌+◌, ◌*◌, ◌≤◌, zero, suc, All, ℤ, Bool, IsTrue, map, length, Ok, Err, ⊤}
+use Rattle.agg_spec.proofs.Samples.{words, row, index, one_shard}
+use Rattle.std.specs.Prelude.{◌+◌, ◌*◌, ◌≤◌, zero, suc, All}
 use Rattle.std.proofs.Common.{inl, lit<, lit≤, arith}
-use Rattle.agg_model.specs.declared.aggregation.Search.{Search}
-use Rattle.agg_model.specs.declared.breaker.Tripped.{Tripped}
 use Rattle.agg_model.specs.declared.breaker.Which.TheVariants as which
-use Rattle.agg_model.specs.declared.outcome.Outcome.{Outcome}
 use Rattle.agg_model.specs.declared.outcome.Outcome.TheVariants as ended
-use Rattle.agg_model.specs.declared.outcome.Refused.TheVariants as refused
-use Rattle.agg_evaluation.specs.Trace.{trace, peak, gross}
-use Rattle.agg_spec.specs.Index.{rows_by_shard}
-use Rattle.agg_spec.specs.Outcome.{Request, outcome}
-use Rattle.agg_spec.specs.Charges.{Amounts}
-use Rattle.agg_spec.specs.Solo.{batches, solo_outcome, solo_holds, solo_run}
-use Rattle.agg_spec.specs.Columns.{columns_charge, columns_refusal}
-use Rattle.agg_spec.specs.Statistics.{solo_totals}
-use Rattle.agg_spec.specs.StatisticsLine.{statistics_line}
+use Rattle.agg_spec.specs.Outcome.{outcome}
+use Rattle.agg_spec.specs.Columns.{columns_charge}
 use Rattle.agg_spec.specs.Wave.{wave_ceiling, MayAnswerWave}
 use Rattle.agg_spec.specs.Granted.{spent_on_bodies, spent_on_searches, least_on_searches}
-use Rattle.agg_spec.specs.Pages.{pages, EachPage}
-use Rattle.agg_spec.proofs.Samples.{default_limits, settings, request_limit, request, terms}
+use Rattle.agg_spec.proofs.Samples.{default_limits, settings, request_limit, terms}
 use Rattle.agg_spec.proofs.Computing.{computing}
 
 abbrev no_documents : Index

@@ -14,7 +14,6 @@ use Rattle.agg_model.specs.declared.aggregation.Kind.{Kind}
 use Rattle.agg_model.specs.declared.aggregation.Kind.TheVariants as kind
 use Rattle.agg_model.specs.declared.aggregation.CompositeSource.{CompositeSource}
 use Rattle.agg_model.specs.declared.aggregation.Agg.{Agg}
-use Rattle.agg_model.specs.declared.aggregation.Agg.TheOpen.{Agg-F}
 use Rattle.agg_evaluation.specs.Folds.{fold_agg}
 use Rattle.agg_spec.specs.Json.{Member, object_of, array_of, count, whole_number}
 use Rattle.agg_spec.specs.Average.{average}

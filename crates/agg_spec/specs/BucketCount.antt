@@ -1,12 +1,11 @@
 -- The number of buckets of an answer, which `search.max_buckets` limits ('Search settings').
 use Rattle.std.specs.Prelude.{ℕ, ◌+◌, ◌-◌, ◌^◌, min, List, [], ◌∷◌, map, length, sum}
-use Rattle.agg_model.specs.declared.answer.BucketAnswer.{BucketAnswer, out-BucketAnswer}
+use Rattle.agg_model.specs.declared.answer.BucketAnswer.{out-BucketAnswer}
 use Rattle.agg_model.specs.declared.answer.NodeAnswer.{NodeAnswer, out-NodeAnswer}
 use Rattle.agg_model.specs.declared.answer.Answer.{Answer}
 use Rattle.agg_model.specs.declared.aggregation.Kind.{Kind}
 use Rattle.agg_model.specs.declared.aggregation.Kind.TheVariants as kind
 use Rattle.agg_model.specs.declared.aggregation.Agg.{Agg}
-use Rattle.agg_model.specs.declared.aggregation.Agg.TheOpen.{Agg-F}
 use Rattle.agg_model.specs.declared.aggregation.Search.{Search}
 use Rattle.agg_evaluation.specs.Folds.{fold_agg}
 

@@ -1,5 +1,5 @@
 -- What the columns of an index weigh, which is charged once after loading ('Circuit breaker settings', fielddata).
-use Rattle.std.specs.Prelude.{ℕ, ◌+◌, ◌*◌, ◌/◌, List, [], ◌∷◌, map, flat_map, length, sum, Option, Some, None}
+use Rattle.std.specs.Prelude.{ℕ, ◌+◌, ◌*◌, ◌/◌, List, map, flat_map, length, sum, Option}
 use Rattle.std.specs.List.{range_with_len}
 use Rattle.agg_model.specs.declared.key.Key.{Key}
 use Rattle.agg_model.specs.declared.key.Key.TheVariants.{Word}

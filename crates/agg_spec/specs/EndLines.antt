@@ -1,7 +1,6 @@
 -- The last line of a run that ends early: words outside the grammar, or a script that is refused.
 use Rattle.std.specs.Prelude.{ℕ, if◌then◌else◌, ◌==◌, List, [], ◌∷◌, ◌++◌, unwrap_or, find, option_map, codes}
 use Rattle.agg_model.specs.declared.settings.Usage.{Usage}
-use Rattle.serde_json.specs.Data.{Data}
 use Rattle.agg_spec.specs.Json.{Member, count}
 use Rattle.agg_spec.specs.ErrorLines.{error_line, text_member}
 

@@ -1,6 +1,6 @@
 -- The buckets of a histogram: those with few documents are left out, or the gaps between them are filled ('Histogram
 -- aggregation', minimum document count, `extended_bounds`, `hard_bounds`).
-use Rattle.std.specs.Prelude.{ℕ, ℤ, pos, ◌+ℤ◌, ◌-ℤ◌, ◌*ℤ◌, ◌+◌, ◌==◌, ◌&&◌, nat_le, int_le, Bool, true, false, if◌then◌else◌, List, [], ◌∷◌, ◌++◌, map, filter, filter_map, Option, Some, None, is_some, option_map, option_to_list, unwrap_or, find, unsigned_abs}
+use Rattle.std.specs.Prelude.{ℕ, ℤ, pos, ◌+ℤ◌, ◌-ℤ◌, ◌*ℤ◌, ◌+◌, ◌==◌, ◌&&◌, nat_le, int_le, Bool, true, if◌then◌else◌, List, [], ◌∷◌, ◌++◌, map, filter, filter_map, Option, Some, None, is_some, option_map, option_to_list, unwrap_or, find, unsigned_abs}
 use Rattle.std.specs.List.{reduce, range_with_len}
 use Rattle.std.specs.Int.{int_min, int_max, int_div_euclid}
 use Rattle.agg_model.specs.declared.key.Key.{Key}

@@ -1,5 +1,5 @@
 -- What the charges of a wave add up to, where no breaker refuses one ('Circuit breaker settings').
-use Rattle.std.specs.Prelude.{ℕ, ◌+◌, ◌-◌, ◌*◌, nat_lt, nat_le, Bool, true, false, if◌then◌else◌, List, [], ◌∷◌, map, length, sum, sum_by, Option, Some, None, unsigned_abs}
+use Rattle.std.specs.Prelude.{ℕ, ◌+◌, ◌-◌, ◌*◌, nat_lt, if◌then◌else◌, List, ◌∷◌, map, length, sum, sum_by, Option, Some, None, unsigned_abs}
 use Rattle.agg_model.specs.declared.aggregation.Search.{Search}
 use Rattle.agg_model.specs.declared.settings.Settings.{Settings}
 use Rattle.agg_evaluation.specs.Cost.{cost}

@@ -1,5 +1,5 @@
 -- The outcome of a search by the whole reduction: all shards in order, with no breaker and no memory limit ('Search API').
-use Rattle.std.specs.Prelude.{ℕ, nat_lt, Bool, true, false, List, map, length, Option, Some, None, Result, Ok, Err}
+use Rattle.std.specs.Prelude.{ℕ, nat_lt, true, false, List, map, length, Option, Some, None, Result, Ok, Err}
 use Rattle.agg_model.specs.declared.answer.Answer.{Answer}
 use Rattle.agg_model.specs.declared.partial.Partial.{Partial}
 use Rattle.agg_model.specs.declared.aggregation.Search.{Search}

@@ -1,5 +1,5 @@
 -- The output of a run: what the program writes, by the status with which it ends (newline-delimited JSON).
-use Rattle.std.specs.Prelude.{◌≡◌, ◌⊎◌, ⊤, IsTrue, ℕ, ◌++◌, nat_lt, Bool, true, false, List, [], ◌∷◌, map, flat_map, filter, length, take, Option, Some, None, is_some, Result, Ok, Err, codes}
+use Rattle.std.specs.Prelude.{◌≡◌, ◌⊎◌, IsTrue, ℕ, ◌++◌, nat_lt, true, false, List, [], flat_map, filter, length, take, Option, Some, None, is_some, Result, Ok, Err, codes}
 use Rattle.std.specs.Option.{option_map_or}
 use Rattle.agg_model.specs.declared.breaker.Tripped.{Tripped}
 use Rattle.agg_model.specs.declared.breaker.Totals.{Totals}

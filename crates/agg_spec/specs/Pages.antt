@@ -1,5 +1,5 @@
 -- The pages of a composite aggregation, one search after another ('Composite aggregation', pagination: `after` and `after_key`).
-use Rattle.std.specs.Prelude.{⊤, ℕ, Bool, true, false, List, [], ◌∷◌, map, Option, Some, None, option_map, option_and_then, Result, Ok, Err}
+use Rattle.std.specs.Prelude.{⊤, ℕ, Bool, true, false, List, [], ◌∷◌, map, Option, Some, None, option_map, Result, Ok, Err}
 use Rattle.std.specs.List.{last_or}
 use Rattle.agg_model.specs.declared.key.Key.{Key}
 use Rattle.agg_model.specs.declared.answer.BucketAnswer.{out-BucketAnswer}

@@ -1,5 +1,5 @@
 -- Whether each number that an answer prints lies in signed 64 bits.
-use Rattle.std.specs.Prelude.{ℕ, ℤ, ◌-◌, ◌^◌, ◌-ℤ◌, pos, ◌&&◌, not, int_le, int_lt, Bool, true, false, if◌then◌else◌, List, [], ◌∷◌, ◌++◌, map, flat_map, Option, Some, None, codes}
+use Rattle.std.specs.Prelude.{ℕ, ℤ, ◌^◌, ◌-ℤ◌, pos, ◌&&◌, int_le, int_lt, Bool, true, if◌then◌else◌, List, [], ◌∷◌, ◌++◌, map, flat_map, Option, Some, None, codes}
 use Rattle.std.specs.List.{list_all}
 use Rattle.agg_model.specs.declared.key.Key.{Key}
 use Rattle.agg_model.specs.declared.key.Key.TheOpen.{Key-F}

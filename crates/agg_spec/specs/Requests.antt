@@ -1,5 +1,5 @@
 -- A script as searches see it: the index that its bulk lines leave, and the bodies that follow ('Bulk API', 'Multi search API').
-use Rattle.std.specs.Prelude.{ℕ, List, [], ◌∷◌, map, length, Option, Some, None, Result, Ok, Err}
+use Rattle.std.specs.Prelude.{ℕ, List, map, length, Option, Result, Ok, Err}
 use Rattle.agg_model.specs.declared.bulk.Item.{Item}
 use Rattle.agg_model.specs.declared.aggregation.Search.{Search}
 use Rattle.agg_model.specs.declared.outcome.Refused.{Refused}

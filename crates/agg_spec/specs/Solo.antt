@@ -1,8 +1,7 @@
 -- The solo run: one search alone, with all its charges and returns in order ('Circuit breaker settings', request and inflight
 -- requests; 'Search API', batched reduce size).
-use Rattle.std.specs.Prelude.{ℕ, ℤ, pos, negsuc, suc, zero, ◌+◌, ◌-◌, ◌*◌, ◌/◌, ◌==◌, List, [], ◌∷◌, ◌++◌, map, flat_map, length, take, drop, sum, Option, Some, None, Result, Ok, Err}
+use Rattle.std.specs.Prelude.{ℕ, ℤ, pos, negsuc, suc, ◌+◌, ◌-◌, ◌*◌, ◌/◌, List, [], ◌∷◌, ◌++◌, map, flat_map, length, take, drop, sum, Option, Some, None, Result, Ok, Err}
 use Rattle.std.specs.List.{range_with_len}
-use Rattle.agg_model.specs.declared.breaker.Child.{Child}
 use Rattle.agg_model.specs.declared.breaker.Child.TheVariants.{Request as AtRequest, Inflight as AtInflight}
 use Rattle.agg_model.specs.declared.breaker.Tripped.{Tripped}
 use Rattle.agg_model.specs.declared.partial.Partial.{Partial}

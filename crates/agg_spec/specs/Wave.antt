@@ -1,6 +1,6 @@
 -- What may be answered when several searches run side by side with many workers: the answers of a wave ('Multi search API';
 -- 'Circuit breaker settings'). Their charges may meet at the breakers in any order.
-use Rattle.std.specs.Prelude.{◌≡◌, ◌⊎◌, ◌≤◌, ◌<◌, ⊤, ℕ, ◌+◌, ◌*◌, ◌==◌, if◌then◌else◌, IsTrue, Bool, true, false, List, [], ◌∷◌, map, length, sum, sum_by, Option, Some, None, is_some, Result, Ok, Err, All, unsigned_abs}
+use Rattle.std.specs.Prelude.{◌≡◌, ◌⊎◌, ◌≤◌, ◌<◌, ⊤, ℕ, ◌+◌, ◌*◌, ◌==◌, if◌then◌else◌, IsTrue, List, [], ◌∷◌, map, length, sum, sum_by, Option, Some, None, is_some, Result, Ok, Err, All, unsigned_abs}
 use Rattle.agg_model.specs.declared.breaker.Child.TheVariants.{Inflight}
 use Rattle.agg_model.specs.declared.breaker.Which.TheVariants.{Request as AtRequest, Parent as AtParent}
 use Rattle.agg_model.specs.declared.breaker.Tripped.{Tripped}
@@ -16,7 +16,7 @@ use Rattle.agg_evaluation.specs.Cost.{cost}
 use Rattle.agg_evaluation.specs.Trace.{peak}
 use Rattle.agg_spec.specs.Index.{Index, rows_by_shard}
 use Rattle.agg_spec.specs.Outcome.{Request, outcome, shard_answers}
-use Rattle.agg_spec.specs.Charges.{Amounts, refusal_of, limit_at}
+use Rattle.agg_spec.specs.Charges.{refusal_of, limit_at}
 
 -- the search that tasks run for: none where the body was refused or is too wide
 abbrev pub running : Result Search Refused → Outcome → Option Search
