@@ -3,6 +3,7 @@ mod Computing
 mod FilterExamples
 mod HistogramExamples
 mod LargerExamples
+mod LargerScriptExamples
 mod LineExamples
 mod MetricExamples
 mod NestedExamples
