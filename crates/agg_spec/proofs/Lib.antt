@@ -1,5 +1,6 @@
 mod CompositeExamples
 mod Computing
+mod CountExamples
 mod FilterExamples
 mod HistogramExamples
 mod LargerExamples
