@@ -17,3 +17,4 @@ mod SoloExamples
 mod StatusExamples
 mod TermsExamples
 mod WaveExamples
+pub mod SumLaws

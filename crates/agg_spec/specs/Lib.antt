@@ -1,6 +1,7 @@
 pub mod CountErrors
 pub mod Filling
 pub mod Final
+pub mod TermsSums
 pub mod BucketCount
 pub mod GapCount
 pub mod RangeCheck
