@@ -17,4 +17,7 @@ mod SoloExamples
 mod StatusExamples
 mod TermsExamples
 mod WaveExamples
+pub mod GroupSums
 pub mod SumLaws
+pub mod TermsAddUp
+pub mod TermsTotals

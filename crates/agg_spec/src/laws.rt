@@ -1,10 +1,21 @@
 //! Laws of the definitions. Each function has a law as its contract, over all values of the definitions, and does nothing.
-ghost use Rattle.std.specs.Prelude.{◌≡◌, ◌+◌, ℕ, List, sum_by};
+ghost use Rattle.std.specs.Prelude.{◌≡◌, ◌+◌, ℕ, List, Some, sum_by};
+ghost use Rattle.agg_model.specs.declared.aggregation.Agg.{Agg, out-Agg};
 ghost use Rattle.agg_model.specs.declared.aggregation.Order.{Order};
 ghost use Rattle.agg_evaluation.specs.Orders.{bucket_count};
+ghost use Rattle.agg_evaluation.specs.Rows.{PlacedRow};
 ghost use Rattle.agg_evaluation.specs.Whole.{Parts};
+ghost use Rattle.agg_evaluation.specs.Whole.{parts as node_parts};
 ghost use Rattle.agg_spec.specs.Final.{Finisher, terms_answer};
-ghost use Rattle.agg_spec.specs.TermsSums.{below_minimum_count, other_count, returned_count};
+ghost use Rattle.agg_spec.specs.TermsSums.{
+  all_key_count,
+  answer_of_rows,
+  below_minimum_count,
+  minimum_of_terms,
+  other_count,
+  returned_count,
+  whole_of_rows,
+};
 
 /// An answer to terms loses no count: what it returns, what it gives as other and what is below the minimum count add
 /// up to what the shards returned and what they cut.
@@ -14,4 +25,15 @@ pub fn terms_lose_no_count()
         + other_count (terms_answer name children size min_doc_count order parts)
         + below_minimum_count min_doc_count parts.buckets
         ≡ parts.cut + sum_by bucket_count parts.buckets }
+{}
+
+/// An answer to terms has all keys of the rows: what it returns, what it gives as other and what is below the minimum
+/// count add up to the keys of all rows that the shards were handed, whatever the order and whatever the shards cut.
+pub fn terms_count_all_keys()
+    ensures { (agg : Agg) (min_doc_count : ℕ) (shards : List (List PlacedRow × List PlacedRow)) →
+        minimum_of_terms (out-Agg agg).kind ≡ Some min_doc_count →
+        returned_count (answer_of_rows agg shards)
+        + other_count (answer_of_rows agg shards)
+        + below_minimum_count min_doc_count (node_parts (whole_of_rows agg shards)).buckets
+        ≡ all_key_count agg shards }
 {}
