@@ -17,7 +17,10 @@ mod SoloExamples
 mod StatusExamples
 mod TermsExamples
 mod WaveExamples
+pub mod FallingCounts
 pub mod GroupSums
+pub mod ShardBounds
 pub mod SumLaws
 pub mod TermsAddUp
+pub mod TermsBounds
 pub mod TermsTotals
