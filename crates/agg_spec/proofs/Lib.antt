@@ -24,3 +24,4 @@ pub mod SumLaws
 pub mod TermsAddUp
 pub mod TermsBounds
 pub mod TermsTotals
+pub mod TermsWithin

@@ -1,7 +1,7 @@
 -- A shard's count of a term against the true one: it is at most that, and short of it by at most the shard's error where the
 -- shard did not return the term.
-use Rattle.std.specs.Prelude.{◌≡◌, ◌≤◌, ◌<◌, refl, ℕ, zero, suc, ◌+◌, ◌-◌, ◌==◌, Bool, true, false, cond, T, ◌||◌, if◌then◌else◌, List, [], ◌∷◌, ◌++◌, map, filter, flat_map, length, min, take, drop, sum_by, None, unwrap_or}
-use Rattle.std.specs.List.{AllByRecursion, last_or}
+use Rattle.std.specs.Prelude.{◌≡◌, ◌≤◌, ◌<◌, refl, ℕ, zero, suc, ◌+◌, ◌-◌, ◌==◌, Bool, true, false, cond, T, ◌||◌, if◌then◌else◌, List, [], ◌∷◌, map, filter, flat_map, length, take, drop, sum_by, None, unwrap_or}
+use Rattle.std.specs.List.{last_or}
 use Rattle.std.proofs.Common.{sym, ◌∙◌, ap, subst, arith}
 use Rattle.std.proofs.Math.Facts.{eqb_yes, yes_eqb}
 use Rattle.std.proofs.lemmas.List.Sums.{sum_by-cons, sum_by-take-drop}

@@ -1,5 +1,5 @@
 -- By descending count the true count of each returned term lies between its count and that plus its error.
-use Rattle.std.specs.Prelude.{◌≡◌, ◌≤◌, ◌<◌, refl, ℕ, zero, suc, ℤ, pos, ◌+◌, ◌-◌, nat_le, Bool, true, false, cond, if◌then◌else◌, List, [], ◌∷◌, map, filter, flat_map, length, take, sum_by, Option, Some, None}
+use Rattle.std.specs.Prelude.{◌≡◌, ◌≤◌, ℕ, zero, suc, ◌+◌, ◌-◌, Bool, true, false, cond, if◌then◌else◌, List, [], ◌∷◌, map, filter, flat_map, take, sum_by}
 use Rattle.std.specs.List.{AllByRecursion}
 use Rattle.std.specs.declared.cmp.Ordering.{Ordering}
 use Rattle.std.specs.Ordering.{is_le}
@@ -14,7 +14,7 @@ use Rattle.agg_evaluation.specs.Keys.{distinct_keys}
 use Rattle.agg_evaluation.specs.Orders.{bucket_key, bucket_count}
 use Rattle.agg_evaluation.specs.Sorting.{insert_sorted, sorted}
 use Rattle.agg_evaluation.specs.Whole.{Parts, parts, parts_at, whole_bucket, whole_by, by_key}
-use Rattle.agg_evaluation.proofs.ListLaws.{filter-flat_map, sum_by-map, sum_by-flat_map}
+use Rattle.agg_evaluation.proofs.ListLaws.{sum_by-map, sum_by-flat_map}
 use Rattle.agg_evaluation.proofs.NodeForms.{out-Keyed}
 use Rattle.agg_spec.proofs.ShardBounds.{Bounds, of_key, sum_by-filter}
 

@@ -2,6 +2,7 @@ pub mod CountErrors
 pub mod Filling
 pub mod Final
 pub mod TermsSums
+pub mod TermsErrors
 pub mod BucketCount
 pub mod GapCount
 pub mod RangeCheck

@@ -1,5 +1,7 @@
 //! Laws of the definitions. Each function has a law as its contract, over all values of the definitions, and does nothing.
 ghost use Rattle.std.specs.Prelude.{◌≡◌, ◌+◌, ℕ, List, Some, sum_by};
+ghost use Rattle.std.specs.List.{AllByRecursion};
+ghost use Rattle.agg_model.specs.declared.answer.NodeAnswer.{out-NodeAnswer};
 ghost use Rattle.agg_model.specs.declared.aggregation.Agg.{Agg, out-Agg};
 ghost use Rattle.agg_model.specs.declared.aggregation.Order.{Order};
 ghost use Rattle.agg_evaluation.specs.Orders.{bucket_count};
@@ -7,6 +9,7 @@ ghost use Rattle.agg_evaluation.specs.Rows.{PlacedRow};
 ghost use Rattle.agg_evaluation.specs.Whole.{Parts};
 ghost use Rattle.agg_evaluation.specs.Whole.{parts as node_parts};
 ghost use Rattle.agg_spec.specs.Final.{Finisher, terms_answer};
+ghost use Rattle.agg_spec.specs.TermsErrors.{IsTermsByCount, IsWithinError, true_group_count};
 ghost use Rattle.agg_spec.specs.TermsSums.{
   all_key_count,
   answer_of_rows,
@@ -36,4 +39,12 @@ pub fn terms_count_all_keys()
         + other_count (answer_of_rows agg shards)
         + below_minimum_count min_doc_count (node_parts (whole_of_rows agg shards)).buckets
         ≡ all_key_count agg shards }
+{}
+
+/// By descending count each returned term is within its error: the number of all rows that have the key lies between
+/// its count and that plus its error, whatever the shards cut.
+pub fn returned_terms_are_within_their_error()
+    ensures { (agg : Agg) (shards : List (List PlacedRow × List PlacedRow)) →
+        IsTermsByCount (out-Agg agg).kind →
+        AllByRecursion (IsWithinError (true_group_count agg shards)) (out-NodeAnswer (answer_of_rows agg shards)).buckets }
 {}
