@@ -17,6 +17,7 @@ mod SoloExamples
 mod StatusExamples
 mod TermsExamples
 mod WaveExamples
+mod WorkersExamples
 pub mod FallingCounts
 pub mod GroupSums
 pub mod ShardBounds
