@@ -20,6 +20,7 @@ mod WaveExamples
 mod WorkersExamples
 pub mod FallingCounts
 pub mod GroupSums
+pub mod SearchAnswers
 pub mod ShardBounds
 pub mod SumLaws
 pub mod TermsAddUp

@@ -1,19 +1,23 @@
 //! Laws of the definitions. Each function has a law as its contract, over all values of the definitions, and does nothing.
-ghost use Rattle.std.specs.Prelude.{◌≡◌, ◌+◌, ℕ, List, Some, sum_by};
+ghost use Rattle.std.specs.Prelude.{◌≡◌, ◌+◌, ℕ, List, Some, slice_get, sum_by};
 ghost use Rattle.std.specs.List.{AllByRecursion};
 ghost use Rattle.agg_model.specs.declared.answer.NodeAnswer.{out-NodeAnswer};
 ghost use Rattle.agg_model.specs.declared.aggregation.Agg.{Agg, out-Agg};
 ghost use Rattle.agg_model.specs.declared.aggregation.Order.{Order};
+ghost use Rattle.agg_model.specs.declared.aggregation.Search.{Search};
 ghost use Rattle.agg_evaluation.specs.Orders.{bucket_count};
 ghost use Rattle.agg_evaluation.specs.Rows.{PlacedRow};
 ghost use Rattle.agg_evaluation.specs.Whole.{Parts};
 ghost use Rattle.agg_evaluation.specs.Whole.{parts as node_parts};
+ghost use Rattle.agg_spec.specs.Index.{Index};
+ghost use Rattle.agg_spec.specs.Outcome.{answer_of};
 ghost use Rattle.agg_spec.specs.Final.{Finisher, terms_answer};
 ghost use Rattle.agg_spec.specs.TermsErrors.{IsTermsByCount, IsWithinError, true_group_count};
 ghost use Rattle.agg_spec.specs.TermsSums.{
   all_key_count,
   answer_of_rows,
   below_minimum_count,
+  matched_by_shard,
   minimum_of_terms,
   other_count,
   returned_count,
@@ -47,4 +51,11 @@ pub fn returned_terms_are_within_their_error()
     ensures { (agg : Agg) (shards : List (List PlacedRow × List PlacedRow)) →
         IsTermsByCount (out-Agg agg).kind →
         AllByRecursion (IsWithinError (true_group_count agg shards)) (out-NodeAnswer (answer_of_rows agg shards)).buckets }
+{}
+
+/// A search answers each aggregation at its top as the aggregation answers the rows of each shard that match.
+pub fn a_search_answers_the_rows_that_match()
+    ensures { (index : Index) (search : Search) (place : ℕ) (agg : Agg) →
+        slice_get search.aggs place ≡ Some agg →
+        slice_get (answer_of index search).nodes place ≡ Some (answer_of_rows agg (matched_by_shard index search)) }
 {}
