@@ -38,10 +38,12 @@ term_members (key.Word w) = (codes "key", string w) ∷ []
 term_members (key.Flag b) = (codes "key", count (if b then 1 else 0)) ∷ (codes "key_as_string", string (flag_text b)) ∷ []
 term_members _ = (codes "key", null) ∷ []
 
+-- the error of a bucket's count, where it is shown
 abbrev pub error_members : Bool → Option ℤ → List Member
 error_members true (Some error) = (codes "doc_count_error_upper_bound", whole_number error) ∷ []
 error_members _ _ = []
 
+-- the name of a keyed bucket of a histogram
 abbrev pub key_number : Key → List ℕ
 key_number (key.Whole n) = signed_decimal n
 key_number _ = []

@@ -30,13 +30,15 @@ applied_status Updated = 200
 applied_status Deleted = 200
 applied_status NotFound = 404
 
--- the refusals that are of the action and not of its document: the id is live, the index is full
+-- a create of an id that is live
 abbrev pub id_is_live : ℕ
 id_is_live = 26
 
+-- a name that a strict mapping lacks
 abbrev pub strict_mapping : ℕ
 strict_mapping = 27
 
+-- a document that the index has no room for
 abbrev pub index_is_full : ℕ
 index_is_full = 28
 
@@ -49,6 +51,7 @@ refusal_type n =
 abbrev pub refusal_status : ℕ → ℕ
 refusal_status n = if n == id_is_live then 409 else 400
 
+-- a refusal of the action, and not of its document, has no path
 abbrev pub refusal_path : ItemRefusal → List Member
 refusal_path r = if (r.number == id_is_live) || (r.number == index_is_full) then [] else (codes "path", string r.path) ∷ []
 
