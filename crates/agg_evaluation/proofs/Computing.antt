@@ -1,4 +1,5 @@
--- All that unfolds when a definition runs on a value that is written out.
+-- All that unfolds when a definition runs on a value that is written out: examples have `unfolding computing` and then hold
+-- by `refl`.
 unfoldable pub computing : Unit {0}
 unfolding
     Rattle.agg_model.specs.declared.row.Children.TheViews.roll-Row Rattle.agg_model.specs.declared.row.Children.TheViews.roll-Children
@@ -10,6 +11,7 @@ unfolding
     Rattle.agg_model.specs.declared.answer.BucketAnswer.TheBlock.hidden-the_row-BucketAnswer-1
     Rattle.agg_model.specs.declared.partial.Node.TheBlock.shown-the_row-Bucket-1
     Rattle.agg_model.specs.declared.aggregation.Agg.TheBlock.hidden-the_row-Agg-0
+    Rattle.agg_model.specs.declared.query.Query.TheBlock.hidden-the_row-Query-0 Rattle.agg_model.specs.declared.query.Query.TheBlock.hidden-the_row-Query-1
     Rattle.agg_model.specs.declared.key.Key.TheBlock.hidden-the_row-Key-0 Rattle.agg_model.specs.declared.key.Key.TheBlock.shown-the_row-Key-0
     denote.Hole.Carrier.out denote.Hole.Carrier.roll denote.Hole.Carrier.shown denote.Hole.Carrier.hidden
 computing = tt

@@ -1,1 +1,6 @@
 pub mod Computing
+pub mod Samples
+pub mod KeyCompare
+pub mod KeyExact
+pub mod FoldLaws
+mod examples
