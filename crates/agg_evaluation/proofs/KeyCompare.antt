@@ -19,6 +19,7 @@ derived = (ghosts).cmp
 
 mutual
   unfolding computing
+
   one_level : (j k : Key) → laws.unfolded j k ≡ key_cmp j k
   one_level key.Null key.Null = refl
   one_level key.Null (key.Whole n) = refl

@@ -34,6 +34,7 @@ both_equal Greater p e = greater_not_equal e
 
 mutual
   unfolding computing
+
   pub exact_keys : (j k : Key) → key_cmp j k ≡ Equal → j ≡ k
   exact_keys key.Null key.Null e = refl
   exact_keys key.Null (key.Whole n) e = less_not_equal e
@@ -70,7 +71,7 @@ mutual
   exact_keys (key.Many' m js) (key.Flag c) e = greater_not_equal e
   exact_keys (key.Many' m js) (key.Word w) e = greater_not_equal e
   exact_keys (key.Many' m js) (key.Fixed n) e = greater_not_equal e
-  exact_keys (key.Many' m js) (key.Many' n ks) e = 
+  exact_keys (key.Many' m js) (key.Many' n ks) e =
       sym (roll-out-Key (key.Many' m js)) ∙ ap (λ xs. roll-Key (Key-F.Many xs)) (items_shown-the_row-Key-0 m js ∙ exact_parts js (shown-the_row-Key-0 n ks) e) ∙ roll-out-Key (key.Many' n ks)
 
   exact_parts : {m : _} (js : Row_of-Key m) (ks : List Key) → slice_cmp (λ (h : Key → Ordering) (k : Key). h k) (fold_keys (λ j k. key_cmp_at j (out-Key k)) js) ks ≡ Equal → items-the_row-Key m js ≡ ks

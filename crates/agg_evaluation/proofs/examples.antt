@@ -1,8 +1,12 @@
-mod Queries
+mod Ceilings
+mod Composites
+mod FixedBuckets
+mod Histograms
+mod Metrics
+mod NestedCeilings
 mod NestedRows
+mod Queries
 mod ReverseNested
 mod Terms
-mod Histograms
-mod FixedBuckets
-mod Composites
-mod Metrics
+mod Traces
+mod Wholes

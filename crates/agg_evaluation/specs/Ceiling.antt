@@ -46,6 +46,13 @@ abbrev pub combination_count : List CompositeSource → PlacedRow → ℕ
 combination_count [] row = 1
 combination_count (s ∷ ss) row = length (source_keys row s) * combination_count ss row
 
+-- a row, and how many paths of keys lead to it from the top
+abbrev pub Reached : Type 0
+Reached = PlacedRow × ℕ
+
+abbrev pub path_count : List Reached → ℕ
+path_count reached = sum (map (λ r. r.1) reached)
+
 -- `kinds` are the kinds of the mapping's fields, and `all` the rows of the shard
 module _ (kinds : List FieldKind) (all : List PlacedRow) where
   abbrev pub field_bytes : ℕ → Option Scalar → ℕ
@@ -62,10 +69,13 @@ module _ (kinds : List FieldKind) (all : List PlacedRow) where
   key_bound (kind.Composite sources size after) = sum (map part_bytes sources)
   key_bound _ = 0
 
-  -- the rows that a node hands to its children, each as often as paths of keys lead to it
-  abbrev pub handed_on : Kind → List PlacedRow → List PlacedRow
-  handed_on k rows =
-      flat_map (λ row. map (λ key. row) (keys all k row)) (flat_map (λ row. under all (row ∷ []) k (row ∷ [])) rows)
+  -- the rows that an aggregation counts of those that reach it
+  abbrev pub counted_from : Kind → List Reached → List Reached
+  counted_from k reached = flat_map (λ r. map (λ row. (row, r.1)) (under all (r.0 ∷ []) k (r.0 ∷ []))) reached
+
+  -- each path to a row goes on through each of its keys
+  abbrev pub handed_on : Kind → List Reached → List Reached
+  handed_on k reached = map (λ r. (r.0, r.1 * length (keys all k r.0))) (counted_from k reached)
 
   -- a bound on the buckets of so many nodes, to whose keys so many paths lead
   abbrev pub bucket_bound : Kind → Shape → ℕ → ℕ → ℕ
@@ -75,15 +85,15 @@ module _ (kinds : List FieldKind) (all : List PlacedRow) where
 
   -- The bytes of so many nodes of an aggregation and of all below them, where these rows reach them. A bucket of the
   -- parent is one node.
-  abbrev pub node_bound : Agg → ℕ → List PlacedRow → ℕ
-  node_bound = fold_agg (λ a nodes rows.
-      let handed = handed_on a.kind rows in
-      let buckets = bucket_bound a.kind (shape_of a.kind) nodes (length handed) in
+  abbrev pub node_bound : Agg → ℕ → List Reached → ℕ
+  node_bound = fold_agg (λ a nodes reached.
+      let handed = handed_on a.kind reached in
+      let buckets = bucket_bound a.kind (shape_of a.kind) nodes (path_count handed) in
       nodes * 512 + buckets * (128 + key_bound a.kind) + sum (map (λ child. child buckets handed) a.children))
 
 -- the roots that an aggregation at the top collects
-abbrev pub collected_roots : Search → List PlacedRow → Kind → List PlacedRow
-collected_roots search all k = if is_global k then roots all else matched_roots all search.query
+abbrev pub collected_roots : Search → List PlacedRow → Kind → List Reached
+collected_roots search all k = map (λ row. (row, 1)) (if is_global k then roots all else matched_roots all search.query)
 
 -- twice what a task can hold, without regard to the greatest ceiling
 abbrev pub task_bound : List FieldKind → Search → List PlacedRow → ℕ

@@ -12,5 +12,4 @@ pub fn keys_have_one_order()
     ensures compared { (j k : AnyKey) → ⟦<Key as Ord>⟧.cmp j k ≡ key_cmp j k }
     ensures total { IsTotalOrder key_cmp }
     ensures exact { (j k : AnyKey) → key_cmp j k ≡ Equal → j ≡ k }
-{
-}
+{}

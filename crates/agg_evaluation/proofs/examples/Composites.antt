@@ -11,15 +11,15 @@ use Rattle.agg_evaluation.proofs.Samples.{numbers, words, flat, document, source
 abbrev two : List PlacedRow
 two = shard_rows
     (document (codes "1") (flat (numbers 1 ((pos 1) ∷ (pos 2) ∷ []) ∷ words 2 ((codes "x") ∷ []) ∷ []))
-      ∷ document (codes "2") (flat (numbers 1 ((pos 1) ∷ (pos 2) ∷ (pos 3) ∷ []) ∷ words 2 ((codes "y") ∷ []) ∷ []))
-      ∷ [])
+    ∷ document (codes "2") (flat (numbers 1 ((pos 1) ∷ (pos 2) ∷ (pos 3) ∷ []) ∷ words 2 ((codes "y") ∷ []) ∷ []))
+    ∷ [])
 
 abbrev with_a_gap : List PlacedRow
 with_a_gap = shard_rows
     (document (codes "1") (flat (numbers 1 ((pos 1) ∷ (pos 2) ∷ []) ∷ words 2 ((codes "x") ∷ []) ∷ []))
-      ∷ document (codes "2") (flat (numbers 1 ((pos 1) ∷ (pos 2) ∷ (pos 3) ∷ []) ∷ words 2 ((codes "y") ∷ []) ∷ []))
-      ∷ document (codes "3") (flat (numbers 1 ((pos 7) ∷ []) ∷ []))
-      ∷ [])
+    ∷ document (codes "2") (flat (numbers 1 ((pos 1) ∷ (pos 2) ∷ (pos 3) ∷ []) ∷ words 2 ((codes "y") ∷ []) ∷ []))
+    ∷ document (codes "3") (flat (numbers 1 ((pos 7) ∷ []) ∷ []))
+    ∷ [])
 
 first_page : shard_answer (search_of query.All ((agg (codes "c") (kind.Composite (source (codes "k") 2 None false false ∷ source (codes "m") 1 None false false ∷ []) 2 None) []) ∷ [])) two
     ≡ result 2 ((keyed (bucket (key.Many ((key.Word (codes "x")) ∷ (key.Whole (pos 1)) ∷ [])) 1 [] ∷ bucket (key.Many ((key.Word (codes "x")) ∷ (key.Whole (pos 2)) ∷ [])) 1 [] ∷ [])) ∷ [])

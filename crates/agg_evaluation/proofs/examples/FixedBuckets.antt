@@ -14,9 +14,9 @@ use Rattle.agg_evaluation.proofs.Samples.{numbers, words, flat, document, bound,
 abbrev documents : List PlacedRow
 documents = shard_rows
     (document (codes "1") (flat (numbers 1 ((pos 1) ∷ []) ∷ words 2 ((codes "p") ∷ (codes "q") ∷ []) ∷ []))
-      ∷ document (codes "2") (flat (numbers 1 ((pos 2) ∷ []) ∷ words 2 ((codes "z") ∷ []) ∷ []))
-      ∷ document (codes "3") (flat (numbers 1 ((pos 3) ∷ (pos 4) ∷ []) ∷ []))
-      ∷ [])
+    ∷ document (codes "2") (flat (numbers 1 ((pos 2) ∷ []) ∷ words 2 ((codes "z") ∷ []) ∷ []))
+    ∷ document (codes "3") (flat (numbers 1 ((pos 3) ∷ (pos 4) ∷ []) ∷ []))
+    ∷ [])
 
 abbrev none : List PlacedRow
 none = shard_rows

@@ -13,9 +13,9 @@ use Rattle.agg_evaluation.proofs.Samples.{numbers, words, flat, document, by_key
 abbrev three : List PlacedRow
 three = shard_rows
     (document (codes "1") (flat (numbers 1 ((negsuc 0) ∷ []) ∷ []))
-      ∷ document (codes "2") (flat (numbers 1 ((pos 0) ∷ []) ∷ []))
-      ∷ document (codes "3") (flat (numbers 1 ((pos 25) ∷ []) ∷ []))
-      ∷ [])
+    ∷ document (codes "2") (flat (numbers 1 ((pos 0) ∷ []) ∷ []))
+    ∷ document (codes "3") (flat (numbers 1 ((pos 25) ∷ []) ∷ []))
+    ∷ [])
 
 a_negative_value_goes_down : shard_answer (search_of query.All ((agg (codes "h") (kind.Histogram 1 10 0 0 no_bounds no_bounds false by_key None) []) ∷ [])) three
     ≡ result 3 ((keyed (bucket (key.Whole (negsuc 9)) 1 [] ∷ bucket (key.Whole (pos 0)) 1 [] ∷ bucket (key.Whole (pos 20)) 1 [] ∷ [])) ∷ [])
@@ -30,9 +30,9 @@ keys_start_at_the_offset = refl
 abbrev edges : List PlacedRow
 edges = shard_rows
     (document (codes "1") (flat (numbers 1 ((negsuc 10) ∷ (negsuc 9) ∷ (negsuc 8) ∷ []) ∷ []))
-      ∷ document (codes "2") (flat (numbers 1 ((pos 9) ∷ (pos 10) ∷ (pos 19) ∷ []) ∷ []))
-      ∷ document (codes "3") (flat (words 2 ((codes "none") ∷ []) ∷ []))
-      ∷ [])
+    ∷ document (codes "2") (flat (numbers 1 ((pos 9) ∷ (pos 10) ∷ (pos 19) ∷ []) ∷ []))
+    ∷ document (codes "3") (flat (words 2 ((codes "none") ∷ []) ∷ []))
+    ∷ [])
 
 an_interval_has_its_start_and_not_its_end : shard_answer (search_of query.All ((agg (codes "h") (kind.Histogram 1 10 0 0 no_bounds no_bounds false by_key None) []) ∷ [])) edges
     ≡ result 3 ((keyed (bucket (key.Whole (negsuc 19)) 1 [] ∷ bucket (key.Whole (negsuc 9)) 1 [] ∷ bucket (key.Whole (pos 0)) 1 [] ∷ bucket (key.Whole (pos 10)) 1 [] ∷ [])) ∷ [])

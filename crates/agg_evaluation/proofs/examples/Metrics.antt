@@ -11,9 +11,9 @@ use Rattle.agg_evaluation.proofs.Samples.{numbers, words, flags, flat, document,
 abbrev documents : List PlacedRow
 documents = shard_rows
     (document (codes "1") (flat (numbers 1 ((negsuc 0) ∷ (pos 4) ∷ []) ∷ words 2 ((codes "a") ∷ (codes "b") ∷ []) ∷ []))
-      ∷ document (codes "2") (flat (flags 0 (true ∷ true ∷ []) ∷ numbers 1 ((pos 0) ∷ []) ∷ []))
-      ∷ document (codes "3") (flat (words 2 ((codes "a") ∷ []) ∷ []))
-      ∷ [])
+    ∷ document (codes "2") (flat (flags 0 (true ∷ true ∷ []) ∷ numbers 1 ((pos 0) ∷ []) ∷ []))
+    ∷ document (codes "3") (flat (words 2 ((codes "a") ∷ []) ∷ []))
+    ∷ [])
 
 abbrev none : List PlacedRow
 none = shard_rows

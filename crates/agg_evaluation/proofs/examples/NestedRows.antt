@@ -14,9 +14,9 @@ use Rattle.agg_evaluation.proofs.Samples.{numbers, words, row, flat, nested, doc
 abbrev documents : List PlacedRow
 documents = shard_rows
     (document (codes "1") (row (words 2 ((codes "x") ∷ []) ∷ []) (nested 0 ((row (words 0 ((codes "a") ∷ []) ∷ []) (nested 1 ((flat (numbers 1 ((pos 1) ∷ []) ∷ [])) ∷ (flat (numbers 1 ((pos 2) ∷ []) ∷ [])) ∷ []) ∷ [])) ∷ (row (words 0 ((codes "b") ∷ []) ∷ []) (nested 1 ((flat (numbers 1 ((pos 3) ∷ []) ∷ [])) ∷ []) ∷ [])) ∷ []) ∷ []))
-      ∷ document (codes "2") (row (words 2 ((codes "y") ∷ []) ∷ []) (nested 0 ((row (words 0 ((codes "a") ∷ []) ∷ []) (nested 1 ((flat (numbers 1 ((pos 2) ∷ []) ∷ [])) ∷ (flat (numbers 1 ((pos 2) ∷ []) ∷ [])) ∷ []) ∷ [])) ∷ []) ∷ []))
-      ∷ document (codes "3") (flat (words 2 ((codes "z") ∷ []) ∷ []))
-      ∷ [])
+    ∷ document (codes "2") (row (words 2 ((codes "y") ∷ []) ∷ []) (nested 0 ((row (words 0 ((codes "a") ∷ []) ∷ []) (nested 1 ((flat (numbers 1 ((pos 2) ∷ []) ∷ [])) ∷ (flat (numbers 1 ((pos 2) ∷ []) ∷ [])) ∷ []) ∷ [])) ∷ []) ∷ []))
+    ∷ document (codes "3") (flat (words 2 ((codes "z") ∷ []) ∷ []))
+    ∷ [])
 
 nested_query_matches_a_row_below : map (λ r. r.id) (matched_roots documents (query.Nested 0 (query.Term 0 (probe.Word (codes "b")))))
     ≡ ((codes "1") ∷ [])

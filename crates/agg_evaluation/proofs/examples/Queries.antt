@@ -11,10 +11,10 @@ use Rattle.agg_evaluation.proofs.Samples.{numbers, words, flags, flat, document,
 abbrev documents : List PlacedRow
 documents = shard_rows
     (document (codes "1") (flat (flags 0 (true ∷ []) ∷ numbers 1 ((pos 1) ∷ (pos 9) ∷ []) ∷ words 2 ((codes "a") ∷ (codes "c") ∷ []) ∷ []))
-      ∷ document (codes "2") (flat (numbers 1 ((pos 5) ∷ []) ∷ words 2 ((codes "b") ∷ []) ∷ []))
-      ∷ document (codes "3") (flat (flags 0 (false ∷ true ∷ []) ∷ numbers 1 ((negsuc 2) ∷ []) ∷ []))
-      ∷ document (codes "4") (flat [])
-      ∷ [])
+    ∷ document (codes "2") (flat (numbers 1 ((pos 5) ∷ []) ∷ words 2 ((codes "b") ∷ []) ∷ []))
+    ∷ document (codes "3") (flat (flags 0 (false ∷ true ∷ []) ∷ numbers 1 ((negsuc 2) ∷ []) ∷ []))
+    ∷ document (codes "4") (flat [])
+    ∷ [])
 
 match_all_matches_each : map (λ r. r.id) (matched_roots documents query.All)
     ≡ ((codes "1") ∷ (codes "2") ∷ (codes "3") ∷ (codes "4") ∷ [])

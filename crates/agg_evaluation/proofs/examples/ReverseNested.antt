@@ -12,7 +12,7 @@ use Rattle.agg_evaluation.proofs.Samples.{words, row, flat, nested, document, te
 abbrev documents : List PlacedRow
 documents = shard_rows
     (document (codes "1") (row [] (nested 0 ((flat (words 0 ((codes "k") ∷ []) ∷ [])) ∷ (flat (words 0 ((codes "k") ∷ []) ∷ [])) ∷ []) ∷ []))
-      ∷ [])
+    ∷ [])
 
 a_root_counts_once : shard_answer (search_of query.All ((agg (codes "o") (kind.Nested 1) ((agg (codes "by") (terms 0) ((agg (codes "back") (kind.ReverseNested 0) []) ∷ [])) ∷ [])) ∷ [])) documents
     ≡ result 1 ((Fixed (bucket (key.Fixed 0) 2 ((keyed (bucket (key.Word (codes "k")) 2 ((Fixed (bucket (key.Fixed 0) 1 [] ∷ [])) ∷ []) ∷ [])) ∷ []) ∷ [])) ∷ [])

@@ -15,19 +15,19 @@ use Rattle.agg_evaluation.proofs.Samples.{numbers, words, flags, flat, document,
 abbrev three_of_a : List PlacedRow
 three_of_a = shard_rows
     (document (codes "1") (flat (words 2 ((codes "a") ∷ []) ∷ []))
-      ∷ document (codes "2") (flat (words 2 ((codes "a") ∷ []) ∷ []))
-      ∷ document (codes "3") (flat (words 2 ((codes "a") ∷ []) ∷ []))
-      ∷ document (codes "4") (flat (words 2 ((codes "b") ∷ []) ∷ []))
-      ∷ document (codes "5") (flat (words 2 ((codes "b") ∷ []) ∷ []))
-      ∷ [])
+    ∷ document (codes "2") (flat (words 2 ((codes "a") ∷ []) ∷ []))
+    ∷ document (codes "3") (flat (words 2 ((codes "a") ∷ []) ∷ []))
+    ∷ document (codes "4") (flat (words 2 ((codes "b") ∷ []) ∷ []))
+    ∷ document (codes "5") (flat (words 2 ((codes "b") ∷ []) ∷ []))
+    ∷ [])
 
 abbrev three_of_b : List PlacedRow
 three_of_b = shard_rows
     (document (codes "1") (flat (words 2 ((codes "b") ∷ []) ∷ []))
-      ∷ document (codes "2") (flat (words 2 ((codes "b") ∷ []) ∷ []))
-      ∷ document (codes "3") (flat (words 2 ((codes "b") ∷ []) ∷ []))
-      ∷ document (codes "4") (flat (words 2 ((codes "a") ∷ []) ∷ []))
-      ∷ [])
+    ∷ document (codes "2") (flat (words 2 ((codes "b") ∷ []) ∷ []))
+    ∷ document (codes "3") (flat (words 2 ((codes "b") ∷ []) ∷ []))
+    ∷ document (codes "4") (flat (words 2 ((codes "a") ∷ []) ∷ []))
+    ∷ [])
 
 first_shard_keeps_a : shard_answer (search_of query.All ((agg (codes "t") (kind.Terms 2 1 1 1 by_count None [] None true) []) ∷ [])) three_of_a
     ≡ result 5 ((Keyed (covered_bucket (key.Word (codes "a")) 3 3 [] ∷ []) 3 1 2) ∷ [])
@@ -57,11 +57,11 @@ nothing_is_cut_at_the_usual_shard_size = refl
 abbrev five : List PlacedRow
 five = shard_rows
     (document (codes "1") (flat (words 2 ((codes "a") ∷ []) ∷ []))
-      ∷ document (codes "2") (flat (words 2 ((codes "b") ∷ []) ∷ []))
-      ∷ document (codes "3") (flat (words 2 ((codes "c") ∷ []) ∷ []))
-      ∷ document (codes "4") (flat (words 2 ((codes "d") ∷ []) ∷ []))
-      ∷ document (codes "5") (flat (words 2 ((codes "e") ∷ []) ∷ []))
-      ∷ [])
+    ∷ document (codes "2") (flat (words 2 ((codes "b") ∷ []) ∷ []))
+    ∷ document (codes "3") (flat (words 2 ((codes "c") ∷ []) ∷ []))
+    ∷ document (codes "4") (flat (words 2 ((codes "d") ∷ []) ∷ []))
+    ∷ document (codes "5") (flat (words 2 ((codes "e") ∷ []) ∷ []))
+    ∷ [])
 
 -- a shard size below the size is raised to it when the request is read
 exactly_as_many_terms_as_asked_for : shard_answer (search_of query.All ((agg (codes "t") (kind.Terms 2 4 4 1 by_count None [] None false) []) ∷ [])) five
@@ -72,7 +72,7 @@ exactly_as_many_terms_as_asked_for = refl
 abbrev repeats : List PlacedRow
 repeats = shard_rows
     (document (codes "1") (flat (numbers 1 ((pos 5) ∷ (pos 5) ∷ []) ∷ words 2 ((codes "a") ∷ (codes "b") ∷ []) ∷ []))
-      ∷ [])
+    ∷ [])
 
 -- but numbers keep their repeats for metrics
 equal_values_of_a_row_count_once : shard_answer (search_of query.All ((agg (codes "n") (terms 1) []) ∷ (agg (codes "s") (kind.Sum 1 None) []) ∷ (agg (codes "u") (terms 2) []) ∷ (agg (codes "v") (kind.ValueCount 2 None) []) ∷ (agg (codes "w") (kind.ValueCount 1 None) []) ∷ [])) repeats
@@ -83,10 +83,10 @@ equal_values_of_a_row_count_once = refl
 abbrev mixed : List PlacedRow
 mixed = shard_rows
     (document (codes "1") (flat (numbers 1 ((pos 3) ∷ []) ∷ words 2 ((codes "a") ∷ (codes "b") ∷ []) ∷ []))
-      ∷ document (codes "2") (flat (numbers 1 ((pos 1) ∷ []) ∷ words 2 ((codes "b") ∷ []) ∷ []))
-      ∷ document (codes "3") (flat (flags 0 (true ∷ []) ∷ numbers 1 ((negsuc 1) ∷ []) ∷ []))
-      ∷ document (codes "4") (flat (flags 0 (false ∷ []) ∷ words 2 ((codes "c") ∷ []) ∷ []))
-      ∷ [])
+    ∷ document (codes "2") (flat (numbers 1 ((pos 1) ∷ []) ∷ words 2 ((codes "b") ∷ []) ∷ []))
+    ∷ document (codes "3") (flat (flags 0 (true ∷ []) ∷ numbers 1 ((negsuc 1) ∷ []) ∷ []))
+    ∷ document (codes "4") (flat (flags 0 (false ∷ []) ∷ words 2 ((codes "c") ∷ []) ∷ []))
+    ∷ [])
 
 include_keeps_the_listed_keys : shard_answer (search_of query.All ((agg (codes "t") (kind.Terms 2 10 25 1 by_count (Some ((probe.Word (codes "b")) ∷ (probe.Word (codes "z")) ∷ [])) [] None false) []) ∷ [])) mixed
     ≡ result 4 ((keyed (bucket (key.Word (codes "b")) 2 [] ∷ [])) ∷ [])
