@@ -11,5 +11,6 @@ pub mod Whole
 pub mod Cost
 pub mod Trace
 pub mod Trees
+pub mod Intervals
 pub mod Ceiling
 pub mod TrueCounts
