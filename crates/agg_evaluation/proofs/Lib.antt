@@ -4,4 +4,8 @@ pub mod KeyCompare
 pub mod KeyExact
 pub mod FoldLaws
 pub mod IntervalLaws
+pub mod KeyLists
+pub mod SortedLists
+pub mod TreeLaws
+pub mod NodeForms
 mod examples
