@@ -50,5 +50,5 @@ same_times i o v t u t_high u_high t_low u_low (negsuc n) e =
 pub interval-unique : (interval offset : ℕ) (value j k : ℤ) → IsIntervalOf interval offset value j → IsIntervalOf interval offset value k → j ≡ k
 interval-unique i o v j k p q =
     let at = same_times i o v p.times q.times (subst (λ j. v <ℤ (j +ℤ pos i)) p.multiple p.above) (subst (λ k. v <ℤ (k +ℤ pos i)) q.multiple q.above)
-        (subst (λ j. j ≤ℤ v) p.multiple p.at_most) (subst (λ k. k ≤ℤ v) q.multiple q.at_most) (q.times -ℤ p.times) (omega (arith, ints)) in
+    (subst (λ j. j ≤ℤ v) p.multiple p.at_most) (subst (λ k. k ≤ℤ v) q.multiple q.at_most) (q.times -ℤ p.times) (omega (arith, ints)) in
     p.multiple ∙ ap (λ t. (t *ℤ pos i) +ℤ pos o) at ∙ sym q.multiple

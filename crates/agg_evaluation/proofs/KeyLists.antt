@@ -75,7 +75,7 @@ ascending-insert_once k (l ∷ ks) h =
       | Less ↦ λ p. both _ _ (both _ _ (subst (λ r. T (is_lt r)) (sym p) tt) (below-trans k l ks p (and_left _ _ h))) h
       | Equal ↦ λ p. h
       | Greater ↦ λ p. both _ _ (below-insert_once l k ks (subst (λ r. T (is_lt r)) (sym (key_cmp_total.antisymm l k ∙ ap ordering_reverse p)) tt) (and_left _ _ h))
-            (ascending-insert_once k ks (and_right _ _ h))
+          (ascending-insert_once k ks (and_right _ _ h))
     ] refl
 
 pub ascending-distinct_keys : (ks : List Key) → T (is_ascending (distinct_keys ks))
@@ -141,7 +141,7 @@ keys-entries (k ∷ ks) = ap (λ js. k ∷ js) (keys-entries ks)
 pub same_keys : (js ks : List Key) → T (is_ascending js) → T (is_ascending ks) → ((q : Key) → has_key q js ≡ has_key q ks) → js ≡ ks
 same_keys js ks up_j up_k same =
     let e = same_entries key_cmp key_cmp_total exact_keys (entries js) (entries ks) (sorted-entries js up_j) (sorted-entries ks up_k)
-          (λ q. find-entries q js ∙ ap (λ (b : Bool). cond b (Some 0) None) (same q) ∙ sym (find-entries q ks)) in
+    (λ q. find-entries q js ∙ ap (λ (b : Bool). cond b (Some 0) None) (same q) ∙ sym (find-entries q ks)) in
     sym (keys-entries js) ∙ ap (map (λ e. e.0)) e ∙ keys-entries ks
 
 pub distinct_keys-same : (js ks : List Key) → ((q : Key) → has_key q js ≡ has_key q ks) → distinct_keys js ≡ distinct_keys ks
@@ -161,7 +161,7 @@ filter-ascending q [] h = refl
 filter-ascending q (k ∷ ks) h =
     elim (key_eq q k) as (λ b. key_eq q k ≡ b → cond b (k ∷ filter (key_eq q) ks) (filter (key_eq q) ks) ≡ cond (b || has_key q ks) (q ∷ []) []) [
       | true ↦ λ e. let same = key_eq-exact q k (holds _ e) in
-            ap (λ ks. k ∷ ks) (ap (λ q. filter (key_eq q) ks) same ∙ no_more k ks (and_left _ _ h)) ∙ ap (λ k. k ∷ []) (sym same)
+          ap (λ ks. k ∷ ks) (ap (λ q. filter (key_eq q) ks) same ∙ no_more k ks (and_left _ _ h)) ∙ ap (λ k. k ∷ []) (sym same)
       | false ↦ λ e. filter-ascending q ks (and_right _ _ h)
     ] refl
 

@@ -8,4 +8,6 @@ pub mod KeyLists
 pub mod SortedLists
 pub mod TreeLaws
 pub mod NodeForms
+pub mod DistinctKeys
+pub mod CounterLaws
 mod examples

@@ -86,7 +86,6 @@ module _ {A : Type 0} (p : A → Bool) where
 
 -- the keys of items
 module _ {A : Type 0} (key : A → Key) where
-
   below-insert : (k : Key) (x : A) (ys : List A) → T (is_lt (key_cmp k (key x))) → T (is_below k (map key ys)) → T (is_below k (map key (insert_sorted (λ a b. key_cmp (key a) (key b)) x ys)))
   below-insert k x [] h g = both _ _ h tt
   below-insert k x (y ∷ ys) h g =
@@ -99,11 +98,11 @@ module _ {A : Type 0} (key : A → Key) where
   ascending-insert x [] h g = tt
   ascending-insert x (y ∷ ys) h g =
       elim (key_cmp (key x) (key y)) as (λ r. key_cmp (key x) (key y) ≡ r → cond (is_eq r) (suc (occurrences (λ y. key_eq (key x) (key y)) ys)) (occurrences (λ y. key_eq (key x) (key y)) ys) ≡ 0
-            → T (is_ascending (map key (if is_le r then x ∷ y ∷ ys else (y ∷ insert_sorted (λ a b. key_cmp (key a) (key b)) x ys))))) [
+      → T (is_ascending (map key (if is_le r then x ∷ y ∷ ys else (y ∷ insert_sorted (λ a b. key_cmp (key a) (key b)) x ys))))) [
         | Less ↦ λ p g. both _ _ (both _ _ (subst (λ r. T (is_lt r)) (sym p) tt) (below-trans (key x) (key y) (map key ys) p (and_left _ _ h))) h
         | Equal ↦ λ p g. absurd (omega arith)
         | Greater ↦ λ p g. both _ _ (below-insert (key y) x ys (subst (λ r. T (is_lt r)) (sym (key_cmp_total.antisymm (key y) (key x) ∙ ap ordering_reverse p)) tt) (and_left _ _ h))
-              (ascending-insert x ys (and_right _ _ h) g)
+            (ascending-insert x ys (and_right _ _ h) g)
       ] refl g
 
   pub ascending-sorted : (xs : List A) → ((q : Key) → occurrences (λ y. key_eq q (key y)) xs ≤ 1) → T (is_ascending (map key (sorted (λ a b. key_cmp (key a) (key b)) xs)))
@@ -111,7 +110,7 @@ module _ {A : Type 0} (key : A → Key) where
   ascending-sorted (x ∷ xs) once =
       let here : suc (occurrences (λ y. key_eq (key x) (key y)) xs) ≤ 1 = subst (λ (b : Bool). cond b (suc (occurrences (λ y. key_eq (key x) (key y)) xs)) (occurrences (λ y. key_eq (key x) (key y)) xs) ≤ 1) (key_eq-self (key x)) (once (key x)) in
       ascending-insert x (sorted (λ a b. key_cmp (key a) (key b)) xs) (ascending-sorted xs (λ q. fewer (key_eq q (key x)) _ (once q)))
-        (occurrences-sorted (λ a b. key_cmp (key a) (key b)) (λ y. key_eq (key x) (key y)) xs ∙ omega arith)
+      (occurrences-sorted (λ a b. key_cmp (key a) (key b)) (λ y. key_eq (key x) (key y)) xs ∙ omega arith)
     where
       fewer : (b : Bool) (n : ℕ) → cond b (suc n) n ≤ 1 → n ≤ 1
       fewer true n h = omega arith

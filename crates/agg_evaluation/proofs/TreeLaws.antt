@@ -30,6 +30,7 @@ use Rattle.agg_evaluation.specs.Groups.{under, group, all_keys, total_key_count}
 use Rattle.agg_evaluation.specs.Orders.{bucket_key, bucket_count, bucket_cmp, composite_cmp}
 use Rattle.agg_evaluation.specs.Shard.{Collector, fixed_keys, page, trimmed_node, with_covered, sorted_by_key, bucket_of, node_of, collector_of, collected_node, shard_node, shard_answer}
 use Rattle.agg_evaluation.specs.Whole.{Shape, by_key, from_start, a_number, shape_of}
+use Rattle.agg_evaluation.specs.Trace.{built}
 use Rattle.agg_evaluation.specs.Trees.{is_ascending, are_same_keys, pass_each, have_children, is_tree_at, is_tree_of, is_result_of}
 use Rattle.agg_evaluation.proofs.Computing.{computing}
 use Rattle.agg_evaluation.proofs.NodeForms.{out-Keyed, out-Fixed, out-Number}
@@ -87,14 +88,14 @@ module _ (trims : Bool) (all root_rows : List PlacedRow) (tests : List (Node →
       let kept = take size (sorted cmp (buckets_of k rows ks)) in
       let mark = λ (e : ℕ) (b : Bucket). with_covered e b in
       let once : (e : ℕ) (q : Key) → occurrences (λ b. key_eq q (bucket_key b)) (map (mark e) kept) ≤ 1 = (λ e q.
-            let marked = occurrences-map (λ b. key_eq q (bucket_key b)) (mark e) kept in
-            let taken = occurrences-take (λ b. key_eq q (bucket_key b)) size (sorted cmp (buckets_of k rows ks)) in
-            let put = occurrences-sorted cmp (λ b. key_eq q (bucket_key b)) (buckets_of k rows ks) in
-            let made = occurrences-map (λ b. key_eq q (bucket_key b)) (bucket_of trims all root_rows k cs rows) ks in
-            let single = ascending-once q ks (ascending-distinct_keys (flat_map (keys all k) rows)) in
-            omega arith) in
+      let marked = occurrences-map (λ b. key_eq q (bucket_key b)) (mark e) kept in
+      let taken = occurrences-take (λ b. key_eq q (bucket_key b)) size (sorted cmp (buckets_of k rows ks)) in
+      let put = occurrences-sorted cmp (λ b. key_eq q (bucket_key b)) (buckets_of k rows ks) in
+      let made = occurrences-map (λ b. key_eq q (bucket_key b)) (bucket_of trims all root_rows k cs rows) ks in
+      let single = ascending-once q ks (ascending-distinct_keys (flat_map (keys all k) rows)) in
+      omega arith) in
       let pass : (e : ℕ) → T (list_all (λ b. pass_each tests b.children) (map (mark e) kept)) = (λ e.
-            all-marked e kept (all-take (λ b. pass_each tests b.children) size _ (all-sorted cmp (λ b. pass_each tests b.children) (buckets_of k rows ks) (have-children k rows ks)))) in
+      all-marked e kept (all-take (λ b. pass_each tests b.children) size _ (all-sorted cmp (λ b. pass_each tests b.children) (buckets_of k rows ks) (have-children k rows ks)))) in
       tree_by_key fixed _ _ _ _ (ascending-sorted bucket_key (map (mark _) kept) (once _)) (all-sorted (λ a b. key_cmp (bucket_key a) (bucket_key b)) (λ b. pass_each tests b.children) (map (mark _) kept) (pass _))
     where
       all-marked : (e : ℕ) (bs : List Bucket) → T (list_all (λ b. pass_each tests b.children) bs) → T (list_all (λ b. pass_each tests b.children) (map (with_covered e) bs))
@@ -107,11 +108,11 @@ ascending-page sources size after ks up =
     let beyond = λ (k : Key). option_map_or (λ a. is_gt (order k a)) after true in
     let first = take size (filter beyond (sorted order ks)) in
     subst (λ ks. T (is_ascending ks)) (map-same (sorted key_cmp first)) (ascending-sorted (λ (k : Key). k) first (λ q.
-        let taken = occurrences-take (key_eq q) size (filter beyond (sorted order ks)) in
-        let kept = occurrences-filter (key_eq q) beyond (sorted order ks) in
-        let put = occurrences-sorted order (key_eq q) ks in
-        let single = ascending-once q ks up in
-        omega arith))
+    let taken = occurrences-take (key_eq q) size (filter beyond (sorted order ks)) in
+    let kept = occurrences-filter (key_eq q) beyond (sorted order ks) in
+    let put = occurrences-sorted order (key_eq q) ks in
+    let single = ascending-once q ks up in
+    omega arith))
   where
     map-same : (ks : List Key) → map (λ k. k) ks ≡ ks
     map-same [] = refl
@@ -123,7 +124,7 @@ module _ (trims : Bool) (all root_rows : List PlacedRow) where
       let k = kind.Terms field size shard_size min_doc_count order include exclude missing show_error in
       let ks = all_keys all k rows in
       elim trims as (λ b. T (is_tree_at tests (key.Fixed 0 ∷ []) by_key (out-Node (if b then trimmed_node (map (λ c. c.kind) cs) shard_size order (total_key_count all k rows) (map (bucket_of trims all root_rows k cs rows) ks)
-            else Keyed (map (bucket_of trims all root_rows k cs rows) ks) 0 0 0)))) [
+      else Keyed (map (bucket_of trims all root_rows k cs rows) ks) 0 0 0)))) [
         | true ↦ trimmed trims all root_rows tests cs makes (key.Fixed 0 ∷ []) k rows (map (λ c. c.kind) cs) shard_size order (total_key_count all k rows)
         | false ↦ keyed trims all root_rows tests cs makes (key.Fixed 0 ∷ []) k rows ks (ascending-distinct_keys (flat_map (keys all k) rows))
       ]
@@ -133,7 +134,7 @@ module _ (trims : Bool) (all root_rows : List PlacedRow) where
   tree_at tests cs makes (kind.Composite sources size after) rows =
       let k = kind.Composite sources size after in
       keyed trims all root_rows tests cs makes (key.Fixed 0 ∷ []) k rows (page sources size after (all_keys all k rows))
-        (ascending-page sources size after (all_keys all k rows) (ascending-distinct_keys (flat_map (keys all k) rows)))
+      (ascending-page sources size after (all_keys all k rows) (ascending-distinct_keys (flat_map (keys all k) rows)))
   tree_at tests cs makes (kind.Filters names filters other) rows = started trims all root_rows tests cs makes (kind.Filters names filters other) rows (fixed_keys (kind.Filters names filters other))
   tree_at tests cs makes (kind.Filter query) rows = started trims all root_rows tests cs makes (kind.Filter query) rows (key.Fixed 0 ∷ [])
   tree_at tests cs makes (kind.Missing field) rows = started trims all root_rows tests cs makes (kind.Missing field) rows (key.Fixed 0 ∷ [])
@@ -154,9 +155,12 @@ module _ (trims : Bool) (all root_rows : List PlacedRow) where
     each-is_tree end_of-Agg = tt
     each-is_tree (more_of-Agg a rest) = (collected-is_tree a, each-is_tree rest)
 
+each-is_result : (trims : Bool) (all root_rows rows : List PlacedRow) (aggs : List Agg) → T (pass_each (map is_tree_of aggs) (map (λ a. collected_node trims all root_rows a rows) aggs))
+each-is_result trims all root_rows rows [] = tt
+each-is_result trims all root_rows rows (a ∷ aggs) = both _ _ (collected-is_tree trims all root_rows a rows) (each-is_result trims all root_rows rows aggs)
+
 pub shard_answer-is_result : (search : Search) (all : List PlacedRow) → T (is_result_of search (shard_answer search all))
-shard_answer-is_result search all = each search.aggs
-  where
-    each : (aggs : List Agg) → T (pass_each (map is_tree_of aggs) (map (λ a. shard_node all a (matched_roots all search.query)) aggs))
-    each [] = tt
-    each (a ∷ aggs) = both _ _ (collected-is_tree true all (roots all) a _) (each aggs)
+shard_answer-is_result search all = each-is_result true all (roots all) (matched_roots all search.query) search.aggs
+
+pub built-is_result : (search : Search) (all : List PlacedRow) (n : ℕ) → T (is_result_of search (built search all n))
+built-is_result search all n = each-is_result false all _ (take n (matched_roots all search.query)) search.aggs

@@ -10,6 +10,7 @@ pub mod Shard
 pub mod Whole
 pub mod Cost
 pub mod Trace
+pub mod Counters
 pub mod Trees
 pub mod Intervals
 pub mod Ceiling

@@ -1,6 +1,6 @@
 use Rattle.agg_evaluation.proofs.KeyCompare.{derived_is, key_cmp_total}
 use Rattle.agg_evaluation.proofs.KeyExact.{exact_keys}
-use Rattle.agg_evaluation.proofs.laws.keys_have_one_order.Goals as goal
+use Rattle.agg_evaluation.proofs.laws.keys.keys_have_one_order.Goals as goal
 
 pub returns-clause-compared : goal.returns-clause-compared
 returns-clause-compared c = derived_is
