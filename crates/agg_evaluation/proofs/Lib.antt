@@ -10,4 +10,5 @@ pub mod TreeLaws
 pub mod NodeForms
 pub mod DistinctKeys
 pub mod CounterLaws
+pub mod TraceLaws
 mod examples
