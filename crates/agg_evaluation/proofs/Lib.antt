@@ -11,4 +11,7 @@ pub mod NodeForms
 pub mod DistinctKeys
 pub mod CounterLaws
 pub mod TraceLaws
+pub mod ListLaws
+pub mod WholeLaws
+pub mod MetricLaws
 mod examples
