@@ -19,7 +19,7 @@ use Rattle.agg_evaluation.specs.Trees.{is_ascending}
 use Rattle.agg_evaluation.proofs.Computing.{computing}
 use Rattle.agg_evaluation.proofs.KeyLists.{both, is_below, ascending-distinct_keys, ascending-filter}
 
-fixed_less : (i j : ℕ) → i < j → T (is_lt (key_cmp (Fixed i) (Fixed j)))
+pub fixed_less : (i j : ℕ) → i < j → T (is_lt (key_cmp (Fixed i) (Fixed j)))
 unfolding computing
 fixed_less i j h = subst (λ r. T (is_lt r)) (nat_cmp_is i j Less h) tt
 

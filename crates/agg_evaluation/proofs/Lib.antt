@@ -14,4 +14,5 @@ pub mod TraceLaws
 pub mod ListLaws
 pub mod WholeLaws
 pub mod MetricLaws
+pub mod UnionLaws
 mod examples
