@@ -15,4 +15,6 @@ pub mod ListLaws
 pub mod WholeLaws
 pub mod MetricLaws
 pub mod UnionLaws
+pub mod AnyOrder
+pub mod SwapLaws
 mod examples

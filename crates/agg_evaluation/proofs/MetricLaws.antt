@@ -45,16 +45,16 @@ module _ {A : Type 0} (f : A → A → A) (assoc : (a b c : A) → f (f a b) c �
     join_comm (Some a) None = refl
     join_comm (Some a) (Some b) = ap Some (comm a b)
 
-min_assoc : (a b c : ℤ) → int_min (int_min a b) c ≡ int_min a (int_min b c)
+pub min_assoc : (a b c : ℤ) → int_min (int_min a b) c ≡ int_min a (int_min b c)
 min_assoc a b c = omega (arith, ints, clamps)
 
-max_assoc : (a b c : ℤ) → int_max (int_max a b) c ≡ int_max a (int_max b c)
+pub max_assoc : (a b c : ℤ) → int_max (int_max a b) c ≡ int_max a (int_max b c)
 max_assoc a b c = omega (arith, ints, clamps)
 
-min_comm : (a b : ℤ) → int_min a b ≡ int_min b a
+pub min_comm : (a b : ℤ) → int_min a b ≡ int_min b a
 min_comm a b = omega (arith, ints, clamps)
 
-max_comm : (a b : ℤ) → int_max a b ≡ int_max b a
+pub max_comm : (a b : ℤ) → int_max a b ≡ int_max b a
 max_comm a b = omega (arith, ints, clamps)
 
 pub int_sum-append : (ms ns : List ℤ) → int_sum (ms ++ ns) ≡ int_sum ms +ℤ int_sum ns

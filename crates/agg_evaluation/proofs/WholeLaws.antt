@@ -30,10 +30,10 @@ abbrev pub EachUnites : List Union → Type 0
 EachUnites [] = Unit {0}
 EachUnites (w ∷ ws) = Unites w × EachUnites ws
 
-none_some : {A X : Type 0} (x : A) → None ≡ Some x → X
+pub none_some : {A X : Type 0} (x : A) → None ≡ Some x → X
 none_some x e = absurd (subst (λ o. elim o as (λ _. Type 0) [ None ↦ Unit {0} | Some y ↦ ⊥ ]) e tt)
 
-some_same : {A : Type 0} (x y : A) → Some x ≡ Some y → x ≡ y
+pub some_same : {A : Type 0} (x y : A) → Some x ≡ Some y → x ≡ y
 some_same {A = A} x y e = ap (λ o. elim o as (λ _. A) [ None ↦ x | Some z ↦ z ]) e
 
 unites-at : (ws : List Union) → EachUnites ws → (j : ℕ) (w : Union) → slice_get ws j ≡ Some w → Unites w
