@@ -17,4 +17,5 @@ pub mod MetricLaws
 pub mod UnionLaws
 pub mod AnyOrder
 pub mod SwapLaws
+pub mod AloneLaws
 mod examples

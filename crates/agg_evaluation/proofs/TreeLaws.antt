@@ -38,7 +38,7 @@ use Rattle.agg_evaluation.proofs.KeyCompare.{key_cmp_total}
 use Rattle.agg_evaluation.proofs.KeyLists.{and_left, and_right, both, ascending-distinct_keys}
 use Rattle.agg_evaluation.proofs.SortedLists.{occurrences, occurrences-sorted, occurrences-take, occurrences-filter, occurrences-map, all-sorted, all-take, all-map, ascending-sorted, ascending-once}
 
-same-self : (ks : List Key) → T (are_same_keys ks ks)
+pub same-self : (ks : List Key) → T (are_same_keys ks ks)
 same-self [] = tt
 same-self (k ∷ ks) = subst (λ r. T (is_eq (ordering_then r (slice_cmp key_cmp ks ks)))) (sym (tied_itself key_cmp_total k)) (same-self ks)
 

@@ -88,7 +88,7 @@ ascending-fixed_keys (kind.Max field missing) = tt
 ascending-fixed_keys (kind.Avg field missing) = tt
 ascending-fixed_keys (kind.ValueCount field missing) = tt
 
-keys-whole : (cs : List Union) (bs : List Bucket) (ks : List Key) → map bucket_key (map (whole_bucket cs bs) ks) ≡ ks
+pub keys-whole : (cs : List Union) (bs : List Bucket) (ks : List Key) → map bucket_key (map (whole_bucket cs bs) ks) ≡ ks
 keys-whole cs bs [] = refl
 keys-whole cs bs (k ∷ ks) = ap (λ js. k ∷ js) (keys-whole cs bs ks)
 

@@ -1,6 +1,6 @@
 -- The whole: the union of the answers of several shards (Elasticsearch Reference 8, 'Aggregations': the reduce phase, in which
 -- the coordinating node adds up what the shards answered).
-use Rattle.std.specs.Prelude.{ℕ, List, [], ◌∷◌, map, filter, filter_map, flat_map, sum_by, slice_get}
+use Rattle.std.specs.Prelude.{ℕ, pos, None, List, [], ◌∷◌, map, filter, filter_map, flat_map, sum_by, slice_get}
 use Rattle.std.specs.List.{reduce, enumerate_from}
 use Rattle.std.specs.Int.{int_min, int_max}
 use Rattle.agg_model.specs.declared.key.Key.{Key}
@@ -96,3 +96,16 @@ whole search trees = record {
   hits = sum_by (λ t. t.hits) trees;
   nodes = map (λ a. whole_node a.1 (filter_map (λ t. slice_get t.nodes a.0) trees)) (enumerate_from 0 search.aggs);
 }
+
+-- a node of no tree, whose children are given
+abbrev pub empty_by : List Node → List Key → Shape → Node
+empty_by children fixed by_key = Keyed [] 0 0 0
+empty_by children fixed from_start = Fixed (map (λ key. record { key = key; count = 0; covered = 0; children = children }) fixed)
+empty_by children fixed a_number = Number (record { count = 0; sum = pos 0; least = None; greatest = None })
+
+-- the empty tree of an aggregation: only the buckets that exist from the start, and nothing in them
+abbrev pub empty_node : Agg → Node
+empty_node = fold_agg (λ a. empty_by a.children (fixed_keys a.kind) (shape_of a.kind))
+
+abbrev pub empty_result : Search → Partial
+empty_result search = record { hits = 0; nodes = map empty_node search.aggs }
