@@ -76,13 +76,13 @@ whole-passes ws ts h k by_key xs =
     let bs = tree_buckets xs in
     let ks = distinct_keys (map bucket_key bs) in
     subst (λ n. T (is_tree_at ts (fixed_keys k) by_key n)) (sym (out-Keyed _ _ _ _))
-      (both _ _ (subst (λ ks. T (is_ascending ks)) (sym (keys-whole ws bs ks)) (ascending-distinct_keys (map bucket_key bs)))
-        (all-map (λ b. pass_each ts b.children) (whole_bucket ws bs) ks (λ q. children-pass 0 ws ts h (with_key q bs))))
+    (both _ _ (subst (λ ks. T (is_ascending ks)) (sym (keys-whole ws bs ks)) (ascending-distinct_keys (map bucket_key bs)))
+    (all-map (λ b. pass_each ts b.children) (whole_bucket ws bs) ks (λ q. children-pass 0 ws ts h (with_key q bs))))
 whole-passes ws ts h k from_start xs =
     let bs = tree_buckets xs in
     subst (λ n. T (is_tree_at ts (fixed_keys k) from_start n)) (sym (out-Fixed _))
-      (both _ _ (subst (λ ks. T (are_same_keys ks (fixed_keys k))) (sym (keys-whole ws bs (fixed_keys k))) (same-self (fixed_keys k)))
-        (all-map (λ b. pass_each ts b.children) (whole_bucket ws bs) (fixed_keys k) (λ q. children-pass 0 ws ts h (with_key q bs))))
+    (both _ _ (subst (λ ks. T (are_same_keys ks (fixed_keys k))) (sym (keys-whole ws bs (fixed_keys k))) (same-self (fixed_keys k)))
+    (all-map (λ b. pass_each ts b.children) (whole_bucket ws bs) (fixed_keys k) (λ q. children-pass 0 ws ts h (with_key q bs))))
 whole-passes ws ts h k a_number xs = subst (λ n. T (is_tree_at ts (fixed_keys k) a_number n)) (sym (out-Number _)) tt
 
 mutual
@@ -163,9 +163,9 @@ module _ (ws : List Union) (ts : List (Node → Bool)) (alone : Alone ws ts) whe
       let have : parts x ≡ record { buckets = bs; error = error; full = full; cut = cut; metrics = [] } = ap parts_at e in
       let up = and_left (is_ascending (map bucket_key bs)) (have_children ts bs) h in
       let buckets = ap (λ p. map (whole_bucket ws (p.buckets ++ [])) (distinct_keys (map bucket_key (p.buckets ++ [])))) have
-            ∙ ap (λ cs. map (whole_bucket ws (bs ++ [])) (distinct_keys (map bucket_key cs))) (append-nil bs)
-            ∙ ap (map (whole_bucket ws (bs ++ []))) (distinct_keys-ascending (map bucket_key bs) up)
-            ∙ buckets-alone bs up (and_right (is_ascending (map bucket_key bs)) (have_children ts bs) h) in
+      ∙ ap (λ cs. map (whole_bucket ws (bs ++ [])) (distinct_keys (map bucket_key cs))) (append-nil bs)
+      ∙ ap (map (whole_bucket ws (bs ++ []))) (distinct_keys-ascending (map bucket_key bs) up)
+      ∙ buckets-alone bs up (and_right (is_ascending (map bucket_key bs)) (have_children ts bs) h) in
       let single = λ (f : Parts → ℕ) (n : ℕ) (is : f (parts x) ≡ n). let e : sum_by (λ t. f (parts t)) (x ∷ []) ≡ n = omega arith in e in
       (λ i. Keyed (buckets i) (single (λ p. p.error) error (ap (λ p. p.error) have) i) (single (λ p. p.full) full (ap (λ p. p.full) have) i) (single (λ p. p.cut) cut (ap (λ p. p.cut) have) i))
       ∙ made-Keyed x bs error full cut e

@@ -18,4 +18,5 @@ pub mod UnionLaws
 pub mod AnyOrder
 pub mod SwapLaws
 pub mod AloneLaws
+pub mod SearchLaws
 mod examples

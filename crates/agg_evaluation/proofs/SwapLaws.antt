@@ -42,7 +42,7 @@ or_comm true false = refl
 or_comm false true = refl
 or_comm false false = refl
 
-sum-swap : {A : Type 0} (f : A → ℕ) (xs ys : List A) → sum_by f (xs ++ ys) ≡ sum_by f (ys ++ xs)
+pub sum-swap : {A : Type 0} (f : A → ℕ) (xs ys : List A) → sum_by f (xs ++ ys) ≡ sum_by f (ys ++ xs)
 sum-swap f xs ys = sum_by-append f xs ys ∙ (let e : sum_by f xs + sum_by f ys ≡ sum_by f ys + sum_by f xs = omega arith in e) ∙ sym (sum_by-append f ys xs)
 
 module _ (cs : List Union) (laws : EachSwaps cs) (q : Key) (ds bs : List Bucket) where
@@ -62,7 +62,7 @@ module _ (cs : List Union) (laws : EachSwaps cs) (q : Key) (ds bs : List Bucket)
   bucket-swap =
       let sums = λ (f : Bucket → ℕ). ap (sum_by f) with_key-append ∙ sum-swap f (with_key q ds) (with_key q bs) ∙ sym (ap (sum_by f) with_key-append_back) in
       let children = enumerated 0 cs (λ c. c.1 (children_at (with_key q (ds ++ bs)) c.0)) (λ c. c.1 (children_at (with_key q (bs ++ ds)) c.0))
-            (λ j w at. subst (λ n. w (children_at (with_key q (ds ++ bs)) n) ≡ w (children_at (with_key q (bs ++ ds)) n)) (let e : j ≡ 0 + j = omega arith in e) (child-swap j w at)) in
+      (λ j w at. subst (λ n. w (children_at (with_key q (ds ++ bs)) n) ≡ w (children_at (with_key q (bs ++ ds)) n)) (let e : j ≡ 0 + j = omega arith in e) (child-swap j w at)) in
       λ i. (record { key = q; count = sums bucket_count i; covered = sums (λ b. b.covered) i; children = children i })
 
 keys-swap : (ds bs : List Bucket) → distinct_keys (map bucket_key (ds ++ bs)) ≡ distinct_keys (map bucket_key (bs ++ ds))
@@ -76,15 +76,15 @@ metric-swap ms ns =
     let counts = sum-swap (λ (m : Metric). m.count) ms ns in
     let plus : int_sum (map (λ m. m.sum) ms) +ℤ int_sum (map (λ m. m.sum) ns) ≡ int_sum (map (λ m. m.sum) ns) +ℤ int_sum (map (λ m. m.sum) ms) = omega (arith, ints) in
     let totals = ap int_sum (map-append (λ (m : Metric). m.sum) ms ns) ∙ int_sum-append (map (λ m. m.sum) ms) (map (λ m. m.sum) ns) ∙ plus
-          ∙ sym (ap int_sum (map-append (λ (m : Metric). m.sum) ns ms) ∙ int_sum-append (map (λ m. m.sum) ns) (map (λ m. m.sum) ms)) in
+    ∙ sym (ap int_sum (map-append (λ (m : Metric). m.sum) ns ms) ∙ int_sum-append (map (λ m. m.sum) ns) (map (λ m. m.sum) ms)) in
     let least_of = λ (m : Metric). m.least in
     let greatest_of = λ (m : Metric). m.greatest in
     let least = ap (reduce int_min) (filter_map-append least_of ms ns) ∙ reduce-append int_min min_assoc (filter_map least_of ms) (filter_map least_of ns)
-          ∙ join_comm int_min min_assoc min_comm (reduce int_min (filter_map least_of ms)) (reduce int_min (filter_map least_of ns))
-          ∙ sym (ap (reduce int_min) (filter_map-append least_of ns ms) ∙ reduce-append int_min min_assoc (filter_map least_of ns) (filter_map least_of ms)) in
+    ∙ join_comm int_min min_assoc min_comm (reduce int_min (filter_map least_of ms)) (reduce int_min (filter_map least_of ns))
+    ∙ sym (ap (reduce int_min) (filter_map-append least_of ns ms) ∙ reduce-append int_min min_assoc (filter_map least_of ns) (filter_map least_of ms)) in
     let greatest = ap (reduce int_max) (filter_map-append greatest_of ms ns) ∙ reduce-append int_max max_assoc (filter_map greatest_of ms) (filter_map greatest_of ns)
-          ∙ join_comm int_max max_assoc max_comm (reduce int_max (filter_map greatest_of ms)) (reduce int_max (filter_map greatest_of ns))
-          ∙ sym (ap (reduce int_max) (filter_map-append greatest_of ns ms) ∙ reduce-append int_max max_assoc (filter_map greatest_of ns) (filter_map greatest_of ms)) in
+    ∙ join_comm int_max max_assoc max_comm (reduce int_max (filter_map greatest_of ms)) (reduce int_max (filter_map greatest_of ns))
+    ∙ sym (ap (reduce int_max) (filter_map-append greatest_of ns ms) ∙ reduce-append int_max max_assoc (filter_map greatest_of ns) (filter_map greatest_of ms)) in
     λ i. (record { count = counts i; sum = totals i; least = least i; greatest = greatest i })
 
 swaps-by : (cs : List Union) → EachSwaps cs → (k : Kind) (shape : Shape) → Swaps (whole_by cs k shape)
@@ -92,8 +92,8 @@ swaps-by cs laws k by_key xs ys =
     let there = flat_map-append (λ (t : Node). (parts t).buckets) xs ys in
     let back = flat_map-append (λ (t : Node). (parts t).buckets) ys xs in
     let same : map (whole_bucket cs (tree_buckets xs ++ tree_buckets ys)) (distinct_keys (map bucket_key (tree_buckets xs ++ tree_buckets ys)))
-            ≡ map (whole_bucket cs (tree_buckets ys ++ tree_buckets xs)) (distinct_keys (map bucket_key (tree_buckets ys ++ tree_buckets xs)))
-          = (λ i. map (λ q. bucket-swap cs laws q (tree_buckets xs) (tree_buckets ys) i) (keys-swap (tree_buckets xs) (tree_buckets ys) i)) in
+    ≡ map (whole_bucket cs (tree_buckets ys ++ tree_buckets xs)) (distinct_keys (map bucket_key (tree_buckets ys ++ tree_buckets xs)))
+    = (λ i. map (λ q. bucket-swap cs laws q (tree_buckets xs) (tree_buckets ys) i) (keys-swap (tree_buckets xs) (tree_buckets ys) i)) in
     let buckets = ap (λ bs. map (whole_bucket cs bs) (distinct_keys (map bucket_key bs))) there ∙ same ∙ sym (ap (λ bs. map (whole_bucket cs bs) (distinct_keys (map bucket_key bs))) back) in
     let errors = sum-swap (λ (t : Node). (parts t).error) xs ys in
     let fulls = sum-swap (λ (t : Node). (parts t).full) xs ys in

@@ -9,7 +9,6 @@ use Rattle.agg_evaluation.specs.Shard.{int_sum, shard_answer}
 use Rattle.agg_evaluation.specs.Cost.{cost}
 use Rattle.agg_evaluation.specs.Trace.{differences, trace, sum_before, built_costs, task_overhead}
 
-
 no_amount : (n : ℤ) → not (int_eq n (pos 0)) ≡ false → n ≡ pos 0
 no_amount n e = grind (arith, ints)
 

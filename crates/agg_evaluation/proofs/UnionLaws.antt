@@ -105,19 +105,19 @@ module _ (cs : List Union) (laws : EachUnites cs) (k : Kind) where
       let keys_of = λ (xs : List Node). distinct_keys (map bucket_key (tree_buckets xs)) in
       let groups = λ (xs : List Node). map (whole_bucket cs (tree_buckets xs)) (keys_of xs) in
       let have : (xs : List Node) → (parts (w xs)) ≡ record { buckets = groups xs; error = sum_by (λ t. (parts t).error) xs; full = sum_by (λ t. (parts t).full) xs; cut = sum_by (λ t. (parts t).cut) xs; metrics = [] }
-            = (λ xs. ap parts_at (out-Keyed _ _ _ _)) in
+      = (λ xs. ap parts_at (out-Keyed _ _ _ _)) in
       let all_groups : tree_buckets (map w xss) ≡ flat_map groups xss = flat_map-map w (λ t. (parts t).buckets) xss ∙ (λ i. flat_map (λ xs. (have xs i).buckets) xss) in
       let all_trees : tree_buckets (joined xss) ≡ flat_map tree_buckets xss = flat_map-flat_map (λ xs. xs) (λ t. (parts t).buckets) xss in
       let same_keys : distinct_keys (map bucket_key (flat_map groups xss)) ≡ distinct_keys (map bucket_key (flat_map tree_buckets xss)) =
-            distinct_keys-same _ _ (λ q.
-              ap (has_key q) (map-flat_map bucket_key groups xss ∙ (λ i. flat_map (λ xs. keys-whole cs (tree_buckets xs) (keys_of xs) i) xss))
-              ∙ has_key-flat_map q keys_of (λ xs. map bucket_key (tree_buckets xs)) (λ xs. has_key-distinct_keys q (map bucket_key (tree_buckets xs))) xss
-              ∙ ap (has_key q) (sym (map-flat_map bucket_key tree_buckets xss))) in
+      distinct_keys-same _ _ (λ q.
+      ap (has_key q) (map-flat_map bucket_key groups xss ∙ (λ i. flat_map (λ xs. keys-whole cs (tree_buckets xs) (keys_of xs) i) xss))
+      ∙ has_key-flat_map q keys_of (λ xs. map bucket_key (tree_buckets xs)) (λ xs. has_key-distinct_keys q (map bucket_key (tree_buckets xs))) xss
+      ∙ ap (has_key q) (sym (map-flat_map bucket_key tree_buckets xss))) in
       let one = λ (q : Key). bucket-groups cs laws keys_of (λ xs. ascending-distinct_keys (map bucket_key (tree_buckets xs))) q
-            (λ xs e. without_key q (tree_buckets xs) (sym (has_key-distinct_keys q (map bucket_key (tree_buckets xs))) ∙ e)) xss in
+      (λ xs e. without_key q (tree_buckets xs) (sym (has_key-distinct_keys q (map bucket_key (tree_buckets xs))) ∙ e)) xss in
       let buckets = ap (λ bs. map (whole_bucket cs bs) (distinct_keys (map bucket_key bs))) all_groups
-            ∙ (λ i. map (λ q. one q i) (same_keys i))
-            ∙ sym (ap (λ bs. map (whole_bucket cs bs) (distinct_keys (map bucket_key bs))) all_trees) in
+      ∙ (λ i. map (λ q. one q i) (same_keys i))
+      ∙ sym (ap (λ bs. map (whole_bucket cs bs) (distinct_keys (map bucket_key bs))) all_trees) in
       let errors = parts-added w (λ p. p.error) (λ xs. ap (λ p. p.error) (have xs)) xss in
       let fulls = parts-added w (λ p. p.full) (λ xs. ap (λ p. p.full) (have xs)) xss in
       let cuts = parts-added w (λ p. p.cut) (λ xs. ap (λ p. p.cut) (have xs)) xss in

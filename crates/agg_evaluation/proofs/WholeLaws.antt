@@ -113,7 +113,7 @@ module _ (cs : List Union) (laws : EachUnites cs) (keys_of : List Node → List 
           ap w (ap (λ bs. children_at bs n) (with_key-groups xss) ∙ filter_map-flat_map (λ b. slice_get b.children n) one xss ∙ (λ i. flat_map (λ xs. children-one xs i) xss) ∙ sym (map-flat_map w child_groups xss))
           ∙ unites-at cs laws n w at (flat_map child_groups xss)
           ∙ ap w (flat_map-flat_map child_groups (λ xs. xs) xss ∙ (λ i. flat_map (λ xs. joined-one xs i) xss)
-            ∙ sym (ap (λ bs. children_at bs n) (filter-flat_map (λ b. key_eq q (bucket_key b)) tree_buckets xss) ∙ filter_map-flat_map (λ b. slice_get b.children n) (λ xs. with_key q (tree_buckets xs)) xss))
+          ∙ sym (ap (λ bs. children_at bs n) (filter-flat_map (λ b. key_eq q (bucket_key b)) tree_buckets xss) ∙ filter_map-flat_map (λ b. slice_get b.children n) (λ xs. with_key q (tree_buckets xs)) xss))
 
     -- the bucket of the key is the same over the groups and over all trees
     pub bucket-groups : (xss : List (List Node)) → whole_bucket cs (flat_map united xss) q ≡ whole_bucket cs (flat_map tree_buckets xss) q
@@ -121,6 +121,6 @@ module _ (cs : List Union) (laws : EachUnites cs) (keys_of : List Node → List 
         let counts = sum-groups bucket_count (λ xs. refl) xss in
         let covers = sum-groups (λ b. b.covered) (λ xs. refl) xss in
         let children = enumerated 0 cs (λ c. c.1 (children_at (with_key q (flat_map united xss)) c.0)) (λ c. c.1 (children_at (with_key q (flat_map tree_buckets xss)) c.0))
-              (λ j w at. subst (λ n. w (children_at (with_key q (flat_map united xss)) n) ≡ w (children_at (with_key q (flat_map tree_buckets xss)) n))
-                (let e : j ≡ 0 + j = omega arith in e) (children-groups j w at xss)) in
+        (λ j w at. subst (λ n. w (children_at (with_key q (flat_map united xss)) n) ≡ w (children_at (with_key q (flat_map tree_buckets xss)) n))
+        (let e : j ≡ 0 + j = omega arith in e) (children-groups j w at xss)) in
         λ i. (record { key = q; count = counts i; covered = covers i; children = children i })
