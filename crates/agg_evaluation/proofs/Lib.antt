@@ -19,4 +19,6 @@ pub mod AnyOrder
 pub mod SwapLaws
 pub mod AloneLaws
 pub mod SearchLaws
+pub mod NodeFolds
+pub mod CostLaws
 mod examples
