@@ -21,4 +21,5 @@ pub mod AloneLaws
 pub mod SearchLaws
 pub mod NodeFolds
 pub mod CostLaws
+pub mod SearchCosts
 mod examples
