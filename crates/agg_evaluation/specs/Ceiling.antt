@@ -5,7 +5,6 @@ use Rattle.std.specs.List.{list_any}
 use Rattle.agg_model.specs.declared.mapping.FieldKind.{FieldKind}
 use Rattle.agg_model.specs.declared.mapping.FieldKind.TheVariants.{Keyword}
 use Rattle.agg_model.specs.declared.row.Scalar.{Scalar}
-use Rattle.agg_model.specs.declared.row.Scalar.TheVariants.{Word}
 use Rattle.agg_model.specs.declared.aggregation.Agg.{Agg, out-Agg}
 use Rattle.agg_model.specs.declared.aggregation.Agg.TheOpen.{Agg-F}
 use Rattle.agg_model.specs.declared.aggregation.CompositeSource.{CompositeSource}
@@ -14,6 +13,8 @@ use Rattle.agg_model.specs.declared.aggregation.Kind.TheVariants as kind
 use Rattle.agg_model.specs.declared.aggregation.Search.{Search}
 use Rattle.agg_evaluation.specs.Folds.{fold_agg}
 use Rattle.agg_evaluation.specs.Rows.{PlacedRow, roots, values_of}
+use Rattle.agg_evaluation.specs.KeyOrder.{scalar_key}
+use Rattle.agg_evaluation.specs.Cost.{key_bytes}
 use Rattle.agg_evaluation.specs.Matching.{matched_roots}
 use Rattle.agg_evaluation.specs.Keys.{keys, source_keys}
 use Rattle.agg_evaluation.specs.Groups.{under}
@@ -28,18 +29,18 @@ greatest_ceiling = 2 ^ 50
 abbrev pub greatest_combinations : ℕ
 greatest_combinations = 65536
 
-abbrev pub word_length : Scalar → ℕ
-word_length (Word w) = length w
-word_length _ = 0
-
 abbrev pub greatest_of : List ℕ → ℕ
 greatest_of [] = 0
 greatest_of (n ∷ ns) = let rest = greatest_of ns in if nat_lt n rest then rest else n
 
--- The bytes of a field's key: 8, or for keywords the length of the longest in the shard or in `missing`.
+-- a key that is a number or a flag has 8 bytes
+abbrev pub least_bytes : Option FieldKind → ℕ
+least_bytes (Some Keyword) = 0
+least_bytes _ = 8
+
+-- a bound on the bytes of a field's keys: 8 for numbers and flags, and for keywords the length of the longest value
 abbrev pub value_bytes : Option FieldKind → List Scalar → ℕ
-value_bytes (Some Keyword) values = greatest_of (map word_length values)
-value_bytes _ values = 8
+value_bytes kind values = greatest_of (least_bytes kind ∷ map (λ v. key_bytes (scalar_key v)) values)
 
 -- how many combinations of keys a row has
 abbrev pub combination_count : List CompositeSource → PlacedRow → ℕ
@@ -55,6 +56,7 @@ path_count reached = sum (map (λ r. r.1) reached)
 
 -- `kinds` are the kinds of the mapping's fields, and `all` the rows of the shard
 module _ (kinds : List FieldKind) (all : List PlacedRow) where
+  -- over all values of the field in the shard, and the one that stands for a missing value
   abbrev pub field_bytes : ℕ → Option Scalar → ℕ
   field_bytes field missing = value_bytes (slice_get kinds field) (option_to_list missing ++ flat_map (values_of field) all)
 
