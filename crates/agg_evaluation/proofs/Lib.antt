@@ -22,4 +22,5 @@ pub mod SearchLaws
 pub mod NodeFolds
 pub mod CostLaws
 pub mod SearchCosts
+pub mod SumLaws
 mod examples
