@@ -117,7 +117,7 @@ eq_swap j k =
     ] refl
 
 module _ (f : Bucket → ℕ) where
-  abbrev part : List Bucket → Key → ℕ
+  abbrev pub part : List Bucket → Key → ℕ
   part bs q = sum_by f (with_key q bs)
 
   part-cons : (b : Bucket) (bs : List Bucket) (q : Key) → part (b ∷ bs) q ≡ cond (key_eq q (bucket_key b)) (f b) 0 + part bs q
@@ -151,7 +151,7 @@ module _ (f : Bucket → ℕ) where
       first_false false c e = refl
 
   -- in ascending keys one key is a bucket's at most
-  at_most_once : (j : Key) (n : ℕ) (ks : List Key) → T (is_ascending ks) → sum_by (λ q. cond (key_eq q j) n 0) ks ≤ n
+  pub at_most_once : (j : Key) (n : ℕ) (ks : List Key) → T (is_ascending ks) → sum_by (λ q. cond (key_eq q j) n 0) ks ≤ n
   at_most_once j n [] h = omega arith
   at_most_once j n (k ∷ ks) h =
       let cons = sum_by-cons (λ q. cond (key_eq q j) n 0) k ks in

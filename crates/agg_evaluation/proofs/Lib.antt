@@ -23,4 +23,6 @@ pub mod NodeFolds
 pub mod CostLaws
 pub mod SearchCosts
 pub mod SumLaws
+pub mod CoverLaws
+pub mod KeyBounds
 mod examples
