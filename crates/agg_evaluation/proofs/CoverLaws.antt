@@ -140,7 +140,7 @@ module _ (all : List PlacedRow) where
   groups-cover k keys_of up cs rs covers f =
       let made = sum_by-flat_map (λ g. sum_by f g) (λ rows. map (group all k rows) (keys_of rows)) cs in
       let each : sum_by (λ rows. sum_by (λ g. sum_by f g) (map (group all k rows) (keys_of rows))) cs ≡ sum_by (λ rows. sum_by (λ q. sum_by f (group all k rows q)) (keys_of rows)) cs
-            = (λ i. sum_by (λ rows. sum_by-map (λ g. sum_by f g) (group all k rows) (keys_of rows) i) cs) in
+      = (λ i. sum_by (λ rows. sum_by-map (λ g. sum_by f g) (group all k rows) (keys_of rows) i) cs) in
       let bounded = sum_by-at_most (λ rows. sum_by (λ q. sum_by f (group all k rows q)) (keys_of rows)) (λ rows. sum_by (λ r. length (keys all k r) * f r) rows) cs (λ rows. groups-at_most k f rows (keys_of rows) (up rows)) in
       let here = covers (λ r. length (keys all k r) * f r) in
       let paths = over_paths-handed k f rs in

@@ -20,6 +20,7 @@ use Rattle.agg_evaluation.specs.Rows.{PlacedRow, values_of}
 use Rattle.agg_evaluation.specs.Keys.{keys, distinct_keys, or_missing, values_or, is_included, is_between, interval_key, histogram_keys, term_keys, or_null, no_bounds, source_keys, combinations, composite_keys}
 use Rattle.agg_evaluation.specs.Cost.{key_bytes, key_bytes_at}
 use Rattle.agg_evaluation.specs.Ceiling.{greatest_of, least_bytes, value_bytes, field_bytes, part_bytes, key_bound}
+use Rattle.agg_evaluation.specs.Whole.{Shape, by_key, from_start, a_number, shape_of}
 use Rattle.agg_evaluation.proofs.FoldLaws.{fold_key-Many}
 
 -- the fact holds of each item
@@ -60,7 +61,7 @@ pub each-all : {A : Type 0} (P : A → Type 0) → ((x : A) → P x) → (xs : L
 each-all P h [] = tt
 each-all P h (x ∷ xs) = (h x, each-all P h xs)
 
-each-flat_map : {A B : Type 0} (P : B → Type 0) (f : A → List B) (xs : List A) → Each (λ x. Each P (f x)) xs → Each P (flat_map f xs)
+pub each-flat_map : {A B : Type 0} (P : B → Type 0) (f : A → List B) (xs : List A) → Each (λ x. Each P (f x)) xs → Each P (flat_map f xs)
 each-flat_map P f [] h = tt
 each-flat_map P f (x ∷ xs) h = each-append P (f x) (flat_map f xs) h.0 (each-flat_map P f xs h.1)
 
@@ -102,12 +103,20 @@ Known all row = (field n : ℕ) → Each (Small n) (flat_map (values_of field) a
 
 known-part : (all rows : List PlacedRow) → ((field n : ℕ) → Each (Small n) (flat_map (values_of field) all) → Each (Small n) (flat_map (values_of field) rows)) → Each (Known all) rows
 known-part all [] h = tt
-known-part all (r ∷ rows) h =
-    ((λ field n e. each-first (Small n) (values_of field r) (flat_map (values_of field) rows) (h field n e)),
-      known-part all rows (λ field n e. each-second (Small n) (values_of field r) (flat_map (values_of field) rows) (h field n e)))
+known-part all (r ∷ rows) h = (
+  (λ field n e. each-first (Small n) (values_of field r) (flat_map (values_of field) rows) (h field n e)),
+  known-part all rows (λ field n e. each-second (Small n) (values_of field r) (flat_map (values_of field) rows) (h field n e)),
+)
 
 pub known-all : (all : List PlacedRow) → Each (Known all) all
 known-all all = known-part all all (λ field n e. e)
+
+abbrev other_shape : Shape → Bool
+other_shape by_key = false
+other_shape _ = true
+
+not_by_key : (s : Shape) → T (other_shape s) → s ≡ by_key → ⊥
+not_by_key s h e = subst (λ s. T (other_shape s)) e h
 
 module _ (kinds : List FieldKind) (all : List PlacedRow) where
   small-values : (field : ℕ) (missing : Option Scalar) → Each (Small (field_bytes kinds all field missing)) (option_to_list missing ++ flat_map (values_of field) all)
@@ -121,7 +130,7 @@ module _ (kinds : List FieldKind) (all : List PlacedRow) where
       let n = field_bytes kinds all field missing in
       let given = small-values field missing in
       by-values n missing (values_of field row) (each-first (Small n) (option_to_list missing) (flat_map (values_of field) all) given)
-        (known field n (each-second (Small n) (option_to_list missing) (flat_map (values_of field) all) given))
+      (known field n (each-second (Small n) (option_to_list missing) (flat_map (values_of field) all) given))
     where
       by-values : (n : ℕ) (missing : Option Scalar) (values : List Scalar) → Each (Small n) (option_to_list missing) → Each (Small n) values → Each (Small n) (or_missing missing values)
       by-values n missing [] h g = h
@@ -131,7 +140,7 @@ module _ (kinds : List FieldKind) (all : List PlacedRow) where
   short-terms row known field include exclude missing =
       let n = field_bytes kinds all field missing in
       each-filter (Short n) (is_included include exclude) (distinct_keys (map scalar_key (values_or field missing row)))
-        (each-distinct (Short n) (map scalar_key (values_or field missing row)) (each-map (Short n) scalar_key (values_or field missing row) (small-row row known field missing)))
+      (each-distinct (Short n) (map scalar_key (values_or field missing row)) (each-map (Short n) scalar_key (values_or field missing row) (small-row row known field missing)))
 
   short-interval : (interval offset : ℕ) (v : Scalar) → Each (Short 8) (interval_key interval offset v)
   short-interval interval offset (scalar.Whole n) = ((let e : 8 ≤ 8 = omega arith in e), tt)
@@ -141,7 +150,7 @@ module _ (kinds : List FieldKind) (all : List PlacedRow) where
   short-histogram : (row : PlacedRow) (field interval offset : ℕ) (hard : _) (missing : Option Scalar) → Each (Short 8) (histogram_keys field interval offset hard missing row)
   short-histogram row field interval offset hard missing =
       each-filter (Short 8) (is_between hard) (distinct_keys (flat_map (interval_key interval offset) (values_or field missing row)))
-        (each-distinct (Short 8) (flat_map (interval_key interval offset) (values_or field missing row)) (each-flat_map (Short 8) (interval_key interval offset) (values_or field missing row) (each-all (λ v. Each (Short 8) (interval_key interval offset v)) (short-interval interval offset) (values_or field missing row))))
+      (each-distinct (Short 8) (flat_map (interval_key interval offset) (values_or field missing row)) (each-flat_map (Short 8) (interval_key interval offset) (values_or field missing row) (each-all (λ v. Each (Short 8) (interval_key interval offset v)) (short-interval interval offset) (values_or field missing row))))
 
   -- of a value that is small its interval is
   small-interval : (n interval offset : ℕ) (v : Scalar) → Small n v → Each (Short n) (interval_key interval offset v)
@@ -153,8 +162,8 @@ module _ (kinds : List FieldKind) (all : List PlacedRow) where
   small-histogram row known field interval =
       let n = field_bytes kinds all field None in
       each-filter (Short n) (is_between no_bounds) (distinct_keys (flat_map (interval_key interval 0) (values_or field None row)))
-        (each-distinct (Short n) (flat_map (interval_key interval 0) (values_or field None row)) (each-flat_map (Short n) (interval_key interval 0) (values_or field None row)
-          (each-then (Small n) (λ v. Each (Short n) (interval_key interval 0 v)) (small-interval n interval 0) (values_or field None row) (small-row row known field None))))
+      (each-distinct (Short n) (flat_map (interval_key interval 0) (values_or field None row)) (each-flat_map (Short n) (interval_key interval 0) (values_or field None row)
+      (each-then (Small n) (λ v. Each (Short n) (interval_key interval 0 v)) (small-interval n interval 0) (values_or field None row) (small-row row known field None))))
 
   short-source : (row : PlacedRow) → Known all row → (s : CompositeSource) → Each (Short (part_bytes kinds all s)) (source_keys row s)
   short-source row known s =
@@ -172,3 +181,37 @@ module _ (kinds : List FieldKind) (all : List PlacedRow) where
       by-interval : {n : ℕ} (o : Option ℕ) → ((k : Key) → Short (field_bytes kinds all s.field None) k → Short n k) → Each (Short n) (option_map_or (λ interval. histogram_keys s.field interval 0 no_bounds None row) o (term_keys s.field None [] None row))
       by-interval None wide = each-then _ _ wide (term_keys s.field None [] None row) (short-terms row known s.field None [] None)
       by-interval (Some interval) wide = each-then _ _ wide (histogram_keys s.field interval 0 no_bounds None row) (small-histogram row known s.field interval)
+
+  short-combinations : (row : PlacedRow) → Known all row → (sources : List CompositeSource) → Each (λ ks. sum_by key_bytes ks ≤ sum_by (part_bytes kinds all) sources) (combinations (map (source_keys row) sources))
+  short-combinations row known [] = ((let e : 0 ≤ 0 = omega arith in e), tt)
+  short-combinations row known (s ∷ ss) =
+      let fits = λ (ks : List Key). sum_by key_bytes ks ≤ sum_by (part_bytes kinds all) (s ∷ ss) in
+      let whole = sum_by-cons (part_bytes kinds all) s ss in
+      each-flat_map fits (λ k. map (λ more. k ∷ more) (combinations (map (source_keys row) ss))) (source_keys row s)
+      (each-then (Short (part_bytes kinds all s)) _ (λ k h. each-map fits (λ more. k ∷ more) (combinations (map (source_keys row) ss))
+      (each-then (λ ks. sum_by key_bytes ks ≤ sum_by (part_bytes kinds all) ss) _ (λ more g. let made = sum_by-cons key_bytes k more in omega arith) (combinations (map (source_keys row) ss)) (short-combinations row known ss)))
+      (source_keys row s) (short-source row known s))
+
+  short-composite : (row : PlacedRow) → Known all row → (sources : List CompositeSource) → Each (Short (sum (map (part_bytes kinds all) sources))) (composite_keys sources row)
+  short-composite row known sources =
+      let n = sum (map (part_bytes kinds all) sources) in
+      let total = sum-map (part_bytes kinds all) sources in
+      each-distinct (Short n) (map key.Many (combinations (map (source_keys row) sources))) (each-map (Short n) key.Many (combinations (map (source_keys row) sources))
+      (each-then _ (λ ks. Short n (key.Many ks)) (λ ks h. let made = fold_key-Many key_bytes_at ks ∙ sum-map key_bytes ks in omega arith) (combinations (map (source_keys row) sources)) (short-combinations row known sources)))
+
+  -- the keys of rows at aggregations whose buckets come by key
+  pub short-keys : (k : Kind) → shape_of k ≡ by_key → (row : PlacedRow) → Known all row → Each (Short (key_bound kinds all k)) (keys all k row)
+  short-keys (kind.Terms field size shard_size min_doc_count order include exclude missing show_error) e row known = short-terms row known field include exclude missing
+  short-keys (kind.Histogram field interval offset min_doc_count extended hard keyed order missing) e row known = short-histogram row field interval offset hard missing
+  short-keys (kind.Composite sources size after) e row known = short-composite row known sources
+  short-keys (kind.Filters names filters other) e row known = absurd (not_by_key from_start tt e)
+  short-keys (kind.Filter query) e row known = absurd (not_by_key from_start tt e)
+  short-keys (kind.Missing field) e row known = absurd (not_by_key from_start tt e)
+  short-keys kind.Global e row known = absurd (not_by_key from_start tt e)
+  short-keys (kind.Nested context) e row known = absurd (not_by_key from_start tt e)
+  short-keys (kind.ReverseNested context) e row known = absurd (not_by_key from_start tt e)
+  short-keys (kind.Sum field missing) e row known = tt
+  short-keys (kind.Min field missing) e row known = tt
+  short-keys (kind.Max field missing) e row known = tt
+  short-keys (kind.Avg field missing) e row known = tt
+  short-keys (kind.ValueCount field missing) e row known = tt

@@ -25,4 +25,5 @@ pub mod SearchCosts
 pub mod SumLaws
 pub mod CoverLaws
 pub mod KeyBounds
+pub mod BoundLaws
 mod examples
