@@ -87,11 +87,14 @@ module _ (kinds : List FieldKind) (all : List PlacedRow) where
 
   -- The bytes of so many nodes of an aggregation and of all below them, where these rows reach them. A bucket of the
   -- parent is one node.
-  abbrev pub node_bound : Agg → ℕ → List Reached → ℕ
-  node_bound = fold_agg (λ a nodes reached.
+  abbrev pub node_bound_at : Agg-F (ℕ → List Reached → ℕ) → ℕ → List Reached → ℕ
+  node_bound_at a nodes reached =
       let handed = handed_on a.kind reached in
       let buckets = bucket_bound a.kind (shape_of a.kind) nodes (path_count handed) in
-      nodes * 512 + buckets * (128 + key_bound a.kind) + sum (map (λ child. child buckets handed) a.children))
+      nodes * 512 + buckets * (128 + key_bound a.kind) + sum (map (λ child. child buckets handed) a.children)
+
+  abbrev pub node_bound : Agg → ℕ → List Reached → ℕ
+  node_bound = fold_agg node_bound_at
 
 -- the roots that an aggregation at the top collects
 abbrev pub collected_roots : Search → List PlacedRow → Kind → List Reached
