@@ -1,6 +1,6 @@
 -- What nodes cost that are collected of some groups of rows is at most the bound of the aggregation over the paths that cover them.
-use Rattle.std.specs.Prelude.{◌≡◌, refl, ℕ, zero, suc, ◌+◌, ◌*◌, ◌≤◌, Bool, true, false, not, ◌&&◌, ◌||◌, T, List, [], ◌∷◌, ◌++◌, map, filter, flat_map, take, sum, sum_by, length, if◌then◌else◌, Option, None, unwrap_or, ◌==◌, ◌-◌}
-use Rattle.std.specs.List.{list_all, list_any, range_with_len, last_or}
+use Rattle.std.specs.Prelude.{◌≡◌, refl, ℕ, suc, ◌+◌, ◌*◌, ◌≤◌, Bool, true, false, not, ◌&&◌, T, List, [], ◌∷◌, map, filter, flat_map, take, sum, sum_by, length, if◌then◌else◌, Option, None, unwrap_or, ◌==◌, ◌-◌}
+use Rattle.std.specs.List.{list_all, list_any, last_or}
 use Rattle.std.specs.Option.{option_map_or}
 use Rattle.std.specs.Ordering.{is_gt}
 use Rattle.std.proofs.Common.{sym, ◌∙◌, ap, subst, arith, mul_assoc, mul-le-mul_right}
@@ -12,7 +12,7 @@ use Rattle.agg_model.specs.declared.key.Key.TheVariants as key
 use Rattle.agg_model.specs.declared.mapping.FieldKind.{FieldKind}
 use Rattle.agg_model.specs.declared.partial.Bucket.{Bucket}
 use Rattle.agg_model.specs.declared.partial.Node.{Node}
-use Rattle.agg_model.specs.declared.partial.Node.TheVariants.{Keyed, Fixed, Number}
+use Rattle.agg_model.specs.declared.partial.Node.TheVariants.{Keyed, Fixed}
 use Rattle.agg_model.specs.declared.aggregation.Agg.{Agg, Agg', Row_of-Agg, end_of-Agg, more_of-Agg}
 use Rattle.agg_model.specs.declared.aggregation.CompositeSource.{CompositeSource}
 use Rattle.agg_model.specs.declared.aggregation.Order.{Order}
@@ -26,19 +26,19 @@ use Rattle.agg_evaluation.specs.Keys.{keys, values_or}
 use Rattle.agg_evaluation.specs.Groups.{under, group, all_keys, total_key_count}
 use Rattle.agg_evaluation.specs.Orders.{bucket_key, bucket_count, bucket_cmp, composite_cmp}
 use Rattle.agg_evaluation.specs.Shard.{Collector, metric_of, count_of_values, fixed_keys, page, trimmed_node, with_covered, bucket_of, node_of, collector_of, collected_node}
-use Rattle.agg_evaluation.specs.Whole.{shape_of, by_key, from_start, a_number}
+use Rattle.agg_evaluation.specs.Whole.{shape_of, by_key}
 use Rattle.agg_evaluation.specs.Cost.{key_bytes, node_cost}
 use Rattle.agg_evaluation.specs.Trace.{is_global}
 use Rattle.agg_evaluation.specs.Trees.{is_ascending}
 use Rattle.agg_evaluation.specs.Placement.{is_placed, is_placed_at}
-use Rattle.agg_evaluation.specs.Ceiling.{Reached, path_count, counted_from, handed_on, bucket_bound, key_bound, node_bound, node_bound_at}
+use Rattle.agg_evaluation.specs.Ceiling.{Reached, path_count, counted_from, bucket_bound, key_bound, node_bound, node_bound_at}
 use Rattle.agg_evaluation.proofs.KeyLists.{and_left, and_right, ascending-distinct_keys}
 use Rattle.agg_evaluation.proofs.CostLaws.{bytes, cost-Keyed, cost-Fixed, cost-Number}
 use Rattle.agg_evaluation.proofs.ListLaws.{sum_by-flat_map, sum_by-map}
 use Rattle.agg_evaluation.proofs.SumLaws.{sum_by-filter, sum_by-take, sum_by-sorted, sum_by-at_most, sum_by-plus, sum_by-zero}
 use Rattle.agg_evaluation.proofs.UnionLaws.{ascending-fixed_keys}
-use Rattle.agg_evaluation.proofs.KeyBounds.{Each, each-append, each-filter, each-map, each-flat_map, each-then, each-all, Short, Known, known-all, short-keys}
-use Rattle.agg_evaluation.proofs.CoverLaws.{Covers, over_groups, over_paths, handed, counted-covers, groups-cover, path_count-handed, distinct-at_most}
+use Rattle.agg_evaluation.proofs.KeyBounds.{Each, each-filter, each-map, each-flat_map, each-then, each-all, Short, Known, known-all, short-keys}
+use Rattle.agg_evaluation.proofs.CoverLaws.{Covers, over_paths, handed, counted-covers, groups-cover, path_count-handed, distinct-at_most}
 
 abbrev pub Bound : Type 0
 Bound = ℕ → List Reached → ℕ
@@ -318,7 +318,7 @@ module _ (kinds : List FieldKind) (all : List PlacedRow) where
   known-under roots (kind.Avg field missing) e rows h = h
   known-under roots (kind.ValueCount field missing) e rows h = h
 
-  global-under : (k : Kind) → is_global k ≡ true → (roots rows : List PlacedRow) → under all roots k rows ≡ roots
+  pub global-under : (k : Kind) → is_global k ≡ true → (roots rows : List PlacedRow) → under all roots k rows ≡ roots
   global-under kind.Global e roots rows = refl
   global-under (kind.Nested context) e roots rows = absurd (subst T (sym e) tt)
   global-under (kind.ReverseNested context) e roots rows = absurd (subst T (sym e) tt)
@@ -350,7 +350,7 @@ module _ (kinds : List FieldKind) (all : List PlacedRow) where
           let counted = counted-bounded trims root_rows (fold_aggs (collector_of trims all root_rows) children) _ (each-bounded children (and_right (not (is_global k)) _ h)) k m hs (counted_from kinds all k rs) few_counted (counted-covers all kinds root_rows k local gs rs covers) known_counted in
           omega arith
 
-      each-bounded : {n : _} (children : Row_of-Agg n) → T (list_all {X = Bool → Bool} (λ child. child false) (fold_aggs is_placed_at children))
+      pub each-bounded : {n : _} (children : Row_of-Agg n) → T (list_all {X = Bool → Bool} (λ child. child false) (fold_aggs is_placed_at children))
           → EachBounded (fold_aggs (collector_of trims all root_rows) children) (fold_aggs (node_bound_at kinds all) children)
       each-bounded end_of-Agg h = tt
       each-bounded (more_of-Agg a rest) h = (collected-bounded a (and_left _ _ h), each-bounded rest (and_right _ _ h))

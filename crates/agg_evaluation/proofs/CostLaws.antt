@@ -1,7 +1,6 @@
 -- The whole costs at most what its trees cost together.
-use Rattle.std.specs.Prelude.{◌≡◌, refl, ℕ, zero, suc, ◌+◌, ◌*◌, ◌<◌, ◌≤◌, Bool, true, false, cond, ◌&&◌, ◌||◌, T, List, [], ◌∷◌, ◌++◌, map, filter, filter_map, flat_map, sum, sum_by, length, drop, Option, Some, None, slice_get}
+use Rattle.std.specs.Prelude.{◌≡◌, refl, ℕ, zero, suc, ◌+◌, ◌*◌, ◌<◌, ◌≤◌, Bool, true, false, cond, ◌||◌, T, List, [], ◌∷◌, ◌++◌, map, flat_map, sum, sum_by, length, drop, Some, slice_get}
 use Rattle.std.specs.List.{enumerate_from, list_all, cons_option}
-use Rattle.std.specs.Ordering.{is_eq}
 use Rattle.std.proofs.Common.{sym, ◌∙◌, ap, subst, arith}
 use Rattle.std.proofs.lemmas.List.Sums.{sum_by-cons, sum_by-append, sum-map}
 use Rattle.agg_model.specs.declared.key.Key.{Key}
@@ -13,14 +12,14 @@ use Rattle.agg_model.specs.declared.partial.Node.TheVariants.{Keyed, Fixed, Numb
 use Rattle.agg_model.specs.declared.aggregation.Agg.{Agg, Agg', Row_of-Agg, end_of-Agg, more_of-Agg}
 use Rattle.agg_model.specs.declared.aggregation.Kind.{Kind}
 use Rattle.agg_evaluation.specs.Folds.{fold_aggs}
-use Rattle.agg_evaluation.specs.KeyOrder.{key_cmp, key_eq, has_key}
+use Rattle.agg_evaluation.specs.KeyOrder.{key_eq, has_key}
 use Rattle.agg_evaluation.specs.Keys.{distinct_keys}
-use Rattle.agg_evaluation.specs.Orders.{bucket_key, bucket_count}
+use Rattle.agg_evaluation.specs.Orders.{bucket_key}
 use Rattle.agg_evaluation.specs.Shard.{fixed_keys}
 use Rattle.agg_evaluation.specs.Cost.{key_bytes, bucket_cost, node_cost_at, node_cost}
 use Rattle.agg_evaluation.specs.Trees.{is_ascending, are_same_keys, pass_each, have_children, is_tree_at, is_tree_of}
-use Rattle.agg_evaluation.specs.Whole.{Parts, parts, parts_at, children_at, whole_bucket, whole_by, whole_node, shape_of, Shape, by_key, from_start, a_number, metric_sum}
-use Rattle.agg_evaluation.proofs.KeyLists.{and_left, and_right, both, holds, true_is, equal_is, key_eq-exact, key_eq-self, is_below, below-absent, ascending-distinct_keys, has_key-distinct_keys}
+use Rattle.agg_evaluation.specs.Whole.{parts, parts_at, children_at, whole_bucket, whole_by, whole_node, shape_of, Shape, by_key, from_start, a_number, metric_sum}
+use Rattle.agg_evaluation.proofs.KeyLists.{and_left, and_right, both, holds, equal_is, key_eq-exact, key_eq-self, is_below, below-absent, ascending-distinct_keys, has_key-distinct_keys}
 use Rattle.agg_evaluation.proofs.NodeFolds.{fold_bucket, fold_node-Fixed, fold_node-Keyed, fold_node-Number}
 use Rattle.agg_evaluation.proofs.NodeForms.{made-Keyed, made-Fixed, made-Number}
 use Rattle.std.specs.FinMap.{slice_cmp-IsAntisymmetric}

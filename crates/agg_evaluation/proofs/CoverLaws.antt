@@ -1,11 +1,10 @@
 -- Groups of rows, and the rows that paths reach: each group's rows are covered by paths, also after a step down the tree.
-use Rattle.std.specs.Prelude.{◌≡◌, refl, ℕ, zero, suc, ◌+◌, ◌*◌, ◌≤◌, ◌==◌, Bool, true, false, cond, not, ◌&&◌, ◌||◌, T, List, [], ◌∷◌, ◌++◌, map, filter, flat_map, sum, sum_by, length}
+use Rattle.std.specs.Prelude.{◌≡◌, refl, ℕ, suc, ◌+◌, ◌*◌, ◌≤◌, ◌==◌, Bool, true, false, cond, ◌&&◌, ◌||◌, T, List, [], ◌∷◌, map, filter, flat_map, sum_by, length}
 use Rattle.std.specs.List.{list_any}
 use Rattle.std.specs.declared.cmp.Ordering.TheVariants.{Less, Equal, Greater}
 use Rattle.std.specs.Ordering.{match_ordering}
-use Rattle.std.proofs.Common.{sym, ◌∙◌, ap, subst, arith, mul_assoc}
-use Rattle.std.proofs.lemmas.List.Sums.{sum_by-cons, sum_by-append, sum-map}
-use Rattle.std.proofs.lemmas.List.Concat.{length-flat_map}
+use Rattle.std.proofs.Common.{◌∙◌, subst, arith, mul_assoc}
+use Rattle.std.proofs.lemmas.List.Sums.{sum_by-cons, sum-map}
 use Rattle.agg_model.specs.declared.key.Key.{Key}
 use Rattle.agg_model.specs.declared.mapping.FieldKind.{FieldKind}
 use Rattle.agg_model.specs.declared.aggregation.Kind.{Kind}
@@ -14,7 +13,7 @@ use Rattle.agg_evaluation.specs.KeyOrder.{key_cmp, key_eq, has_key}
 use Rattle.agg_evaluation.specs.Sorting.{insert_once}
 use Rattle.agg_evaluation.specs.Rows.{PlacedRow, is_within, beneath, enclosing}
 use Rattle.agg_evaluation.specs.Keys.{keys, distinct_keys}
-use Rattle.agg_evaluation.specs.Groups.{under, group, all_keys}
+use Rattle.agg_evaluation.specs.Groups.{under, group}
 use Rattle.agg_evaluation.specs.Trace.{is_global}
 use Rattle.agg_evaluation.specs.Trees.{is_ascending}
 use Rattle.agg_evaluation.specs.Ceiling.{Reached, path_count, counted_from}
@@ -80,7 +79,7 @@ module _ (all : List PlacedRow) where
   under-covers roots (kind.Avg field missing) e f rows = same-covers f rows
   under-covers roots (kind.ValueCount field missing) e f rows = same-covers f rows
 
-  over_paths-counted : (kinds : List FieldKind) (k : Kind) (f : PlacedRow → ℕ) (rs : List Reached) → over_paths f (counted_from kinds all k rs) ≡ over_paths (λ r. sum_by f (step k r)) rs
+  pub over_paths-counted : (kinds : List FieldKind) (k : Kind) (f : PlacedRow → ℕ) (rs : List Reached) → over_paths f (counted_from kinds all k rs) ≡ over_paths (λ r. sum_by f (step k r)) rs
   over_paths-counted kinds k f rs =
       sum_by-flat_map (λ (r : Reached). r.1 * f r.0) (λ r. map (λ row. (row, r.1)) (step k r.0)) rs
       ∙ (λ i. sum_by (λ r. one r i) rs)

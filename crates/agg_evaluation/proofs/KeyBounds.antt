@@ -1,10 +1,9 @@
 -- The keys of a shard's rows have at most the bytes that the ceiling counts.
-use Rattle.std.specs.Prelude.{◌≡◌, refl, ℕ, zero, suc, ◌+◌, ◌≤◌, ◌<◌, ℤ, Bool, true, false, cond, not, ◌&&◌, nat_lt, if◌then◌else◌, T, List, [], ◌∷◌, ◌++◌, map, filter, flat_map, sum, sum_by, length, take, Option, Some, None, option_to_list, slice_get}
-use Rattle.std.specs.List.{list_any}
+use Rattle.std.specs.Prelude.{◌≡◌, refl, ℕ, zero, suc, ◌≤◌, Bool, true, false, cond, nat_lt, if◌then◌else◌, T, List, [], ◌∷◌, ◌++◌, map, filter, flat_map, sum, sum_by, take, Option, Some, None, option_to_list, slice_get}
 use Rattle.std.specs.Option.{option_map_or}
 use Rattle.std.specs.declared.cmp.Ordering.TheVariants.{Less, Equal, Greater}
 use Rattle.std.specs.Ordering.{match_ordering}
-use Rattle.std.proofs.Common.{sym, ◌∙◌, ap, subst, arith}
+use Rattle.std.proofs.Common.{◌∙◌, subst, arith}
 use Rattle.std.proofs.lemmas.List.Sums.{sum_by-cons, sum-map}
 use Rattle.agg_model.specs.declared.key.Key.{Key}
 use Rattle.agg_model.specs.declared.key.Key.TheVariants as key
@@ -14,13 +13,13 @@ use Rattle.agg_model.specs.declared.row.Scalar.TheVariants as scalar
 use Rattle.agg_model.specs.declared.aggregation.CompositeSource.{CompositeSource}
 use Rattle.agg_model.specs.declared.aggregation.Kind.{Kind}
 use Rattle.agg_model.specs.declared.aggregation.Kind.TheVariants as kind
-use Rattle.agg_evaluation.specs.KeyOrder.{key_cmp, key_eq, has_key, scalar_key}
+use Rattle.agg_evaluation.specs.KeyOrder.{key_cmp, scalar_key}
 use Rattle.agg_evaluation.specs.Sorting.{insert_once}
 use Rattle.agg_evaluation.specs.Rows.{PlacedRow, values_of}
 use Rattle.agg_evaluation.specs.Keys.{keys, distinct_keys, or_missing, values_or, is_included, is_between, interval_key, histogram_keys, term_keys, or_null, no_bounds, source_keys, combinations, composite_keys}
 use Rattle.agg_evaluation.specs.Cost.{key_bytes, key_bytes_at}
-use Rattle.agg_evaluation.specs.Ceiling.{greatest_of, least_bytes, value_bytes, field_bytes, part_bytes, key_bound}
-use Rattle.agg_evaluation.specs.Whole.{Shape, by_key, from_start, a_number, shape_of}
+use Rattle.agg_evaluation.specs.Ceiling.{greatest_of, least_bytes, field_bytes, part_bytes, key_bound}
+use Rattle.agg_evaluation.specs.Whole.{Shape, by_key, from_start, shape_of}
 use Rattle.agg_evaluation.proofs.FoldLaws.{fold_key-Many}
 
 -- the fact holds of each item

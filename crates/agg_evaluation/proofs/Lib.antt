@@ -26,4 +26,5 @@ pub mod SumLaws
 pub mod CoverLaws
 pub mod KeyBounds
 pub mod BoundLaws
+pub mod TaskLaws
 mod examples

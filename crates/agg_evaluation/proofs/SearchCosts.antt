@@ -1,10 +1,9 @@
 -- The whole of a search's results costs at most what they cost together.
-use Rattle.std.specs.Prelude.{◌≡◌, refl, ℕ, zero, suc, ◌+◌, ◌<◌, ◌≤◌, ◌&&◌, T, List, [], ◌∷◌, map, filter_map, sum_by, length, slice_get}
+use Rattle.std.specs.Prelude.{◌≡◌, refl, ℕ, ◌+◌, ◌<◌, ◌≤◌, T, List, [], ◌∷◌, map, filter_map, sum_by, length, slice_get}
 use Rattle.std.specs.List.{enumerate_from, list_all, cons_option}
-use Rattle.std.proofs.Common.{sym, ◌∙◌, ap, subst, arith}
+use Rattle.std.proofs.Common.{ap, arith}
 use Rattle.agg_model.specs.declared.key.Key.TheVariants as key
 use Rattle.agg_model.specs.declared.partial.Bucket.{Bucket}
-use Rattle.agg_model.specs.declared.partial.Node.{Node}
 use Rattle.agg_model.specs.declared.partial.Partial.{Partial}
 use Rattle.agg_model.specs.declared.aggregation.Agg.{Agg}
 use Rattle.agg_model.specs.declared.aggregation.Search.{Search}

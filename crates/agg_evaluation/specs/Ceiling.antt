@@ -1,6 +1,6 @@
 -- The ceiling of a task: what it can hold at most, computed from its rows before it runs; a search above 2 ^ 50 is too wide
 -- (Elasticsearch Reference 8, 'Circuit breaker settings' on limits that a request is tried against before it runs).
-use Rattle.std.specs.Prelude.{ℕ, ◌+◌, ◌*◌, ◌^◌, Bool, true, false, ◌||◌, nat_lt, if◌then◌else◌, List, [], ◌∷◌, ◌++◌, map, flat_map, length, sum, Option, Some, None, option_map, option_and_then, option_to_list, slice_get}
+use Rattle.std.specs.Prelude.{ℕ, ◌+◌, ◌*◌, ◌^◌, Bool, true, false, nat_lt, if◌then◌else◌, List, [], ◌∷◌, ◌++◌, map, flat_map, length, sum, Option, Some, None, option_map, option_and_then, option_to_list, slice_get}
 use Rattle.std.specs.List.{list_any}
 use Rattle.agg_model.specs.declared.mapping.FieldKind.{FieldKind}
 use Rattle.agg_model.specs.declared.mapping.FieldKind.TheVariants.{Keyword}
