@@ -27,4 +27,5 @@ pub mod CoverLaws
 pub mod KeyBounds
 pub mod BoundLaws
 pub mod TaskLaws
+pub mod BeginLaws
 mod examples
