@@ -28,4 +28,5 @@ pub mod KeyBounds
 pub mod BoundLaws
 pub mod TaskLaws
 pub mod BeginLaws
+pub mod AddUpLaws
 mod examples
