@@ -1,29 +1,25 @@
 -- The whole of no tree is the empty tree, the whole of one tree is that tree, and each whole is a tree.
-use Rattle.std.specs.Prelude.{◌≡◌, refl, ℕ, zero, suc, ◌+◌, Bool, true, false, cond, ◌&&◌, T, List, [], ◌∷◌, ◌++◌, map, filter, filter_map, flat_map, sum_by, Option, Some, None, slice_get, ℤ, pos}
-use Rattle.std.specs.List.{enumerate_from, list_all, cons_option, reduce}
+use Rattle.std.specs.Prelude.{◌≡◌, refl, ℕ, suc, ◌+◌, Bool, cond, T, List, [], ◌∷◌, ◌++◌, map, sum_by, Option, Some, None, slice_get, ℤ}
+use Rattle.std.specs.List.{enumerate_from, cons_option, reduce}
 use Rattle.std.specs.Int.{int_min, int_max}
-use Rattle.std.specs.declared.cmp.Ordering.TheVariants.{Less, Equal, Greater}
-use Rattle.std.specs.Ordering.{is_eq, is_lt, ordering_reverse}
-use Rattle.std.specs.Cmp.Lexicographic.{slice_cmp}
+use Rattle.std.specs.Ordering.{is_eq, ordering_reverse}
 use Rattle.std.specs.FinMap.{slice_cmp-IsAntisymmetric}
 use Rattle.std.proofs.Common.{sym, ◌∙◌, ap, subst, arith}
 use Rattle.std.proofs.lemmas.Int.{ints}
 use Rattle.agg_model.specs.declared.key.Key.{Key}
 use Rattle.agg_model.specs.declared.partial.Bucket.{Bucket}
 use Rattle.agg_model.specs.declared.partial.Metric.{Metric}
-use Rattle.agg_model.specs.declared.partial.Node.{Node, out-Node, roll-Node, roll-out-Node}
+use Rattle.agg_model.specs.declared.partial.Node.{Node, out-Node}
 use Rattle.agg_model.specs.declared.partial.Node.TheOpen.{Node-F}
 use Rattle.agg_model.specs.declared.partial.Node.TheVariants.{Keyed, Fixed, Number}
 use Rattle.agg_model.specs.declared.aggregation.Agg.{Agg, Agg', Row_of-Agg, end_of-Agg, more_of-Agg}
 use Rattle.agg_model.specs.declared.aggregation.Kind.{Kind}
 use Rattle.agg_evaluation.specs.Folds.{fold_aggs}
-use Rattle.agg_evaluation.specs.KeyOrder.{key_cmp, key_eq, has_key}
 use Rattle.agg_evaluation.specs.Keys.{distinct_keys}
 use Rattle.agg_evaluation.specs.Orders.{bucket_key, bucket_count}
 use Rattle.agg_evaluation.specs.Shard.{fixed_keys, int_sum}
 use Rattle.agg_evaluation.specs.Trees.{is_ascending, are_same_keys, pass_each, have_children, is_tree_at, is_tree_of}
 use Rattle.agg_evaluation.specs.Whole.{Parts, parts, parts_at, children_at, whole_bucket, whole_by, whole_node, empty_by, empty_node, shape_of, Shape, by_key, from_start, a_number, metric_sum}
-use Rattle.agg_evaluation.proofs.Computing.{computing}
 use Rattle.agg_evaluation.proofs.KeyExact.{exact_keys}
 use Rattle.agg_evaluation.proofs.KeyCompare.{key_cmp_total}
 use Rattle.agg_evaluation.proofs.KeyLists.{and_left, and_right, both, less_is, equal_is, key_eq-self, is_below, ascending-distinct_keys, distinct_keys-ascending}

@@ -1,5 +1,5 @@
 -- What unites lists of lists, and does not mind which of two lists comes first, does not mind any order.
-use Rattle.std.specs.Prelude.{◌≡◌, refl, ℕ, zero, suc, ◌+◌, ◌<◌, List, [], ◌∷◌, ◌++◌, map, length, IsPermutation}
+use Rattle.std.specs.Prelude.{◌≡◌, refl, ℕ, zero, suc, ◌<◌, List, [], ◌∷◌, ◌++◌, map, length, IsPermutation}
 use Rattle.std.specs.List.{slice_set, slice_index_or, swap}
 use Rattle.std.proofs.Common.{sym, ◌∙◌, ap, arith}
 use Rattle.std.proofs.lemmas.List.Sorted.{IsPermutation-keeps}

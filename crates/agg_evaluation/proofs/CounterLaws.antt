@@ -1,6 +1,5 @@
 -- Counters that are raised key by key come to the sizes of the groups.
-use Rattle.std.specs.Prelude.{◌≡◌, refl, ℕ, zero, suc, ◌+◌, Bool, true, false, cond, ◌||◌, T, List, [], ◌∷◌, ◌++◌, map, flat_map, filter, length, Option, Some, None}
-use Rattle.std.specs.declared.cmp.Ordering.{Ordering}
+use Rattle.std.specs.Prelude.{◌≡◌, refl, ℕ, zero, suc, ◌+◌, true, false, cond, ◌||◌, T, List, [], ◌∷◌, ◌++◌, map, flat_map, filter, length, Option, Some, None}
 use Rattle.std.specs.declared.cmp.Ordering.TheVariants.{Less, Equal, Greater}
 use Rattle.std.specs.Ordering.{is_eq, is_lt, match_ordering}
 use Rattle.std.specs.FinMap.Entries.{find, put, by_order, is_sorted, is_sorted-put, find-put, find_tied, below_all, same_entries}

@@ -1,10 +1,10 @@
 -- A row has each of its keys once, ascending.
-use Rattle.std.specs.Prelude.{◌≡◌, refl, ℕ, zero, suc, ◌+◌, ◌<◌, ◌≤◌, Bool, true, false, cond, not, ◌&&◌, T, List, [], ◌∷◌, ◌++◌, map, filter, flat_map, length, if◌then◌else◌, Option, Some, None, is_some}
-use Rattle.std.specs.List.{list_any, list_all, enumerate_from}
-use Rattle.std.specs.declared.cmp.Ordering.TheVariants.{Less, Equal, Greater}
-use Rattle.std.specs.Ordering.{is_lt, nat_cmp}
+use Rattle.std.specs.Prelude.{ℕ, ◌+◌, ◌<◌, Bool, true, false, cond, not, ◌&&◌, T, List, [], ◌∷◌, ◌++◌, map, filter, flat_map, length, if◌then◌else◌, Option, is_some}
+use Rattle.std.specs.List.{list_any, enumerate_from}
+use Rattle.std.specs.declared.cmp.Ordering.TheVariants.{Less}
+use Rattle.std.specs.Ordering.{is_lt}
 use Rattle.std.specs.Cmp.{nat_cmp_is}
-use Rattle.std.proofs.Common.{sym, ◌∙◌, ap, subst, arith}
+use Rattle.std.proofs.Common.{subst, arith}
 use Rattle.agg_model.specs.declared.key.Key.{Key}
 use Rattle.agg_model.specs.declared.key.Key.TheVariants.{Fixed, Many}
 use Rattle.agg_model.specs.declared.query.Query.{Query}
@@ -13,7 +13,7 @@ use Rattle.agg_model.specs.declared.aggregation.Kind.TheVariants as kind
 use Rattle.agg_evaluation.specs.KeyOrder.{key_cmp, scalar_key}
 use Rattle.agg_evaluation.specs.Rows.{PlacedRow}
 use Rattle.agg_evaluation.specs.Matching.{matches}
-use Rattle.agg_evaluation.specs.Keys.{keys, distinct_keys, term_keys, histogram_keys, filter_keys, single_key, composite_keys, values_or, interval_key, is_included, is_between, combinations, source_keys}
+use Rattle.agg_evaluation.specs.Keys.{keys, distinct_keys, filter_keys, single_key, values_or, interval_key, is_included, is_between, combinations, source_keys}
 use Rattle.agg_evaluation.specs.Rows.{has_value}
 use Rattle.agg_evaluation.specs.Trees.{is_ascending}
 use Rattle.agg_evaluation.proofs.Computing.{computing}

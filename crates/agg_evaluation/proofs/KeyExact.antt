@@ -1,5 +1,5 @@
 -- Keys that compare alike are equal.
-use Rattle.std.specs.Prelude.{◌≡◌, refl, ℕ, Bool, true, false, T, List, [], ◌∷◌}
+use Rattle.std.specs.Prelude.{◌≡◌, refl, Bool, true, false, T, List, [], ◌∷◌}
 use Rattle.std.specs.declared.cmp.Ordering.{Ordering}
 use Rattle.std.specs.declared.cmp.Ordering.TheVariants.{Less, Equal, Greater}
 use Rattle.std.specs.Ordering.{ordering_then, is_lt, is_gt, bool_cmp}

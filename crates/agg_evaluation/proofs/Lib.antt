@@ -21,4 +21,12 @@ pub mod AloneLaws
 pub mod SearchLaws
 pub mod NodeFolds
 pub mod CostLaws
+pub mod SearchCosts
+pub mod SumLaws
+pub mod CoverLaws
+pub mod KeyBounds
+pub mod BoundLaws
+pub mod TaskLaws
+pub mod BeginLaws
+pub mod AddUpLaws
 mod examples

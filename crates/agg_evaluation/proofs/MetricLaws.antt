@@ -1,5 +1,5 @@
 -- Metrics of several lists, added up.
-use Rattle.std.specs.Prelude.{◌≡◌, refl, ℕ, ◌+◌, ℤ, pos, ◌+ℤ◌, List, [], ◌∷◌, ◌++◌, map, filter_map, flat_map, sum_by, Option, Some, None}
+use Rattle.std.specs.Prelude.{◌≡◌, refl, ℤ, ◌+ℤ◌, List, [], ◌∷◌, ◌++◌, map, filter_map, flat_map, sum_by, Option, Some, None}
 use Rattle.std.specs.List.{reduce, fold, cons_option}
 use Rattle.std.specs.Int.{int_min, int_max}
 use Rattle.std.proofs.Common.{sym, ◌∙◌, ap, arith}

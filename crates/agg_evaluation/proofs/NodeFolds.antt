@@ -1,8 +1,8 @@
 -- The fold of a node, in terms of its buckets and their children.
 use Rattle.std.specs.Prelude.{◌≡◌, refl, ℕ, List, [], ◌∷◌, map}
-use Rattle.std.proofs.Common.{sym, ◌∙◌, ap}
+use Rattle.std.proofs.Common.{ap}
 use Rattle.agg_model.specs.declared.key.Key.{Key}
-use Rattle.agg_model.specs.declared.partial.Bucket.{Bucket, Row_of-Node, end_of-Node, more_of-Node}
+use Rattle.agg_model.specs.declared.partial.Bucket.{Bucket}
 use Rattle.agg_model.specs.declared.partial.Metric.{Metric}
 use Rattle.agg_model.specs.declared.partial.Node.{Node, Row_of-Bucket, end_of-Bucket, more_of-Bucket}
 use Rattle.agg_model.specs.declared.partial.Node.TheOpen.{Node-F, Bucket-F}

@@ -1,5 +1,5 @@
 -- The whole of a search's results: unions of unions, any order, none, one, and that each is a result.
-use Rattle.std.specs.Prelude.{◌≡◌, refl, ℕ, zero, suc, ◌+◌, ◌&&◌, T, List, [], ◌∷◌, ◌++◌, map, filter_map, flat_map, sum_by, Option, Some, None, slice_get, IsPermutation}
+use Rattle.std.specs.Prelude.{◌≡◌, refl, ℕ, suc, ◌+◌, T, List, [], ◌∷◌, ◌++◌, map, filter_map, sum_by, Option, Some, slice_get, IsPermutation}
 use Rattle.std.specs.List.{enumerate_from, cons_option}
 use Rattle.std.proofs.Common.{sym, ◌∙◌, ap, subst, arith}
 use Rattle.agg_model.specs.declared.partial.Node.{Node}

@@ -1,16 +1,15 @@
 -- Sorting and cutting keep what stands in a list, and sorting by key makes ascending what has each key once.
-use Rattle.std.specs.Prelude.{◌≡◌, refl, ℕ, zero, suc, ◌+◌, ◌≤◌, Bool, true, false, cond, not, ◌&&◌, ◌||◌, T, List, [], ◌∷◌, ◌++◌, map, filter, take, length, if◌then◌else◌}
-use Rattle.std.specs.List.{list_any, list_all}
+use Rattle.std.specs.Prelude.{◌≡◌, refl, ℕ, zero, suc, ◌≤◌, Bool, true, false, cond, T, List, [], ◌∷◌, map, filter, take, if◌then◌else◌}
+use Rattle.std.specs.List.{list_all}
 use Rattle.std.specs.declared.cmp.Ordering.{Ordering}
 use Rattle.std.specs.declared.cmp.Ordering.TheVariants.{Less, Equal, Greater}
 use Rattle.std.specs.Ordering.{is_eq, is_lt, is_le, ordering_reverse}
 use Rattle.std.proofs.Common.{sym, ◌∙◌, ap, subst, arith}
 use Rattle.agg_model.specs.declared.key.Key.{Key}
-use Rattle.agg_evaluation.specs.KeyOrder.{key_cmp, key_eq, has_key}
+use Rattle.agg_evaluation.specs.KeyOrder.{key_cmp, key_eq}
 use Rattle.agg_evaluation.specs.Sorting.{insert_sorted, sorted}
 use Rattle.agg_evaluation.specs.Trees.{is_ascending}
 use Rattle.agg_evaluation.proofs.KeyCompare.{key_cmp_total}
-use Rattle.agg_evaluation.proofs.KeyExact.{exact_keys}
 use Rattle.agg_evaluation.proofs.KeyLists.{and_left, and_right, both, less_is, holds, key_eq-self, key_eq-exact, is_below, below-trans}
 
 -- how many items pass the test

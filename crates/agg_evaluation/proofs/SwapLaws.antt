@@ -1,6 +1,6 @@
 -- Two lists of trees have one whole, whichever comes first.
-use Rattle.std.specs.Prelude.{◌≡◌, refl, ℕ, zero, suc, ◌+◌, ◌+ℤ◌, Bool, true, false, cond, ◌||◌, List, [], ◌∷◌, ◌++◌, map, filter, filter_map, flat_map, sum_by, Option, Some, None, slice_get}
-use Rattle.std.specs.List.{enumerate_from, reduce}
+use Rattle.std.specs.Prelude.{◌≡◌, refl, ℕ, zero, suc, ◌+◌, ◌+ℤ◌, Bool, true, false, ◌||◌, List, [], ◌∷◌, ◌++◌, map, filter_map, flat_map, sum_by, Some, slice_get}
+use Rattle.std.specs.List.{reduce}
 use Rattle.std.specs.Int.{int_min, int_max}
 use Rattle.std.proofs.Common.{sym, ◌∙◌, ap, subst, arith}
 use Rattle.std.proofs.lemmas.Int.{ints}
@@ -20,7 +20,7 @@ use Rattle.agg_evaluation.specs.Shard.{fixed_keys, int_sum}
 use Rattle.agg_evaluation.specs.Whole.{parts, children_at, whole_bucket, whole_by, whole_node, shape_of, Shape, by_key, from_start, a_number, metric_sum}
 use Rattle.agg_evaluation.proofs.KeyLists.{distinct_keys-same}
 use Rattle.agg_evaluation.proofs.ListLaws.{flat_map-append, map-append, filter-append, filter_map-append, enumerated}
-use Rattle.agg_evaluation.proofs.MetricLaws.{reduce-append, join, join_comm, int_sum-append, min_assoc, min_comm, max_assoc, max_comm}
+use Rattle.agg_evaluation.proofs.MetricLaws.{reduce-append, join_comm, int_sum-append, min_assoc, min_comm, max_assoc, max_comm}
 use Rattle.agg_evaluation.proofs.UnionLaws.{has_key-append}
 use Rattle.agg_evaluation.proofs.WholeLaws.{Union, tree_buckets, with_key, none_some, some_same}
 

@@ -1,7 +1,7 @@
 -- What a task holds is never below nothing, and comes to the cost of its answer.
-use Rattle.std.specs.Prelude.{◌≡◌, refl, ℕ, zero, suc, ◌+◌, ℤ, pos, ◌+ℤ◌, ◌-ℤ◌, ◌≤ℤ◌, Bool, true, false, cond, not, List, [], ◌∷◌, map, filter, take}
+use Rattle.std.specs.Prelude.{◌≡◌, refl, ℕ, zero, suc, ◌+◌, ℤ, pos, ◌+ℤ◌, ◌-ℤ◌, ◌≤ℤ◌, true, false, cond, not, List, [], ◌∷◌, map, filter, take}
 use Rattle.std.specs.Ordering.{int_eq}
-use Rattle.std.proofs.Common.{sym, ◌∙◌, ap, subst, arith}
+use Rattle.std.proofs.Common.{arith}
 use Rattle.std.proofs.lemmas.Int.{ints}
 use Rattle.agg_model.specs.declared.aggregation.Search.{Search}
 use Rattle.agg_evaluation.specs.Rows.{PlacedRow}
@@ -9,10 +9,10 @@ use Rattle.agg_evaluation.specs.Shard.{int_sum, shard_answer}
 use Rattle.agg_evaluation.specs.Cost.{cost}
 use Rattle.agg_evaluation.specs.Trace.{differences, trace, sum_before, built_costs, task_overhead}
 
-no_amount : (n : ℤ) → not (int_eq n (pos 0)) ≡ false → n ≡ pos 0
+pub no_amount : (n : ℤ) → not (int_eq n (pos 0)) ≡ false → n ≡ pos 0
 no_amount n e = grind (arith, ints)
 
-sum-none : (n : ℕ) → int_sum (take n []) ≡ pos 0
+pub sum-none : (n : ℕ) → int_sum (take n []) ≡ pos 0
 sum-none zero = refl
 sum-none (suc n) = refl
 

@@ -1,13 +1,11 @@
 -- A shard answer is a tree of its aggregation.
-use Rattle.std.specs.Prelude.{◌≡◌, refl, ℕ, zero, suc, ◌+◌, ◌≤◌, ◌==◌, Bool, true, false, cond, ◌&&◌, T, List, [], ◌∷◌, ◌++◌, map, filter, flat_map, take, length, if◌then◌else◌, Option, Some, None, unwrap_or, sum_by}
-use Rattle.std.specs.List.{list_all, last_or, range_with_len}
-use Rattle.std.specs.declared.cmp.Ordering.{Ordering}
-use Rattle.std.specs.declared.cmp.Ordering.TheVariants.{Less, Equal, Greater}
+use Rattle.std.specs.Prelude.{◌≡◌, refl, ℕ, ◌≤◌, Bool, true, false, T, List, [], ◌∷◌, map, filter, flat_map, take, if◌then◌else◌, Option}
+use Rattle.std.specs.List.{list_all}
 use Rattle.std.specs.Option.{option_map_or}
-use Rattle.std.specs.Ordering.{is_gt, is_eq, is_lt, nat_cmp, ordering_then}
+use Rattle.std.specs.Ordering.{is_gt, is_eq, ordering_then}
 use Rattle.std.specs.Cmp.Lexicographic.{slice_cmp}
 use Rattle.std.specs.Cmp.{tied_itself}
-use Rattle.std.proofs.Common.{sym, ◌∙◌, ap, subst, arith}
+use Rattle.std.proofs.Common.{sym, ap, subst, arith}
 use Rattle.agg_model.specs.declared.key.Key.{Key}
 use Rattle.agg_model.specs.declared.key.Key.TheVariants as key
 use Rattle.agg_model.specs.declared.partial.Metric.{Metric}
@@ -20,19 +18,18 @@ use Rattle.agg_model.specs.declared.aggregation.Kind.{Kind}
 use Rattle.agg_model.specs.declared.aggregation.Kind.TheVariants as kind
 use Rattle.agg_model.specs.declared.aggregation.Search.{Search}
 use Rattle.agg_model.specs.declared.aggregation.Order.{Order}
-use Rattle.agg_evaluation.specs.Folds.{fold_agg, fold_aggs}
+use Rattle.agg_evaluation.specs.Folds.{fold_aggs}
 use Rattle.agg_evaluation.specs.Sorting.{sorted}
-use Rattle.agg_evaluation.specs.KeyOrder.{key_cmp, key_eq, has_key}
+use Rattle.agg_evaluation.specs.KeyOrder.{key_cmp, key_eq}
 use Rattle.agg_evaluation.specs.Rows.{PlacedRow, roots}
 use Rattle.agg_evaluation.specs.Matching.{matched_roots}
-use Rattle.agg_evaluation.specs.Keys.{keys, distinct_keys}
+use Rattle.agg_evaluation.specs.Keys.{keys}
 use Rattle.agg_evaluation.specs.Groups.{under, group, all_keys, total_key_count}
-use Rattle.agg_evaluation.specs.Orders.{bucket_key, bucket_count, bucket_cmp, composite_cmp}
-use Rattle.agg_evaluation.specs.Shard.{Collector, fixed_keys, page, trimmed_node, with_covered, sorted_by_key, bucket_of, node_of, collector_of, collected_node, shard_node, shard_answer}
-use Rattle.agg_evaluation.specs.Whole.{Shape, by_key, from_start, a_number, shape_of}
+use Rattle.agg_evaluation.specs.Orders.{bucket_key, bucket_cmp, composite_cmp}
+use Rattle.agg_evaluation.specs.Shard.{Collector, fixed_keys, page, trimmed_node, with_covered, bucket_of, node_of, collector_of, collected_node, shard_answer}
+use Rattle.agg_evaluation.specs.Whole.{by_key, from_start, a_number, shape_of}
 use Rattle.agg_evaluation.specs.Trace.{built}
 use Rattle.agg_evaluation.specs.Trees.{is_ascending, are_same_keys, pass_each, have_children, is_tree_at, is_tree_of, is_result_of}
-use Rattle.agg_evaluation.proofs.Computing.{computing}
 use Rattle.agg_evaluation.proofs.NodeForms.{out-Keyed, out-Fixed, out-Number}
 use Rattle.agg_evaluation.proofs.KeyCompare.{key_cmp_total}
 use Rattle.agg_evaluation.proofs.KeyLists.{and_left, and_right, both, ascending-distinct_keys}

@@ -1,22 +1,16 @@
 -- The whole of wholes is the whole of all their trees.
-use Rattle.std.specs.Prelude.{◌≡◌, refl, ℕ, zero, suc, ◌+◌, Bool, true, false, cond, T, List, [], ◌∷◌, ◌++◌, map, filter, filter_map, flat_map, sum_by, Option, Some, None, slice_get}
-use Rattle.std.specs.List.{enumerate_from, range_with_len, cons_option}
+use Rattle.std.specs.Prelude.{◌≡◌, refl, ℕ, zero, suc, ◌+◌, true, false, cond, T, List, [], ◌∷◌, map, filter, flat_map, sum_by, Some, None, slice_get}
+use Rattle.std.specs.List.{cons_option}
 use Rattle.std.proofs.Common.{sym, ◌∙◌, ap, subst, arith}
 use Rattle.agg_model.specs.declared.key.Key.{Key}
 use Rattle.agg_model.specs.declared.partial.Bucket.{Bucket}
-use Rattle.agg_model.specs.declared.partial.Metric.{Metric}
-use Rattle.agg_model.specs.declared.partial.Node.{Node, out-Node}
-use Rattle.agg_model.specs.declared.partial.Node.TheVariants.{Keyed, Fixed, Number}
-use Rattle.agg_model.specs.declared.aggregation.Kind.{Kind}
+use Rattle.agg_model.specs.declared.partial.Node.{Node}
 use Rattle.agg_evaluation.specs.KeyOrder.{key_eq, has_key}
-use Rattle.agg_evaluation.specs.Keys.{distinct_keys}
 use Rattle.agg_evaluation.specs.Orders.{bucket_key, bucket_count}
-use Rattle.agg_evaluation.specs.Shard.{fixed_keys}
 use Rattle.agg_evaluation.specs.Trees.{is_ascending}
-use Rattle.agg_evaluation.specs.Whole.{Parts, parts, parts_at, children_at, whole_bucket, whole_by, Shape, by_key, from_start, a_number}
-use Rattle.agg_evaluation.proofs.KeyLists.{true_is, holds, filter-ascending, ascending-distinct_keys, has_key-distinct_keys, distinct_keys-same, key_eq-self, key_eq-exact}
-use Rattle.agg_evaluation.proofs.ListLaws.{joined, append-nil, flat_map-flat_map, flat_map-map, map-flat_map, filter-flat_map, filter-map, filter_map-flat_map, sum_by-flat_map, sum_by-map, enumerated, slice_get-enumerated}
-use Rattle.agg_evaluation.proofs.NodeForms.{out-Keyed, out-Fixed, out-Number}
+use Rattle.agg_evaluation.specs.Whole.{parts, children_at, whole_bucket}
+use Rattle.agg_evaluation.proofs.KeyLists.{filter-ascending}
+use Rattle.agg_evaluation.proofs.ListLaws.{joined, append-nil, flat_map-flat_map, map-flat_map, filter-flat_map, filter-map, filter_map-flat_map, sum_by-flat_map, enumerated, slice_get-enumerated}
 
 -- what gives the whole of trees
 abbrev pub Union : Type 0

@@ -1,11 +1,10 @@
 -- The ceiling of a task: what it can hold at most, computed from its rows before it runs; a search above 2 ^ 50 is too wide
 -- (Elasticsearch Reference 8, 'Circuit breaker settings' on limits that a request is tried against before it runs).
-use Rattle.std.specs.Prelude.{ℕ, ◌+◌, ◌*◌, ◌^◌, Bool, true, false, ◌||◌, nat_lt, if◌then◌else◌, List, [], ◌∷◌, ◌++◌, map, flat_map, length, sum, Option, Some, None, option_map, option_and_then, option_to_list, slice_get}
+use Rattle.std.specs.Prelude.{ℕ, ◌+◌, ◌*◌, ◌^◌, Bool, true, false, nat_lt, if◌then◌else◌, List, [], ◌∷◌, ◌++◌, map, flat_map, length, sum, Option, Some, None, option_map, option_and_then, option_to_list, slice_get}
 use Rattle.std.specs.List.{list_any}
 use Rattle.agg_model.specs.declared.mapping.FieldKind.{FieldKind}
 use Rattle.agg_model.specs.declared.mapping.FieldKind.TheVariants.{Keyword}
 use Rattle.agg_model.specs.declared.row.Scalar.{Scalar}
-use Rattle.agg_model.specs.declared.row.Scalar.TheVariants.{Word}
 use Rattle.agg_model.specs.declared.aggregation.Agg.{Agg, out-Agg}
 use Rattle.agg_model.specs.declared.aggregation.Agg.TheOpen.{Agg-F}
 use Rattle.agg_model.specs.declared.aggregation.CompositeSource.{CompositeSource}
@@ -14,6 +13,8 @@ use Rattle.agg_model.specs.declared.aggregation.Kind.TheVariants as kind
 use Rattle.agg_model.specs.declared.aggregation.Search.{Search}
 use Rattle.agg_evaluation.specs.Folds.{fold_agg}
 use Rattle.agg_evaluation.specs.Rows.{PlacedRow, roots, values_of}
+use Rattle.agg_evaluation.specs.KeyOrder.{scalar_key}
+use Rattle.agg_evaluation.specs.Cost.{key_bytes}
 use Rattle.agg_evaluation.specs.Matching.{matched_roots}
 use Rattle.agg_evaluation.specs.Keys.{keys, source_keys}
 use Rattle.agg_evaluation.specs.Groups.{under}
@@ -28,18 +29,18 @@ greatest_ceiling = 2 ^ 50
 abbrev pub greatest_combinations : ℕ
 greatest_combinations = 65536
 
-abbrev pub word_length : Scalar → ℕ
-word_length (Word w) = length w
-word_length _ = 0
-
 abbrev pub greatest_of : List ℕ → ℕ
 greatest_of [] = 0
 greatest_of (n ∷ ns) = let rest = greatest_of ns in if nat_lt n rest then rest else n
 
--- The bytes of a field's key: 8, or for keywords the length of the longest in the shard or in `missing`.
+-- a key that is a number or a flag has 8 bytes
+abbrev pub least_bytes : Option FieldKind → ℕ
+least_bytes (Some Keyword) = 0
+least_bytes _ = 8
+
+-- a bound on the bytes of a field's keys: 8 for numbers and flags, and for keywords the length of the longest value
 abbrev pub value_bytes : Option FieldKind → List Scalar → ℕ
-value_bytes (Some Keyword) values = greatest_of (map word_length values)
-value_bytes _ values = 8
+value_bytes kind values = greatest_of (least_bytes kind ∷ map (λ v. key_bytes (scalar_key v)) values)
 
 -- how many combinations of keys a row has
 abbrev pub combination_count : List CompositeSource → PlacedRow → ℕ
@@ -55,6 +56,7 @@ path_count reached = sum (map (λ r. r.1) reached)
 
 -- `kinds` are the kinds of the mapping's fields, and `all` the rows of the shard
 module _ (kinds : List FieldKind) (all : List PlacedRow) where
+  -- over all values of the field in the shard, and the one that stands for a missing value
   abbrev pub field_bytes : ℕ → Option Scalar → ℕ
   field_bytes field missing = value_bytes (slice_get kinds field) (option_to_list missing ++ flat_map (values_of field) all)
 
@@ -85,11 +87,14 @@ module _ (kinds : List FieldKind) (all : List PlacedRow) where
 
   -- The bytes of so many nodes of an aggregation and of all below them, where these rows reach them. A bucket of the
   -- parent is one node.
-  abbrev pub node_bound : Agg → ℕ → List Reached → ℕ
-  node_bound = fold_agg (λ a nodes reached.
+  abbrev pub node_bound_at : Agg-F (ℕ → List Reached → ℕ) → ℕ → List Reached → ℕ
+  node_bound_at a nodes reached =
       let handed = handed_on a.kind reached in
       let buckets = bucket_bound a.kind (shape_of a.kind) nodes (path_count handed) in
-      nodes * 512 + buckets * (128 + key_bound a.kind) + sum (map (λ child. child buckets handed) a.children))
+      nodes * 512 + buckets * (128 + key_bound a.kind) + sum (map (λ child. child buckets handed) a.children)
+
+  abbrev pub node_bound : Agg → ℕ → List Reached → ℕ
+  node_bound = fold_agg node_bound_at
 
 -- the roots that an aggregation at the top collects
 abbrev pub collected_roots : Search → List PlacedRow → Kind → List Reached

@@ -1,6 +1,6 @@
 -- A value of a recursive type, level by level: a step takes one level, with the results for its children in their places.
 -- Queries and aggregations nest ('Query DSL', 'Aggregations' of Elasticsearch Reference 8), and so do rows, keys and trees.
-use Rattle.std.specs.Prelude.{List, [], ◌∷◌, Bool}
+use Rattle.std.specs.Prelude.{List, [], ◌∷◌}
 use Rattle.agg_model.specs.declared.key.Key.{Key, Row_of-Key, end_of-Key, more_of-Key}
 use Rattle.agg_model.specs.declared.key.Key.TheOpen.{Key-F}
 use Rattle.agg_model.specs.declared.aggregation.Agg.{Agg, Agg', Row_of-Agg, end_of-Agg, more_of-Agg}

@@ -13,5 +13,6 @@ pub mod Trace
 pub mod Counters
 pub mod Trees
 pub mod Intervals
+pub mod Placement
 pub mod Ceiling
 pub mod TrueCounts

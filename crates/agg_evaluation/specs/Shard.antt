@@ -1,6 +1,6 @@
 -- The shard answer: the tree that one shard answers to an aggregation (Elasticsearch Reference 8, 'Aggregations';
 -- 'Terms aggregation' on shard size and on errors of counts; 'Composite aggregation' on pages).
-use Rattle.std.specs.Prelude.{ℕ, ℤ, pos, ◌+ℤ◌, ◌+◌, ◌-◌, ◌==◌, Bool, true, if◌then◌else◌, List, [], ◌∷◌, map, filter, filter_map, flat_map, length, take, sum_by, Option, Some, None, unwrap_or}
+use Rattle.std.specs.Prelude.{ℕ, ℤ, pos, ◌+ℤ◌, ◌+◌, ◌-◌, ◌==◌, Bool, true, false, if◌then◌else◌, List, [], ◌∷◌, map, filter, filter_map, flat_map, length, take, sum_by, Option, Some, None, unwrap_or}
 use Rattle.std.specs.List.{reduce, last_or, range_with_len}
 use Rattle.std.specs.Option.{option_map_or}
 use Rattle.std.specs.Int.{int_min, int_max}
@@ -73,6 +73,11 @@ trimmed_node kinds shard_size order key_count buckets =
     let is_full = length kept == shard_size in
     let error = if is_full then unwrap_or (last_or None (map bucket_count kept)) 0 else 0 in
     Keyed (sorted_by_key (map (with_covered error) kept)) error (if is_full then 1 else 0) (key_count - sum_by bucket_count kept)
+
+-- whether the buckets of the kind are cut in a shard
+abbrev pub is_terms : Kind → Bool
+is_terms (kind.Terms field size shard_size min_doc_count order include exclude missing show_error) = true
+is_terms _ = false
 
 -- an aggregation's kind, and what it collects of the rows that it is handed
 pub record Collector : Type 0 where

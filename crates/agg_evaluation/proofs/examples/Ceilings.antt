@@ -8,7 +8,7 @@ use Rattle.agg_evaluation.specs.Rows.{PlacedRow, shard_rows}
 use Rattle.agg_evaluation.specs.Keys.{no_bounds}
 use Rattle.agg_evaluation.specs.Ceiling.{ceiling, search_ceiling}
 use Rattle.agg_evaluation.proofs.Computing.{computing}
-use Rattle.agg_evaluation.proofs.Samples.{numbers, words, row, flat, document, by_count, by_key, source, terms, agg, search_of}
+use Rattle.agg_evaluation.proofs.Samples.{numbers, words, flat, document, by_count, by_key, source, terms, agg, search_of}
 use Rattle.std.specs.Prelude.{◌+◌, ◌/◌, ◌%◌}
 use Rattle.std.specs.List.{range_with_len}
 use Rattle.agg_model.specs.declared.mapping.FieldKind.{FieldKind}

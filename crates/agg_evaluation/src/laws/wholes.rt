@@ -1,9 +1,11 @@
 //! Laws of the whole: it may be taken batch by batch, in any order.
-ghost use Rattle.std.specs.Prelude.{◌≡◌, List, [], ◌∷◌, IsPermutation, IsTrue, flat_map, map};
+ghost use Rattle.std.specs.Prelude.{◌≡◌, ◌≤◌, sum_by, List, [], ◌∷◌, IsPermutation, IsTrue, flat_map, map};
+ghost use Rattle.std.specs.List.{list_all};
 ghost use Rattle.agg_model.specs.declared.aggregation.Agg.{Agg};
 ghost use Rattle.agg_model.specs.declared.aggregation.Search.{Search};
 ghost use Rattle.agg_model.specs.declared.partial.Node.{Node};
 ghost use Rattle.agg_model.specs.declared.partial.Partial.{Partial};
+ghost use Rattle.agg_evaluation.specs.Cost.{cost, node_cost};
 ghost use Rattle.agg_evaluation.specs.Trees.{is_result_of, is_tree_of};
 ghost use Rattle.agg_evaluation.specs.Whole.{empty_node, empty_result, whole, whole_node};
 
@@ -43,4 +45,12 @@ pub fn empty_is_neutral()
 pub fn wholes_are_results()
     ensures nodes { (agg : Agg) (xs : List Node) → IsTrue (is_tree_of agg (whole_node agg xs)) }
     ensures results { (search : Search) (xs : List Partial) → IsTrue (is_result_of search (whole search xs)) }
+{}
+
+/// The whole of at least one result costs at most what they cost together.
+pub fn wholes_cost_at_most_their_parts()
+    ensures nodes { (agg : Agg) (x : Node) (xs : List Node) → IsTrue (list_all (is_tree_of agg) (x ∷ xs)) →
+        node_cost (whole_node agg (x ∷ xs)) ≤ sum_by node_cost (x ∷ xs) }
+    ensures results { (search : Search) (x : Partial) (xs : List Partial) → IsTrue (list_all (is_result_of search) (x ∷ xs)) →
+        cost (whole search (x ∷ xs)) ≤ sum_by cost (x ∷ xs) }
 {}
