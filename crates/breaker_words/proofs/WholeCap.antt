@@ -1,0 +1,42 @@
+-- With the whole cap a pass is alone.
+use Rattle.std.proofs.Common.{◌≡◌, ◌≢◌, ℕ, zero, suc, ◌+◌, ◌-◌, ◌<◌, ◌≤◌, ◌⊎◌, inl, inr, max, Bool, true, false, cond, ◌&&◌, leb, eqb, fold, List, [], ◌∷◌, ◌++◌, set, sym, refl, ap, ◌∙◌, subst, ⊎_elim, arith, lit≤}
+use Rattle.std.proofs.lemmas.Bool.{and_parts, and_from, leb-true, leb-false, le-leb, eqb-true, eq-eqb, ne_eqb}
+use Rattle.std.proofs.lemmas.Bool.Decides.{nat_tests}
+use mathlib.Core.Option.{Option, none, some, some-injective, some-ne-none}
+use lib.ListN.{get_elem?}
+use Rattle.agg_model.specs.declared.breaker.Limits.{Limits}
+use Rattle.agg_model.specs.declared.breaker.Child.{Child}
+use Rattle.agg_model.specs.declared.breaker.Child.TheVariants as child
+use Rattle.agg_model.specs.declared.breaker.Which.{Which}
+use Rattle.agg_model.specs.declared.breaker.Which.TheVariants.{Request, Fielddata, Inflight, Parent}
+use Rattle.breaker_words.specs.declared.trial.Trial.{Trial}
+use Rattle.breaker_words.specs.declared.trial.Trial.TheVariants.{Rest, ChildRefused, ChildGranted, ParentRefused, ChildReturning, ParentGiven}
+use Rattle.breaker_words.specs.declared.view.Account.{Account}
+use Rattle.breaker_words.specs.declared.view.Accounts.{Accounts}
+use Rattle.breaker_words.specs.declared.view.View.{View}
+use Rattle.std.specs.List.{sum_by}
+use Rattle.breaker_words.specs.Breakers.{amount_at, place, which_of, limit_of, words_of}
+use Rattle.breaker_words.specs.Accounts.{hold_in, children_in, account, put, empty_accounts, noted_account, marked_account, tripped_account, raised_account, lowered_account}
+use Rattle.breaker_words.specs.Views.{hold_of, most_of, seen_of, view_of, first_view, spent_view}
+use Rattle.breaker_words.specs.Trials.{standing_of, in_force_of, child_in_force, child_standing, parent_standing, child_only, is_rest, is_child_refused, is_child_granted, is_returning, is_parent_refused, is_given, HasAmount}
+use Rattle.breaker_words.specs.AfterStep.{noted_parent, raised_both, after_try_child, after_take_back_child, after_try_parent, after_take_back_parent, after_give_parent, after_give_child, after_set_ceiling, after_split, split_off, after_join}
+use Rattle.breaker_words.specs.Moves.{BreakerState, Move, look, set_ceiling, split, join, try_child, take_back_child, try_parent, take_back_parent, give_parent, give_child, move, run, opened, with_word_raised, with_word_lowered, move_pass, move_some, may_try_child, may_give_parent, may_set_ceiling, may_split, may_join, has_room}
+use Rattle.breaker_words.specs.Soundness.{FitsCeiling, IsConsistent, IsSound, IsNear}
+use Rattle.breaker_words.proofs.Sums.{sum_by_pair}
+use Rattle.breaker_words.proofs.OnePass.{At, own_at}
+
+-- a pass with no cap is at rest and holds nothing
+rest_at : (v : View) (t : Trial) → At v t → v.cap ≡ 0 → hold_of v (which_of v.child) ≡ 0 → t ≡ Rest
+rest_at v Rest f e z = refl
+rest_at v ChildRefused f e z = let a = f.asked in let r = f.room in absurd (omega arith)
+rest_at v ChildGranted f e z = let a = f.asked in let r = f.room in absurd (omega arith)
+rest_at v ParentRefused f e z = let a = f.asked in let r = f.room in absurd (omega arith)
+rest_at v ChildReturning f e z = let a = f.asked in let r = f.room in absurd (omega arith)
+rest_at v ParentGiven f e z = let a = f.asked in let r = f.held in absurd (omega arith)
+
+-- where one pass has the whole cap, each other holds nothing and is at rest
+pub alone : (l : Limits) (s : BreakerState) → IsSound l s → (i : ℕ) (v : View) → get_elem? s.passes i ≡ some v → v.cap ≡ v.total → 0 < v.cap → (j : ℕ) (u : View) → j ≢ i → get_elem? s.passes j ≡ some u
+    → (u.trial ≡ Rest) × ((x : Which) → hold_of u x ≡ 0)
+alone l s h i v here whole pos j u apart there = let f = h.each i v here in let t = f.kept pos in let two = sum_by_pair (λ (y : View). y.cap) s.passes i j v u apart here there in let c = h.caps in let o = (h.each j u there).own in
+    let none_left : u.cap ≡ 0 = omega arith in let holds : (x : Which) → hold_of u x ≡ 0 = λ x. let a = o.low x in let b = o.high x in omega arith in
+    (rest_at u u.trial (own_at u u.trial refl o) none_left (holds (which_of u.child)), holds)
