@@ -22,7 +22,8 @@ use Rattle.breaker_words.specs.Trials.{standing_of, in_force_of, child_in_force,
 use Rattle.breaker_words.specs.AfterStep.{noted_parent, raised_both, after_try_child, after_take_back_child, after_try_parent, after_take_back_parent, after_give_parent, after_give_child, after_set_ceiling, after_split, split_off, after_join}
 use Rattle.breaker_words.specs.Moves.{BreakerState, Move, look, set_ceiling, split, join, try_child, take_back_child, try_parent, take_back_parent, give_parent, give_child, move, run, opened, with_word_raised, with_word_lowered, move_pass, move_some, may_try_child, may_give_parent, may_set_ceiling, may_split, may_join, has_room}
 use Rattle.breaker_words.specs.Soundness.{FitsCeiling, IsConsistent, IsSound, IsNear}
-use Rattle.breaker_words.proofs.Sums.{sum_by_pair}
+use Rattle.breaker_words.proofs.Sums.{sum_by_pair, sum_by_rest, sum_by_has, sum_by_below}
+use Rattle.breaker_words.proofs.Moves.{standing_as, amount_at_zero}
 use Rattle.breaker_words.proofs.OnePass.{At, own_at}
 
 -- a pass with no cap is at rest and holds nothing
@@ -40,3 +41,18 @@ pub alone : (l : Limits) (s : BreakerState) → IsSound l s → (i : ℕ) (v : V
 alone l s h i v here whole pos j u apart there = let f = h.each i v here in let t = f.kept pos in let two = sum_by_pair (λ (y : View). y.cap) s.passes i j v u apart here there in let c = h.caps in let o = (h.each j u there).own in
     let none_left : u.cap ≡ 0 = omega arith in let holds : (x : Which) → hold_of u x ≡ 0 = λ x. let a = o.low x in let b = o.high x in omega arith in
     (rest_at u u.trial (own_at u u.trial refl o) none_left (holds (which_of u.child)), holds)
+
+-- then each word is its own hold
+pub own_word : (l : Limits) (s : BreakerState) → IsSound l s → (i : ℕ) (v : View) → get_elem? s.passes i ≡ some v → v.cap ≡ v.total → 0 < v.cap → v.trial ≡ Rest → (x : Which) → s.word_of x ≡ hold_of v x
+own_word l s h i v here whole pos rest x = let a = sum_by_rest (λ u. standing_of u x) (λ (u : View). u.cap) s.passes (λ j u e. let o = (h.each j u e).own in let p = o.low x in let q = o.high x in omega arith) i v here in
+    let b = sum_by_has (λ u. standing_of u x) s.passes i v here in let c = h.level x in let d = h.caps in let e = (h.each i v here).kept pos in
+    let st = standing_as v Rest rest x in let z = amount_at_zero (which_of v.child) x in let z' = amount_at_zero Parent x in omega arith
+
+-- and no trial of its own saw more than it had standing
+pub own_seen : (l : Limits) (s : BreakerState) → IsSound l s → (i : ℕ) (v : View) → get_elem? s.passes i ≡ some v → v.cap ≡ v.total → 0 < v.cap → (x : Which) → seen_of v x ≤ most_of v x
+own_seen l s h i v here whole pos x = let a = h.told i v here pos x in let b = (h.each i v here).kept pos in let c = h.caps in
+    let d = sum_by_rest (λ u. most_of u x) (λ (u : View). u.cap) s.passes (λ j u e. (h.each j u e).own.high x) i v here in omega arith
+
+-- what is held at a breaker is within its limit
+pub holds_within : (l : Limits) (s : BreakerState) → IsSound l s → (x : Which) → sum_by (λ v. hold_of v x) s.passes ≤ limit_of l x
+holds_within l s h x = let a = sum_by_below (λ v. hold_of v x) (λ v. in_force_of v x) s.passes (λ j u e. omega arith) in let b = h.within x in omega arith
