@@ -4,6 +4,8 @@
 
 mod charging;
 mod statistics;
+#[cfg(test)]
+mod tests;
 
 pub use agg_model::breaker::{BreakerStats, Totals, Tripped};
 pub use charging::{charge, give_back};
