@@ -1,38 +1,23 @@
 -- Each step of a pass keeps the rule, since it is one move.
-use Rattle.std.proofs.Common.{◌≡◌, ◌≢◌, ℕ, zero, suc, ◌+◌, ◌-◌, ◌<◌, ◌≤◌, ◌⊎◌, inl, inr, max, Bool, true, false, cond, ◌&&◌, not, leb, eqb, fold, List, [], ◌∷◌, ◌++◌, set, sym, refl, ap, ◌∙◌, subst, ⊎_elim, arith, lit≤, get_or, ◌%◌, ◌^◌, add-zero}
-use Rattle.std.proofs.lemmas.Bool.{and_parts, and_from, leb-true, leb-false, le-leb, eqb-true, eq-eqb, ne_eqb}
-use Rattle.std.proofs.lemmas.Bool.Decides.{nat_tests}
-use mathlib.Core.Option.{Option, none, some, some-injective, some-ne-none}
-use lib.ListN.{get_elem?}
+use Rattle.std.proofs.Common.{◌≡◌, ℕ, ◌+◌, ◌-◌, ◌≤◌, true, List, [], ◌∷◌, ◌++◌, sym, refl, ap, ◌∙◌, subst, get_or, ◌%◌, ◌^◌}
+use mathlib.Core.Option.{none}
 use Rattle.agg_model.specs.declared.breaker.Limits.{Limits}
 use Rattle.agg_model.specs.declared.breaker.Child.{Child}
-use Rattle.agg_model.specs.declared.breaker.Child.TheVariants as child
 use Rattle.agg_model.specs.declared.breaker.Which.{Which}
-use Rattle.agg_model.specs.declared.breaker.Which.TheVariants.{Request, Fielddata, Inflight, Parent}
-use Rattle.breaker_words.specs.declared.trial.Trial.{Trial}
-use Rattle.breaker_words.specs.declared.trial.Trial.TheVariants.{Rest, ChildRefused, ChildGranted, ParentRefused, ChildReturning, ParentGiven}
-use Rattle.breaker_words.specs.declared.view.Account.{Account}
-use Rattle.breaker_words.specs.declared.view.Accounts.{Accounts}
+use Rattle.agg_model.specs.declared.breaker.Which.TheVariants.{Request}
+use Rattle.breaker_words.specs.declared.trial.Trial.TheVariants.{Rest, ChildGranted, ParentRefused, ParentGiven}
 use Rattle.breaker_words.specs.declared.view.View.{View}
-use Rattle.std.specs.List.{sum_by}
-use Rattle.breaker_words.specs.Breakers.{amount_at, place, which_of, limit_of, words_of}
-use Rattle.breaker_words.specs.Accounts.{hold_in, children_in, account, put, empty_accounts, noted_account, marked_account, tripped_account, raised_account, lowered_account}
-use Rattle.breaker_words.specs.Views.{hold_of, most_of, seen_of, view_of, first_view, spent_view}
-use Rattle.breaker_words.specs.Trials.{standing_of, in_force_of, child_in_force, child_standing, parent_standing, child_only, is_rest, is_child_refused, is_child_granted, is_returning, is_parent_refused, is_given, HasAmount}
-use Rattle.breaker_words.specs.AfterStep.{noted_parent, raised_both, after_try_child, after_take_back_child, after_try_parent, after_take_back_parent, after_give_parent, after_give_child, after_set_ceiling, after_split, split_off, after_join}
-use Rattle.breaker_words.specs.Moves.{BreakerState, Move, look, set_ceiling, split, join, try_child, take_back_child, try_parent, take_back_parent, give_parent, give_child, move, run, opened, with_word_raised, with_word_lowered, move_pass, move_some, may_try_child, may_give_parent, may_set_ceiling, may_split, may_join, has_room}
-use Rattle.breaker_words.specs.Soundness.{FitsCeiling, IsConsistent, IsSound, IsNear}
+use Rattle.breaker_words.specs.Breakers.{place, which_of, words_of}
+use Rattle.breaker_words.specs.Views.{hold_of, most_of, spent_view}
+use Rattle.breaker_words.specs.Trials.{is_returning}
+use Rattle.breaker_words.specs.AfterStep.{after_try_child, after_take_back_child, after_try_parent, after_take_back_parent, after_give_parent, after_give_child, after_set_ceiling, after_split, split_off, after_join}
+use Rattle.breaker_words.specs.Moves.{BreakerState, Move, look, set_ceiling, split, join, try_child, take_back_child, try_parent, take_back_parent, give_parent, give_child, move, run, opened}
+use Rattle.breaker_words.specs.Soundness.{IsNear}
 use Rattle.std.proofs.lemmas.List.Sums.{fold-append}
-use Rattle.atomic_table.specs.Table.{State, Me, Step, step, keeps, stepped, Allows, Splits, Joins}
-use Rattle.atomic_table.proofs.Lists.{set_again, set_else}
-use Rattle.breaker_words.specs.Steps.{IsReached, StepTells, TriesChild, TakesBackChild, TriesParent, TakesBackParent, GivesParent, GivesChild, SetsCeiling, Looks}
-use Rattle.breaker_words.proofs.Sums.{sum_by_has, sum_by_rest, sum_by_below, sum_by_pair}
-use Rattle.breaker_words.proofs.Moves.{amount_at_zero, amount_at_same, amount_at_most, hold_child, move_pass_is, standing_as}
-use Rattle.breaker_words.proofs.OnePass.{own_at, returns}
-use Rattle.breaker_words.proofs.Steps.{may_try_child_is}
-use Rattle.breaker_words.proofs.Runs.{sound_run, splits_is}
-
-use Rattle.breaker_words.specs.Atomic.{Running, IsStateOf}
+use Rattle.atomic_table.specs.Table.{Me, step, keeps, stepped, Allows, Splits, Joins}
+use Rattle.breaker_words.specs.Steps.{IsReached, TriesChild, TakesBackChild, TriesParent, TakesBackParent, GivesParent, GivesChild, SetsCeiling, Looks}
+use Rattle.breaker_words.proofs.Runs.{sound_run}
+use Rattle.breaker_words.specs.Atomic.{Running}
 use Rattle.breaker_words.proofs.OneMove.{same_child, try_step, parent_step, take_step, take_parent_step, give_parent_step, give_child_step, ceil_step, split_step, join_step, look_step}
 
 abbrev M : Type 0

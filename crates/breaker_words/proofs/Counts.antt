@@ -1,8 +1,8 @@
 -- The counts of the passes are those of the list of moves, cut at 2^64 - 1.
-use Rattle.std.proofs.Common.{◌≡◌, ◌≢◌, ℕ, zero, suc, ◌+◌, ◌-◌, ◌<◌, ◌≤◌, ◌⊎◌, inl, inr, max, Bool, true, false, cond, ◌&&◌, not, leb, eqb, fold, List, [], ◌∷◌, ◌++◌, set, sym, refl, ap, ◌∙◌, subst, ⊎_elim, arith, lit≤, min}
-use Rattle.std.proofs.lemmas.Bool.{and_parts, and_from, leb-true, leb-false, le-leb, eqb-true, eq-eqb, ne_eqb}
+use Rattle.std.proofs.Common.{◌≡◌, ◌≢◌, ℕ, ◌+◌, ◌-◌, ◌≤◌, ◌⊎◌, inl, inr, Bool, true, false, cond, ◌&&◌, not, leb, eqb, fold, List, [], ◌∷◌, ◌++◌, set, sym, refl, ap, ◌∙◌, subst, ⊎_elim, arith}
+use Rattle.std.proofs.lemmas.Bool.{and_parts}
 use Rattle.std.proofs.lemmas.Bool.Decides.{nat_tests}
-use mathlib.Core.Option.{Option, none, some, some-injective, some-ne-none}
+use mathlib.Core.Option.{Option, none, some}
 use lib.ListN.{get_elem?}
 use Rattle.agg_model.specs.declared.breaker.Limits.{Limits}
 use Rattle.agg_model.specs.declared.breaker.Child.{Child}
@@ -11,25 +11,24 @@ use Rattle.agg_model.specs.declared.breaker.Which.{Which}
 use Rattle.agg_model.specs.declared.breaker.Which.TheVariants.{Request, Fielddata, Inflight, Parent}
 use Rattle.breaker_words.specs.declared.trial.Trial.{Trial}
 use Rattle.breaker_words.specs.declared.trial.Trial.TheVariants.{Rest, ChildRefused, ChildGranted, ParentRefused, ChildReturning, ParentGiven}
-use Rattle.breaker_words.specs.declared.view.Account.{Account}
 use Rattle.breaker_words.specs.declared.view.Accounts.{Accounts}
 use Rattle.breaker_words.specs.declared.view.View.{View}
 use Rattle.std.specs.List.{sum_by}
-use Rattle.breaker_words.specs.Breakers.{amount_at, place, which_of, limit_of, words_of}
-use Rattle.breaker_words.specs.Accounts.{hold_in, children_in, account, put, empty_accounts, noted_account, marked_account, tripped_account, raised_account, lowered_account}
-use Rattle.breaker_words.specs.Views.{granted_of, trips_of, hold_of, most_of, seen_of, view_of, first_view, spent_view}
-use Rattle.breaker_words.specs.Trials.{standing_of, in_force_of, child_in_force, child_standing, parent_standing, child_only, is_rest, is_child_refused, is_child_granted, is_returning, is_parent_refused, is_given, HasAmount}
+use Rattle.breaker_words.specs.Breakers.{amount_at, which_of, limit_of}
+use Rattle.breaker_words.specs.Accounts.{account, put, empty_accounts, noted_account, tripped_account, lowered_account}
+use Rattle.breaker_words.specs.Views.{granted_of, trips_of, first_view, spent_view}
+use Rattle.breaker_words.specs.Trials.{is_rest, is_child_refused, is_child_granted, is_returning, is_parent_refused, is_given}
 use Rattle.breaker_words.specs.AfterStep.{noted_parent, raised_both, after_try_child, after_take_back_child, after_try_parent, after_take_back_parent, after_give_parent, after_give_child, after_set_ceiling, after_split, split_off, after_join}
-use Rattle.breaker_words.specs.Moves.{BreakerState, Move, look, set_ceiling, split, join, try_child, take_back_child, try_parent, take_back_parent, give_parent, give_child, move, run, opened, with_word_raised, with_word_lowered, move_pass, move_some, may_try_child, may_give_parent, may_set_ceiling, may_split, may_join, has_room}
-use Rattle.breaker_words.specs.Soundness.{FitsCeiling, IsConsistent, IsSound, IsNear}
+use Rattle.breaker_words.specs.Moves.{BreakerState, Move, look, set_ceiling, split, join, try_child, take_back_child, try_parent, take_back_parent, give_parent, give_child, move, run, opened, with_word_raised, with_word_lowered, move_pass, move_some, may_try_child, may_give_parent, may_set_ceiling, may_split, may_join}
+use Rattle.breaker_words.specs.Soundness.{IsSound}
 use Rattle.breaker_words.specs.Breakers.{counter_value}
 use Rattle.breaker_words.specs.Counts.{amount_granted, refusals, sum_over_moves, untaken_refusals, untaken_refusals_in, value_where}
 use Rattle.atomic_table.proofs.Lists.{set_else}
 use Rattle.breaker_words.proofs.Sums.{sum_by_set, sum_by_has}
 use Rattle.std.proofs.lemmas.List.Sums.{sum_by_push}
-use Rattle.breaker_words.proofs.Moves.{amount_at_zero, by_test, account_cases, move_pass_keeps}
+use Rattle.breaker_words.proofs.Moves.{by_test, account_cases, move_pass_keeps}
 use Rattle.breaker_words.proofs.OnePass.{both_cases, returns, rests}
-use Rattle.breaker_words.proofs.Runs.{sound_run, sound_move, empty_all, joined_all, marked_all}
+use Rattle.breaker_words.proofs.Runs.{sound_run, sound_move}
 
 -- one count rises by a, stopping at the most
 raise_sum : (n m g a : ℕ) → g ≤ n → counter_value n ≡ counter_value m → counter_value (n - g + counter_value (g + a)) ≡ counter_value (m + a)

@@ -1,27 +1,16 @@
 -- A pass keeps what holds of it by itself.
-use Rattle.std.proofs.Common.{◌≡◌, ◌≢◌, ℕ, zero, suc, ◌+◌, ◌-◌, ◌<◌, ◌≤◌, ◌⊎◌, inl, inr, max, Bool, true, false, cond, ◌&&◌, leb, eqb, fold, List, [], ◌∷◌, ◌++◌, set, sym, refl, ap, ◌∙◌, subst, ⊎_elim, arith, lit≤}
-use Rattle.std.proofs.lemmas.Bool.{and_parts, and_from, leb-true, leb-false, le-leb, eqb-true, eq-eqb, ne_eqb}
+use Rattle.std.proofs.Common.{◌≡◌, ℕ, ◌+◌, ◌<◌, ◌≤◌, leb, [], sym, refl, ◌∙◌, subst, arith}
 use Rattle.std.proofs.lemmas.Bool.Decides.{nat_tests}
-use mathlib.Core.Option.{Option, none, some, some-injective, some-ne-none}
-use lib.ListN.{get_elem?}
 use Rattle.agg_model.specs.declared.breaker.Limits.{Limits}
 use Rattle.agg_model.specs.declared.breaker.Child.{Child}
-use Rattle.agg_model.specs.declared.breaker.Child.TheVariants as child
 use Rattle.agg_model.specs.declared.breaker.Which.{Which}
-use Rattle.agg_model.specs.declared.breaker.Which.TheVariants.{Request, Fielddata, Inflight, Parent}
-use Rattle.breaker_words.specs.declared.trial.Trial.{Trial}
-use Rattle.breaker_words.specs.declared.trial.Trial.TheVariants.{Rest, ChildRefused, ChildGranted, ParentRefused, ChildReturning, ParentGiven}
-use Rattle.breaker_words.specs.declared.view.Account.{Account}
-use Rattle.breaker_words.specs.declared.view.Accounts.{Accounts}
+use Rattle.agg_model.specs.declared.breaker.Which.TheVariants.{Parent}
+use Rattle.breaker_words.specs.declared.trial.Trial.TheVariants.{Rest, ChildGranted, ParentGiven}
 use Rattle.breaker_words.specs.declared.view.View.{View}
-use Rattle.std.specs.List.{sum_by}
-use Rattle.breaker_words.specs.Breakers.{amount_at, place, which_of, limit_of, words_of}
-use Rattle.breaker_words.specs.Accounts.{hold_in, children_in, account, put, empty_accounts, noted_account, marked_account, tripped_account, raised_account, lowered_account}
-use Rattle.breaker_words.specs.Views.{hold_of, most_of, seen_of, view_of, first_view, spent_view}
-use Rattle.breaker_words.specs.Trials.{standing_of, in_force_of, child_in_force, child_standing, parent_standing, child_only, is_rest, is_child_refused, is_child_granted, is_returning, is_parent_refused, is_given, HasAmount}
-use Rattle.breaker_words.specs.AfterStep.{noted_parent, raised_both, after_try_child, after_take_back_child, after_try_parent, after_take_back_parent, after_give_parent, after_give_child, after_set_ceiling, after_split, split_off, after_join}
-use Rattle.breaker_words.specs.Moves.{BreakerState, Move, look, set_ceiling, split, join, try_child, take_back_child, try_parent, take_back_parent, give_parent, give_child, move, run, opened, with_word_raised, with_word_lowered, move_pass, move_some, may_try_child, may_give_parent, may_set_ceiling, may_split, may_join, has_room}
-use Rattle.breaker_words.specs.Soundness.{FitsCeiling, IsConsistent, IsSound, IsNear}
+use Rattle.breaker_words.specs.Breakers.{which_of}
+use Rattle.breaker_words.specs.Views.{hold_of, most_of}
+use Rattle.breaker_words.specs.AfterStep.{after_try_child, after_try_parent, after_set_ceiling, after_split, split_off, after_join}
+use Rattle.breaker_words.specs.Soundness.{IsConsistent}
 use Rattle.atomic_table.specs.Table.{Me}
 use Rattle.breaker_words.specs.Passes.{IsLive}
 use Rattle.breaker_words.proofs.Moves.{by_test, hold_child}

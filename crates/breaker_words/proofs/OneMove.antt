@@ -1,36 +1,29 @@
 -- Each atomic step of a pass makes of the words and the views what one move makes of the state.
-use Rattle.std.proofs.Common.{◌≡◌, ◌≢◌, ℕ, zero, suc, ◌+◌, ◌-◌, ◌<◌, ◌≤◌, ◌⊎◌, inl, inr, max, Bool, true, false, cond, ◌&&◌, not, leb, eqb, fold, List, [], ◌∷◌, ◌++◌, set, sym, refl, ap, ◌∙◌, subst, ⊎_elim, arith, lit≤, get_or, ◌%◌, ◌^◌, add-zero}
-use Rattle.std.proofs.lemmas.Bool.{and_parts, and_from, leb-true, leb-false, le-leb, eqb-true, eq-eqb, ne_eqb}
-use Rattle.std.proofs.lemmas.Bool.Decides.{nat_tests}
-use mathlib.Core.Option.{Option, none, some, some-injective, some-ne-none}
+use Rattle.std.proofs.Common.{◌≡◌, ℕ, zero, suc, ◌+◌, ◌-◌, ◌<◌, ◌≤◌, true, ◌&&◌, not, eqb, List, [], ◌∷◌, ◌++◌, set, sym, refl, ap, ◌∙◌, subst, ⊎_elim, arith, get_or, ◌%◌, add-zero}
+use Rattle.std.proofs.lemmas.Bool.{and_from, le-leb, eq-eqb, ne_eqb}
+use mathlib.Core.Option.{Option, some}
 use lib.ListN.{get_elem?}
 use Rattle.agg_model.specs.declared.breaker.Limits.{Limits}
 use Rattle.agg_model.specs.declared.breaker.Child.{Child}
 use Rattle.agg_model.specs.declared.breaker.Child.TheVariants as child
 use Rattle.agg_model.specs.declared.breaker.Which.{Which}
 use Rattle.agg_model.specs.declared.breaker.Which.TheVariants.{Request, Fielddata, Inflight, Parent}
-use Rattle.breaker_words.specs.declared.trial.Trial.{Trial}
 use Rattle.breaker_words.specs.declared.trial.Trial.TheVariants.{Rest, ChildRefused, ChildGranted, ParentRefused, ChildReturning, ParentGiven}
-use Rattle.breaker_words.specs.declared.view.Account.{Account}
-use Rattle.breaker_words.specs.declared.view.Accounts.{Accounts}
 use Rattle.breaker_words.specs.declared.view.View.{View}
-use Rattle.std.specs.List.{sum_by}
-use Rattle.breaker_words.specs.Breakers.{amount_at, place, which_of, limit_of, words_of}
-use Rattle.breaker_words.specs.Accounts.{hold_in, children_in, account, put, empty_accounts, noted_account, marked_account, tripped_account, raised_account, lowered_account}
-use Rattle.breaker_words.specs.Views.{hold_of, most_of, seen_of, view_of, first_view, spent_view}
-use Rattle.breaker_words.specs.Trials.{standing_of, in_force_of, child_in_force, child_standing, parent_standing, child_only, is_rest, is_child_refused, is_child_granted, is_returning, is_parent_refused, is_given, HasAmount}
-use Rattle.breaker_words.specs.AfterStep.{noted_parent, raised_both, after_try_child, after_take_back_child, after_try_parent, after_take_back_parent, after_give_parent, after_give_child, after_set_ceiling, after_split, split_off, after_join}
-use Rattle.breaker_words.specs.Moves.{BreakerState, Move, look, set_ceiling, split, join, try_child, take_back_child, try_parent, take_back_parent, give_parent, give_child, move, run, opened, with_word_raised, with_word_lowered, move_pass, move_some, may_try_child, may_give_parent, may_set_ceiling, may_split, may_join, has_room}
-use Rattle.breaker_words.specs.Soundness.{FitsCeiling, IsConsistent, IsSound, IsNear}
-use Rattle.std.proofs.lemmas.List.Sums.{fold-append}
-use Rattle.atomic_table.specs.Table.{State, Me, Step, step, keeps, stepped, Allows, Splits, Joins}
+use Rattle.breaker_words.specs.Breakers.{amount_at, place, which_of, words_of}
+use Rattle.breaker_words.specs.Views.{hold_of, most_of, seen_of, spent_view}
+use Rattle.breaker_words.specs.Trials.{standing_of, is_rest, is_child_granted, is_returning, is_parent_refused, is_given}
+use Rattle.breaker_words.specs.AfterStep.{after_try_child, after_take_back_child, after_try_parent, after_take_back_parent, after_give_parent, after_give_child, after_set_ceiling, after_split, split_off, after_join}
+use Rattle.breaker_words.specs.Moves.{BreakerState, Move, look, set_ceiling, split, join, try_child, take_back_child, try_parent, take_back_parent, give_parent, give_child, move, with_word_raised, with_word_lowered, move_pass, may_try_child, may_give_parent, may_set_ceiling, may_split, may_join}
+use Rattle.breaker_words.specs.Soundness.{IsConsistent, IsSound, IsNear}
+use Rattle.atomic_table.specs.Table.{keeps, stepped}
 use Rattle.atomic_table.proofs.Lists.{set_again, set_else}
 use Rattle.breaker_words.specs.Atomic.{Running, IsStateOf}
-use Rattle.breaker_words.proofs.Sums.{sum_by_has, sum_by_rest, sum_by_below, sum_by_pair}
-use Rattle.breaker_words.proofs.Moves.{amount_at_zero, amount_at_same, amount_at_most, hold_child, move_pass_is, standing_as}
+use Rattle.breaker_words.proofs.Sums.{sum_by_has, sum_by_rest, sum_by_below}
+use Rattle.breaker_words.proofs.Moves.{amount_at_zero, amount_at_same, hold_child, move_pass_is, standing_as}
 use Rattle.breaker_words.proofs.OnePass.{own_at, returns}
 use Rattle.breaker_words.proofs.Steps.{may_try_child_is}
-use Rattle.breaker_words.proofs.Runs.{sound_run, splits_is}
+use Rattle.breaker_words.proofs.Runs.{splits_is}
 
 child_at : ℕ → Child
 child_at zero = child.Request
@@ -178,4 +171,3 @@ module _ (l : Limits) (k : BreakerState) (sound : IsSound l k) (s : Running) (r 
     λ x q. let is : n ≡ k.word_of x = ap (λ m. get_or s.words m 0) q ∙ word_is x in subst (IsNear v x) (sym is) (near x),
     λ whole some_cap x. let h = sound.told id v here some_cap x in let t = g some_cap in let y = sum_by_rest (λ u. most_of u x) (λ (u : View). u.cap) k.passes (λ j u q. (sound.each j u q).own.high x) id v here in omega arith,
   )
-

@@ -1,9 +1,5 @@
 -- What each move makes of the pass that makes it.
-use Rattle.std.proofs.Common.{◌≡◌, ◌≢◌, ℕ, zero, suc, ◌+◌, ◌-◌, ◌<◌, ◌≤◌, ◌⊎◌, inl, inr, max, Bool, true, false, cond, ◌&&◌, leb, eqb, fold, List, [], ◌∷◌, ◌++◌, set, sym, refl, ap, ◌∙◌, subst, ⊎_elim, arith, lit≤}
-use Rattle.std.proofs.lemmas.Bool.{and_parts, and_from, leb-true, leb-false, le-leb, eqb-true, eq-eqb, ne_eqb}
-use Rattle.std.proofs.lemmas.Bool.Decides.{nat_tests}
-use mathlib.Core.Option.{Option, none, some, some-injective, some-ne-none}
-use lib.ListN.{get_elem?}
+use Rattle.std.proofs.Common.{◌≡◌, ℕ, ◌+◌, ◌≤◌, ◌⊎◌, inl, inr, true, leb, refl, ap, subst, ⊎_elim, arith}
 use Rattle.agg_model.specs.declared.breaker.Limits.{Limits}
 use Rattle.agg_model.specs.declared.breaker.Child.{Child}
 use Rattle.agg_model.specs.declared.breaker.Child.TheVariants as child
@@ -14,15 +10,13 @@ use Rattle.breaker_words.specs.declared.trial.Trial.TheVariants.{Rest, ChildRefu
 use Rattle.breaker_words.specs.declared.view.Account.{Account}
 use Rattle.breaker_words.specs.declared.view.Accounts.{Accounts}
 use Rattle.breaker_words.specs.declared.view.View.{View}
-use Rattle.std.specs.List.{sum_by}
-use Rattle.breaker_words.specs.Breakers.{amount_at, place, which_of, limit_of, words_of}
-use Rattle.breaker_words.specs.Accounts.{hold_in, children_in, account, put, empty_accounts, noted_account, marked_account, tripped_account, raised_account, lowered_account}
-use Rattle.breaker_words.specs.Views.{hold_of, most_of, seen_of, view_of, first_view, spent_view}
-use Rattle.breaker_words.specs.Trials.{standing_of, in_force_of, child_in_force, child_standing, parent_standing, child_only, is_rest, is_child_refused, is_child_granted, is_returning, is_parent_refused, is_given, HasAmount}
-use Rattle.breaker_words.specs.AfterStep.{noted_parent, raised_both, after_try_child, after_take_back_child, after_try_parent, after_take_back_parent, after_give_parent, after_give_child, after_set_ceiling, after_split, split_off, after_join}
-use Rattle.breaker_words.specs.Moves.{BreakerState, Move, look, set_ceiling, split, join, try_child, take_back_child, try_parent, take_back_parent, give_parent, give_child, move, run, opened, with_word_raised, with_word_lowered, move_pass, move_some, may_try_child, may_give_parent, may_set_ceiling, may_split, may_join, has_room}
-use Rattle.breaker_words.specs.Soundness.{FitsCeiling, IsConsistent, IsSound, IsNear}
-use Rattle.breaker_words.proofs.Moves.{amount_at_zero, amount_at_add, amount_at_le, amount_at_same, amount_at_most, account_cases, account_same, hold_put, children_put, parent_put, hold_child, by_test, standing_as}
+use Rattle.breaker_words.specs.Breakers.{amount_at, which_of, limit_of}
+use Rattle.breaker_words.specs.Accounts.{hold_in, children_in, account, put, noted_account, tripped_account, lowered_account}
+use Rattle.breaker_words.specs.Views.{hold_of, most_of}
+use Rattle.breaker_words.specs.Trials.{child_standing, parent_standing, child_only, is_rest, is_child_refused, is_child_granted, is_returning, is_parent_refused, is_given, HasAmount}
+use Rattle.breaker_words.specs.AfterStep.{noted_parent, raised_both, after_try_child, after_take_back_child, after_try_parent, after_take_back_parent, after_give_parent, after_give_child}
+use Rattle.breaker_words.specs.Soundness.{IsConsistent}
+use Rattle.breaker_words.proofs.Moves.{amount_at_zero, account_cases, hold_put, children_put, parent_put, hold_child, by_test}
 
 -- a fact at the breaker w with its new account and a, and at each other with its account and nothing
 pub both_cases : (P : Which → Account → ℕ → Type 0) (w : Which) (k : Accounts) (b : Account) (a : ℕ) → P w b a → ((x : Which) → P x (account k x) 0) → (x : Which) → P x (account (put k w b) x) (amount_at w a x)

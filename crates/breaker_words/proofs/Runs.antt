@@ -1,31 +1,27 @@
 -- Every list of moves leaves a sound state.
-use Rattle.std.proofs.Common.{◌≡◌, ◌≢◌, ℕ, zero, suc, ◌+◌, ◌-◌, ◌<◌, ◌≤◌, ◌⊎◌, inl, inr, max, Bool, true, false, cond, ◌&&◌, leb, eqb, fold, List, [], ◌∷◌, ◌++◌, set, sym, refl, ap, ◌∙◌, subst, ⊎_elim, arith, lit≤}
-use Rattle.std.proofs.lemmas.Bool.{and_parts, and_from, leb-true, leb-false, le-leb, eqb-true, eq-eqb, ne_eqb}
+use Rattle.std.proofs.Common.{◌≡◌, ◌≢◌, ℕ, zero, suc, ◌+◌, ◌<◌, ◌≤◌, inl, inr, max, true, cond, leb, fold, List, [], ◌∷◌, ◌++◌, set, sym, refl, ap, ◌∙◌, subst, ⊎_elim, arith, lit≤}
+use Rattle.std.proofs.lemmas.Bool.{and_parts, and_from, leb-true, le-leb, eqb-true}
 use Rattle.std.proofs.lemmas.Bool.Decides.{nat_tests}
-use mathlib.Core.Option.{Option, none, some, some-injective, some-ne-none}
+use mathlib.Core.Option.{some, some-injective, some-ne-none}
 use lib.ListN.{get_elem?}
 use Rattle.agg_model.specs.declared.breaker.Limits.{Limits}
-use Rattle.agg_model.specs.declared.breaker.Child.{Child}
-use Rattle.agg_model.specs.declared.breaker.Child.TheVariants as child
 use Rattle.agg_model.specs.declared.breaker.Which.{Which}
 use Rattle.agg_model.specs.declared.breaker.Which.TheVariants.{Request, Fielddata, Inflight, Parent}
 use Rattle.breaker_words.specs.declared.trial.Trial.{Trial}
-use Rattle.breaker_words.specs.declared.trial.Trial.TheVariants.{Rest, ChildRefused, ChildGranted, ParentRefused, ChildReturning, ParentGiven}
-use Rattle.breaker_words.specs.declared.view.Account.{Account}
-use Rattle.breaker_words.specs.declared.view.Accounts.{Accounts}
+use Rattle.breaker_words.specs.declared.trial.Trial.TheVariants.{Rest}
 use Rattle.breaker_words.specs.declared.view.View.{View}
 use Rattle.std.specs.List.{sum_by}
-use Rattle.breaker_words.specs.Breakers.{amount_at, place, which_of, limit_of, words_of}
-use Rattle.breaker_words.specs.Accounts.{hold_in, children_in, account, put, empty_accounts, noted_account, marked_account, tripped_account, raised_account, lowered_account}
+use Rattle.breaker_words.specs.Breakers.{which_of}
+use Rattle.breaker_words.specs.Accounts.{hold_in, account, empty_accounts}
 use Rattle.breaker_words.specs.Views.{hold_of, most_of, seen_of, view_of, first_view, spent_view}
-use Rattle.breaker_words.specs.Trials.{standing_of, in_force_of, child_in_force, child_standing, parent_standing, child_only, is_rest, is_child_refused, is_child_granted, is_returning, is_parent_refused, is_given, HasAmount}
-use Rattle.breaker_words.specs.AfterStep.{noted_parent, raised_both, after_try_child, after_take_back_child, after_try_parent, after_take_back_parent, after_give_parent, after_give_child, after_set_ceiling, after_split, split_off, after_join}
-use Rattle.breaker_words.specs.Moves.{BreakerState, Move, look, set_ceiling, split, join, try_child, take_back_child, try_parent, take_back_parent, give_parent, give_child, move, run, opened, with_word_raised, with_word_lowered, move_pass, move_some, may_try_child, may_give_parent, may_set_ceiling, may_split, may_join, has_room}
-use Rattle.breaker_words.specs.Soundness.{FitsCeiling, IsConsistent, IsSound, IsNear}
-use Rattle.atomic_table.proofs.Lists.{at_set, at_snoc, set_else}
-use Rattle.breaker_words.proofs.Sums.{sum_by_pair, sum_by_set, sum_by_has, sum_by_below, each_set, each_snoc}
+use Rattle.breaker_words.specs.Trials.{standing_of, in_force_of, child_standing, child_only, HasAmount}
+use Rattle.breaker_words.specs.AfterStep.{after_set_ceiling, after_split, split_off, after_join}
+use Rattle.breaker_words.specs.Moves.{BreakerState, Move, look, set_ceiling, split, join, try_child, take_back_child, try_parent, take_back_parent, give_parent, give_child, move, run, opened, may_set_ceiling, may_split, may_join, has_room}
+use Rattle.breaker_words.specs.Soundness.{FitsCeiling, IsConsistent, IsSound}
+use Rattle.atomic_table.proofs.Lists.{at_set, set_else}
+use Rattle.breaker_words.proofs.Sums.{sum_by_pair, sum_by_set, sum_by_has, each_set, each_snoc}
 use Rattle.std.proofs.lemmas.List.Sums.{sum_by_push}
-use Rattle.breaker_words.proofs.Moves.{amount_at_zero, standing_as, inforce_as, move_pass_keeps, lives, by_test}
+use Rattle.breaker_words.proofs.Moves.{amount_at_zero, standing_as, inforce_as, move_pass_keeps, by_test}
 use Rattle.breaker_words.proofs.OnePass.{At, own_at, rests}
 use Rattle.breaker_words.proofs.Steps.{sound_tried_child, sound_taken_child, sound_tried_parent, sound_taken_parent, sound_given_parent, sound_given_child}
 

@@ -1,5 +1,5 @@
 -- What a clause sees of the shared words and of a pass.
-use Rattle.std.specs.Prelude.{◌≡◌, ℕ, ◌≤◌}
+use Rattle.std.specs.Prelude.{◌≡◌, ◌≤◌}
 use Rattle.atomic_table.specs.Seated.{TableId}
 use Rattle.agg_model.specs.declared.breaker.Limits.{Limits}
 use Rattle.breaker_words.specs.declared.view.View.{View}

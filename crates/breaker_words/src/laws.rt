@@ -24,28 +24,24 @@ ghost use Rattle.breaker_words.specs.Steps.{IsReached};
 /// Every list of moves leaves a sound state.
 pub fn soundness()
     ensures { (l : Limits) (ms : List Move) → IsSound l (run l ms) }
-{
-}
+{}
 
 /// What all passes hold together at a breaker never passes its limit.
 pub fn holds_within_limits()
     ensures { (l : Limits) (ms : List Move) (x : Which) → sum_by (λ v. hold_of v x) (run l ms).passes ≤ limit_of l x }
-{
-}
+{}
 
 /// The granted totals of all passes at a breaker are together the sum of the amounts that the moves granted there,
 /// both cut at 2^64 - 1.
 pub fn granted_totals()
     ensures { (l : Limits) (ms : List Move) (x : Which) → counter_value (sum_by (λ v. granted_of v x) (run l ms).passes) ≡ counter_value (sum_over_moves amount_granted l (opened l) ms x) }
-{
-}
+{}
 
 /// The trips of all passes at a breaker, with one more for each refused trial that is not yet taken back there, are
 /// together the number of its refusals among the moves, both cut at 2^64 - 1.
 pub fn trip_counts()
     ensures { (l : Limits) (ms : List Move) (x : Which) → counter_value (sum_by (λ v. trips_of v x) (run l ms).passes + sum_by (λ v. untaken_refusals v x) (run l ms).passes) ≡ counter_value (sum_over_moves refusals l (opened l) ms x) }
-{
-}
+{}
 
 /// Where the pass `i` has the whole cap, it is alone.
 pub fn whole_cap()
@@ -53,14 +49,12 @@ pub fn whole_cap()
     ensures word { (l : Limits) (ms : List Move) (i : ℕ) (v : View) → get_elem? (run l ms).passes i ≡ some v → 1 ≤ v.total → v.cap ≡ v.total → v.trial ≡ Rest → (x : Which) → (run l ms).word_of x ≡ hold_of v x }
     // No trial of it saw more than it had standing itself.
     ensures seen { (l : Limits) (ms : List Move) (i : ℕ) (v : View) → get_elem? (run l ms).passes i ≡ some v → 1 ≤ v.total → v.cap ≡ v.total → (x : Which) → seen_of v x ≤ most_of v x }
-{
-}
+{}
 
 /// Words and views that meet the rule of `Words` are those of a sound state that a list of moves makes.
 pub fn between_steps()
     ensures { (l : Limits) (s : Running) → IsReached l s → (ms : List Move) × IsStateOf (run l ms) s × IsSound l (run l ms) }
-{
-}
+{}
 
 /// Each atomic step makes of the words and the views what one move makes of the state. It changes the one word and the
 /// one view that stand in its clause; a split and a join change two views and no word.
@@ -86,5 +80,4 @@ pub fn one_move_each()
         → IsStateOf (move l (run l ms) (split i k)) (with_views s (slice_set s.views i (after_split v k) ++ split_off v k ∷ [])) }
     ensures join { (l : Limits) (ms : List Move) (s : Running) (i j : ℕ) (v w : View) → IsPassAfter l ms s i v → IsPassAfter l ms s j w → j ≢ i → v.trial ≡ Rest → w.trial ≡ Rest → 1 ≤ v.total → 1 ≤ w.total
         → IsStateOf (move l (run l ms) (join i j)) (with_views s (slice_set (slice_set s.views i (after_join v w)) j spent_view)) }
-{
-}
+{}

@@ -1,7 +1,7 @@
 // Two passes that charge step by step, in turn.
 use crate::{
-    Child, Limits, Step, Trial, Which, Words, give_child, give_parent, join, look,
-    set_ceiling, split, take_back_child, take_back_parent, try_child, try_parent,
+    Child, Limits, Step, Trial, Which, Words, give_child, give_parent, join, look, set_ceiling,
+    split, take_back_child, take_back_parent, try_child, try_parent,
 };
 use std::test::Fail;
 
@@ -44,7 +44,10 @@ fn a_child_refuses_what_another_pass_holds_there(rt: HostRuntime) -> Result<(), 
 
     join(&words, &mut a, b);
     assert_eq!(rt; (a.cap(), a.total()), (200, 200));
-    assert_eq!(rt; (a.granted(Which::Request), a.trips(Which::Request)), (110, 1));
+    assert_eq!(rt;
+        (a.granted(Which::Request), a.trips(Which::Request)),
+        (110, 1)
+    );
     assert_eq!(rt; look(&words, &mut a, Which::Parent), 50);
     assert_eq!(rt; words.limit(Which::Request), 100);
     Ok(())

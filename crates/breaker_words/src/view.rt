@@ -304,13 +304,22 @@ impl View {
             cap: self.cap + other.cap,
             total,
             accounts: Accounts {
-                request: self.accounts.request.with(mine, other.accounts.request, yours),
+                request: self
+                    .accounts
+                    .request
+                    .with(mine, other.accounts.request, yours),
                 fielddata: self
                     .accounts
                     .fielddata
                     .with(mine, other.accounts.fielddata, yours),
-                inflight: self.accounts.inflight.with(mine, other.accounts.inflight, yours),
-                parent: self.accounts.parent.with(mine, other.accounts.parent, yours),
+                inflight: self
+                    .accounts
+                    .inflight
+                    .with(mine, other.accounts.inflight, yours),
+                parent: self
+                    .accounts
+                    .parent
+                    .with(mine, other.accounts.parent, yours),
             },
             trial: Trial::Rest,
             child: self.child,

@@ -11,8 +11,8 @@ ghost use Rattle.breaker_words.specs.Passes.{WordsModel, PassModel, IsOf, with_v
 
 use crate::breaker::{CEILING, PARENT, limit_of, place_of, which_of};
 use crate::rule::{
-    BreakerRule, GiveChild, GiveParent, GivenChild, JoinPasses, Look, SetCeiling, SplitCap, SplitSize,
-    TakeBackChild, TakeBackParent, TryChild, TryParent,
+    BreakerRule, GiveChild, GiveParent, GivenChild, JoinPasses, Look, SetCeiling, SplitCap,
+    SplitSize, TakeBackChild, TakeBackParent, TryChild, TryParent,
 };
 use crate::trial::{Step, Trial};
 use crate::view::View;

@@ -1,4 +1,4 @@
-use Rattle.std.proofs.Common.{◌≡◌, ◌<◌, arith}
+use Rattle.std.proofs.Common.{arith}
 use Rattle.breaker_words.specs.Moves.{run}
 use Rattle.breaker_words.proofs.Runs.{sound_run}
 use Rattle.breaker_words.proofs.WholeCap.{alone, own_word, own_seen}

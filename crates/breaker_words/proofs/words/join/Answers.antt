@@ -1,10 +1,9 @@
-use Rattle.std.proofs.Common.{rules, ◌≡◌, ◌+◌, ◌≤◌, ◌<◌, ◌^◌, [], sym, refl, ap, subst, ◌∙◌, ℕ, arith}
+use Rattle.std.proofs.Common.{rules, ◌≡◌, ◌≤◌, [], sym, ap, subst, ◌∙◌, arith}
 use Rattle.atomic_table.specs.Table.{Me}
 use Rattle.breaker_words.specs.declared.view.View.{View}
-use Rattle.breaker_words.specs.Breakers.{place, which_of}
 use Rattle.breaker_words.specs.AfterStep.{after_join}
 use Rattle.breaker_words.proofs.Allowed.{joins, allows_look}
-use Rattle.breaker_words.proofs.LivePasses.{closes, fitting_joined, joined_fits}
+use Rattle.breaker_words.proofs.LivePasses.{closes, fitting_joined}
 use Rattle.breaker_words.proofs.words.join.Goals as goal
 
 pub join_seat-requires : goal.join_seat-requires

@@ -1,7 +1,5 @@
-use Rattle.std.proofs.Common.{rules, ◌≡◌, ◌+◌, ◌≤◌, ◌<◌, ◌^◌, [], sym, refl, ap, ◌∙◌, ℕ, arith}
-use Rattle.breaker_words.specs.Breakers.{place, which_of}
+use Rattle.std.proofs.Common.{rules, arith}
 use Rattle.breaker_words.proofs.Allowed.{allows_look}
-use Rattle.breaker_words.proofs.LivePasses.{closes}
 use Rattle.breaker_words.proofs.words.look.Goals as goal
 
 pub load-requires : goal.load-requires

@@ -1,8 +1,7 @@
-use Rattle.std.proofs.Common.{rules, ◌≡◌, ◌+◌, ◌≤◌, ◌<◌, ◌^◌, [], sym, refl, ap, ◌∙◌, ℕ, arith}
-use Rattle.breaker_words.specs.Breakers.{place, which_of}
+use Rattle.std.proofs.Common.{rules, refl, ap, ◌∙◌, arith}
 use Rattle.breaker_words.specs.AfterStep.{after_split}
 use Rattle.breaker_words.proofs.Allowed.{splits}
-use Rattle.breaker_words.proofs.LivePasses.{closes, fitting_cut, fitting_piece}
+use Rattle.breaker_words.proofs.LivePasses.{closes, fitting_cut}
 use Rattle.breaker_words.proofs.words.split_by.Goals as goal
 
 pub split_seat-seat-requires : goal.split_seat-seat-requires

@@ -1,5 +1,5 @@
-use Rattle.std.proofs.Common.{rules, ◌≡◌, ◌+◌, ◌≤◌, ◌<◌, ◌^◌, [], sym, refl, ap, ◌∙◌, ℕ, arith}
-use Rattle.breaker_words.specs.Breakers.{place, which_of}
+use Rattle.std.proofs.Common.{rules, refl, ap, ◌∙◌, arith}
+use Rattle.breaker_words.specs.Breakers.{place}
 use Rattle.breaker_words.specs.AfterStep.{after_take_back_child}
 use Rattle.breaker_words.proofs.Allowed.{allows_take}
 use Rattle.breaker_words.proofs.LivePasses.{closes, fitting_of}

@@ -1,5 +1,4 @@
-use Rattle.std.proofs.Common.{rules, ◌≡◌, ◌+◌, ◌≤◌, ◌<◌, ◌^◌, [], sym, refl, ap, ◌∙◌, ℕ, arith}
-use Rattle.breaker_words.specs.Breakers.{place, which_of}
+use Rattle.std.proofs.Common.{rules, ◌+◌, refl, arith}
 use Rattle.breaker_words.specs.AfterStep.{after_try_parent}
 use Rattle.breaker_words.proofs.Allowed.{allows_parent}
 use Rattle.breaker_words.proofs.LivePasses.{closes, fitting_parent, trial_fits}
