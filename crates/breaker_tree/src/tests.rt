@@ -133,6 +133,9 @@ fn two_threads_count_what_the_passes_say(rt: HostRuntime) -> Result<(), Fail> {
     assert_eq!(rt; (a.hold(Which::Request), a.hold(Which::Parent)), (0, 0));
     assert_eq!(rt; a.granted(Which::Request), 10 * granted);
     assert_eq!(rt; a.granted(Which::Parent), 10 * granted);
-    assert_eq!(rt; (a.trips(Which::Request), a.trips(Which::Parent)), (refused, 0));
+    assert_eq!(rt;
+        (a.trips(Which::Request), a.trips(Which::Parent)),
+        (refused, 0)
+    );
     Ok(())
 }
