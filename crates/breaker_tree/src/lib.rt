@@ -1,0 +1,12 @@
+//! Charges at the circuit breakers (Elasticsearch Reference 8, 'Circuit breaker settings'): whole at a child and at the
+//! parent, or not at all. And the statistics that one pass with the whole cap shows. No call waits or takes memory.
+#![tactic(auto)]
+
+mod charging;
+mod statistics;
+#[cfg(test)]
+mod tests;
+
+pub use agg_model::breaker::{BreakerStats, Totals, Tripped};
+pub use charging::{charge, give_back};
+pub use statistics::{close, stats};

@@ -1,0 +1,10 @@
+pub mod Sums
+pub mod Moves
+pub mod OnePass
+pub mod Steps
+pub mod Runs
+pub mod OneMove
+pub mod Allowed
+pub mod LivePasses
+pub mod Counts
+pub mod WholeCap

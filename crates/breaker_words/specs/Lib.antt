@@ -1,0 +1,11 @@
+pub mod Accounts
+pub mod AfterStep
+pub mod Atomic
+pub mod Breakers
+pub mod Counts
+pub mod Moves
+pub mod Passes
+pub mod Soundness
+pub mod Steps
+pub mod Trials
+pub mod Views
