@@ -52,11 +52,20 @@ fn before_newline(bytes: &[u8]) -> usize
     memchr(NEWLINE, bytes).unwrap_or(bytes.len())
 }
 
-/// A block that nothing was read into yet.
-fn empty_block(alloc: Global) -> Result<Vec<u8>, AllocError>
-    ensures { IfOk result (λ block. vec_len block ≡ BLOCK) }
-{
-    vec![in alloc; 0; BLOCK]
+/// The memory that a reader of lines reads into: 65,536 bytes. It is taken before the source is lent.
+#[derive(Drop)]
+pub struct Block {
+    bytes: Vec<u8>,
+    ghost whole: { length bytes.items ≡ BLOCK },
+}
+
+impl Block {
+    /// A block that nothing was read into yet.
+    pub fn new(alloc: Global) -> Result<Block, AllocError> {
+        Ok(Block {
+            bytes: vec![in alloc; 0; BLOCK]?,
+        })
+    }
 }
 
 /// Whether a line, `bytes` long so far and ended by a newline or not, is still within the limits.
@@ -132,23 +141,8 @@ pub struct Lines<'a, S: Source> {
 impl<'a, S: Source> Lines<'a, S> {
     ghost use Rattle.agg_base.specs.Lines.{source_of, source_name, to_come, unread, position, bytes_read, handed, kept, Stays, Took, KeepsCounts};
 
-    /// The lines of what `source` has left, of which nothing is read yet.
-    pub fn new(alloc: Global, source: &'a mut S) -> Result<Lines<'a, S>, AllocError>
-        ensures same_source { IfOk result (λ lines. source_name lines ≡ source.entry.ghost_name) }
-        ensures source { IfOk result (λ lines. source_of lines ≡ source.old) }
-        ensures unread { IfOk result (λ lines. unread lines ≡ S.left source.old) }
-        ensures position { IfOk result (λ lines. position lines ≡ 0) }
-        ensures bytes_read { IfOk result (λ lines. bytes_read lines ≡ 0) }
-        ensures handed { IfOk result (λ lines. handed lines ≡ 0) }
-        ensures kept { IfOk result (λ lines. kept lines ≡ None) }
-    {
-        let block = empty_block(alloc)?;
-        Ok(Lines::over(alloc, source, block))
-    }
-
-    /// The lines of what `source` has left, read by way of `buffer`.
-    fn over(alloc: Global, source: &'a mut S, buffer: Vec<u8>) -> Lines<'a, S>
-        requires { vec_len buffer ≡ BLOCK }
+    /// The lines of what `source` has left, of which nothing is read yet. It takes no memory.
+    pub fn new(alloc: Global, source: &'a mut S, block: Block) -> Lines<'a, S>
         ensures same_source { source_name result ≡ source.entry.ghost_name }
         ensures source { source_of result ≡ source.old }
         ensures unread { unread result ≡ S.left source.old }
@@ -157,9 +151,10 @@ impl<'a, S: Source> Lines<'a, S> {
         ensures handed { handed result ≡ 0 }
         ensures kept { kept result ≡ None }
     {
+        let Block { bytes } = block;
         Lines {
             source,
-            buffer,
+            buffer: bytes,
             start: 0,
             end: 0,
             line: Vec::new(alloc),

@@ -1,7 +1,7 @@
 ghost use Rattle.std.specs.Prelude.{◌≤◌};
 
 use crate::adapters::{StdSink, StdSource};
-use crate::lines::{LineFault, Lines};
+use crate::lines::{Block, LineFault, Lines};
 use crate::memory_sink::MemorySink;
 use crate::memory_source::MemorySource;
 use crate::sink::{Sink, write_all};
@@ -27,7 +27,7 @@ fn source_of(
 
 /// The lines, each with a bar behind it, up to the end or the first fault.
 fn barred<S: Source>(alloc: Global, source: &mut S) -> Result<(Vec<u8>, Option<LineFault>), Fail> {
-    let mut lines = Lines::new(alloc, source)?;
+    let mut lines = Lines::new(alloc, source, Block::new(alloc)?);
     let mut all = Vec::new(alloc);
     for _ in 0..9u8 {
         match lines.next_line(alloc) {
