@@ -1,3 +1,4 @@
 pub mod FoldLevels
 pub mod CostLevels
 pub mod MergeLevels
+pub mod PassingLaws
