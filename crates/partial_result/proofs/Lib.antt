@@ -2,3 +2,8 @@ pub mod FoldLevels
 pub mod CostLevels
 pub mod MergeLevels
 pub mod PassingLaws
+pub mod KeyLists
+pub mod Columns
+pub mod ColumnLaws
+pub mod Found
+pub mod Tables
