@@ -102,7 +102,7 @@ greater_less j k p = key_cmp_total.antisymm k j ∙ ap ordering_reverse p
 merged-key : (c b : Bucket) → (merged_bucket c b).key ≡ b.key
 merged-key c b = ap (λ (x : Bucket). x.key) (merged_bucket_level c b)
 
-abbrev others : List Bucket → List OtherBucket
+abbrev pub others : List Bucket → List OtherBucket
 others cs = map other_bucket cs
 
 -- `next` makes of the buckets that are left what is below a key, wherever they are

@@ -7,3 +7,4 @@ pub mod Columns
 pub mod ColumnLaws
 pub mod Found
 pub mod Tables
+pub mod TableLaws
