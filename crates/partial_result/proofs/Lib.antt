@@ -8,3 +8,5 @@ pub mod ColumnLaws
 pub mod Found
 pub mod Tables
 pub mod TableLaws
+pub mod MetricLaws
+pub mod FixedKeys
