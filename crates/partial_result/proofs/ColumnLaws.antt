@@ -22,7 +22,7 @@ EachWhole [] [] = ⊤
 EachWhole (w ∷ ws) (test ∷ tests) = IsWhole w test × EachWhole ws tests
 EachWhole _ _ = ⊥
 
-false_true : {A : Type 0} → false ≡ true → A
+pub false_true : {A : Type 0} → false ≡ true → A
 false_true h = absurd (subst T (sym h) tt)
 
 flat_map-map : {Z : Type 0} (f : Z → List Node) (zs : List Z) → flat_map (λ xs. xs) (map f zs) ≡ flat_map f zs

@@ -10,3 +10,5 @@ pub mod Tables
 pub mod TableLaws
 pub mod MetricLaws
 pub mod FixedKeys
+pub mod NodeLaws
+pub mod ShapeLaws
