@@ -12,3 +12,4 @@ pub mod MetricLaws
 pub mod FixedKeys
 pub mod NodeLaws
 pub mod ShapeLaws
+pub mod WholeLaws
