@@ -86,5 +86,5 @@ module _ {X : Type 0} where
   columns-union get (w ∷ ws) [] part zs each = absurd each
   columns-union get (w ∷ ws) (test ∷ tests) part zs each = λ i.
       (ap w (heads-first (λ z. w (heads get (part z))) (λ z. columns (λ x. tail (get x)) ws (part z)) zs)
-        ∙ union_of w test each.0 (λ z. heads get (part z)) zs ∙ ap w (sym (heads-flat_map get part zs))) i
+      ∙ union_of w test each.0 (λ z. heads get (part z)) zs ∙ ap w (sym (heads-flat_map get part zs))) i
       ∷ columns-union (λ x. tail (get x)) ws tests part zs each.1 i

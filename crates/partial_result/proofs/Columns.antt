@@ -40,7 +40,7 @@ module _ {X : Type 0} where
   from_place get (w ∷ ws) xs k = λ i.
       w (filter_map (λ x. get-drop (get x) k i) xs)
       ∷ (ap (λ n. map (λ c. c.1 (filter_map (λ x. slice_get (get x) c.0) xs)) (enumerate_from n ws)) (add-one k)
-          ∙ from_place get ws xs (suc k) ∙ (λ j. columns (λ x. sym (tail-drop (get x) k) j) ws xs)) i
+      ∙ from_place get ws xs (suc k) ∙ (λ j. columns (λ x. sym (tail-drop (get x) k) j) ws xs)) i
 
   pub wholes_are : (get : X → List Node) (ws : List (List Node → Node)) (xs : List X) → wholes get ws xs ≡ columns get ws xs
   wholes_are get ws xs = from_place get ws xs 0
@@ -49,7 +49,7 @@ module _ {X : Type 0} where
   heads-append get [] ys = refl
   heads-append get (x ∷ xs) ys =
       ap (cons_option (slice_get (get x) 0)) (heads-append get xs ys)
-      ∙ elim (slice_get (get x) 0) as (λ o. cons_option o (heads get xs ++ heads get ys) ≡ cons_option o (heads get xs) ++ heads get ys) [ | None ↦ refl | Some n ↦ refl ]
+      ∙ elim (slice_get (get x) 0) as (λ o. cons_option o (heads get xs ++ heads get ys) ≡ cons_option o (heads get xs) ++ heads get ys) [ None ↦ refl | Some n ↦ refl ]
 
   pub heads-flat_map : {Z : Type 0} (get : X → List Node) (part : Z → List X) (zs : List Z) → heads get (flat_map part zs) ≡ flat_map (λ z. heads get (part z)) zs
   heads-flat_map get part [] = refl

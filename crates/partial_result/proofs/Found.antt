@@ -47,7 +47,7 @@ same_found cs bs h g same =
 pub is_some-found : (q : Key) (bs : List Bucket) → is_some (found q bs) ≡ has_key q (map bucket_key bs)
 is_some-found q [] = refl
 is_some-found q (b ∷ bs) =
-    elim (key_eq q b.key) as (λ r. is_some (cond r (Some b) (found q bs)) ≡ (r || has_key q (map bucket_key bs))) [ | true ↦ refl | false ↦ is_some-found q bs ]
+    elim (key_eq q b.key) as (λ r. is_some (cond r (Some b) (found q bs)) ≡ (r || has_key q (map bucket_key bs))) [ true ↦ refl | false ↦ is_some-found q bs ]
 
 none_some : {A : Type 0} (b : Bucket) → None ≡ Some b → A
 none_some b h = absurd (subst (λ (o : Option Bucket). T (is_some o)) (sym h) tt)
@@ -145,10 +145,10 @@ module _ (c : Bucket) (cs : List Bucket) (below : is_below c.key cs ≡ true) wh
   module _ (q : Key) (rest : (bs : List Bucket) → IsRising bs → found q (behind bs) ≡ both_found (found q cs) (found q bs)) where
     found-put : (bs : List Bucket) → IsRising bs → found q (put_in (other_bucket c) behind bs) ≡ both_found (cond (key_eq q c.key) (Some c) (found q cs)) (found q bs)
     found-put [] g =
-        elim (key_eq q c.key) as (λ r. cond r (Some c) (found q (behind [])) ≡ both_found (cond r (Some c) (found q cs)) None) [ | true ↦ refl | false ↦ rest [] refl ]
+        elim (key_eq q c.key) as (λ r. cond r (Some c) (found q (behind [])) ≡ both_found (cond r (Some c) (found q cs)) None) [ true ↦ refl | false ↦ rest [] refl ]
     found-put (b ∷ bs) g =
         elim (key_cmp c.key b.key) as (λ r. key_cmp c.key b.key ≡ r → found q (match_ordering r (c ∷ behind (b ∷ bs)) (merged_bucket c b ∷ behind bs) (b ∷ put_in (other_bucket c) behind bs))
-              ≡ both_found (cond (key_eq q c.key) (Some c) (found q cs)) (found q (b ∷ bs))) [
+        ≡ both_found (cond (key_eq q c.key) (Some c) (found q cs)) (found q (b ∷ bs))) [
           | Less ↦ λ p.
               elim (key_eq q c.key) as (λ s. key_eq q c.key ≡ s → cond s (Some c) (found q (behind (b ∷ bs))) ≡ both_found (cond s (Some c) (found q cs)) (found q (b ∷ bs))) [
                 | true ↦ λ e.
@@ -160,7 +160,7 @@ module _ (c : Bucket) (cs : List Bucket) (below : is_below c.key cs ≡ true) wh
               let same : c.key ≡ b.key = exact_keys c.key b.key p in
               ap (λ j. cond (key_eq q j) (Some (merged_bucket c b)) (found q (behind bs))) (merged-key c b)
               ∙ ap (cond (key_eq q b.key) (Some (merged_bucket c b))) (rest bs (and_second _ _ g))
-              ∙ elim (key_eq q b.key) as (λ s. cond s (Some (merged_bucket c b)) (both_found (found q cs) (found q bs)) ≡ both_found (cond s (Some c) (found q cs)) (cond s (Some b) (found q bs))) [ | true ↦ refl | false ↦ refl ]
+              ∙ elim (key_eq q b.key) as (λ s. cond s (Some (merged_bucket c b)) (both_found (found q cs) (found q bs)) ≡ both_found (cond s (Some c) (found q cs)) (cond s (Some b) (found q bs))) [ true ↦ refl | false ↦ refl ]
               ∙ ap (λ j. both_found (cond (key_eq q j) (Some c) (found q cs)) (found q (b ∷ bs))) (sym same)
           | Greater ↦ λ p.
               let less = greater_less c.key b.key p in

@@ -65,7 +65,7 @@ sorted-units (k ∷ ks) = λ i. below-units k ks i && sorted-units ks i
 find-units : (q : Key) (ks : List Key) → find key_cmp q (units ks) ≡ cond (has_key q ks) (Some tt) None
 find-units q [] = refl
 find-units q (k ∷ ks) =
-    elim (key_eq q k) as (λ b. cond b (Some tt) (find key_cmp q (units ks)) ≡ cond (b || has_key q ks) (Some tt) None) [ | true ↦ refl | false ↦ find-units q ks ]
+    elim (key_eq q k) as (λ b. cond b (Some tt) (find key_cmp q (units ks)) ≡ cond (b || has_key q ks) (Some tt) None) [ true ↦ refl | false ↦ find-units q ks ]
 
 units-insert : (k : Key) (ks : List Key) → units (insert_once key_cmp k ks) ≡ put key_cmp k tt (units ks)
 units-insert k [] = refl
@@ -84,7 +84,7 @@ find-distinct : (q : Key) (ks : List Key) → find key_cmp q (units (distinct_ke
 find-distinct q [] = refl
 find-distinct q (k ∷ ks) =
     ap (find key_cmp q) (units-insert k (distinct_keys ks)) ∙ find-put key_cmp key_cmp_total q k tt (units (distinct_keys ks))
-    ∙ elim (key_eq q k) as (λ b. cond b (Some tt) (find key_cmp q (units (distinct_keys ks))) ≡ cond (b || has_key q ks) (Some tt) None) [ | true ↦ refl | false ↦ find-distinct q ks ]
+    ∙ elim (key_eq q k) as (λ b. cond b (Some tt) (find key_cmp q (units (distinct_keys ks))) ≡ cond (b || has_key q ks) (Some tt) None) [ true ↦ refl | false ↦ find-distinct q ks ]
 
 is_some-cond : (u : Unit {0}) (b : Bool) → is_some (cond b (Some u) None) ≡ b
 is_some-cond u true = refl
@@ -103,7 +103,7 @@ pub same_keys : (js ks : List Key) → is_ascending js ≡ true → is_ascending
 same_keys js ks h g same =
     sym (keys-units js)
     ∙ ap (map (λ (e : Key × Unit {0}). e.0)) (same_entries key_cmp key_cmp_total exact_keys (units js) (units ks) (holds _ (sorted-units js ∙ h)) (holds _ (sorted-units ks ∙ g))
-        (λ q. find-units q js ∙ ap (λ b. cond b (Some tt) None) (same q) ∙ sym (find-units q ks)))
+    (λ q. find-units q js ∙ ap (λ b. cond b (Some tt) None) (same q) ∙ sym (find-units q ks)))
     ∙ keys-units ks
 
 pub same_distinct : (js ks : List Key) → ((q : Key) → has_key q js ≡ has_key q ks) → distinct_keys js ≡ distinct_keys ks
@@ -115,7 +115,7 @@ distinct-ascending ks h = same_keys _ _ (ascending-distinct ks) h (λ q. has_key
 pub has_key-append : (q : Key) (js ks : List Key) → has_key q (js ++ ks) ≡ (has_key q js || has_key q ks)
 has_key-append q [] ks = refl
 has_key-append q (j ∷ js) ks =
-    elim (key_eq q j) as (λ b. (b || has_key q (js ++ ks)) ≡ ((b || has_key q js) || has_key q ks)) [ | true ↦ refl | false ↦ has_key-append q js ks ]
+    elim (key_eq q j) as (λ b. (b || has_key q (js ++ ks)) ≡ ((b || has_key q js) || has_key q ks)) [ true ↦ refl | false ↦ has_key-append q js ks ]
 
 -- a key below all of a list is not in it
 pub absent_below : (k : Key) (ks : List Key) → list_all (λ later. is_lt (key_cmp k later)) ks ≡ true → has_key k ks ≡ false

@@ -13,3 +13,4 @@ pub mod FixedKeys
 pub mod NodeLaws
 pub mod ShapeLaws
 pub mod WholeLaws
+pub mod EmptyLevels

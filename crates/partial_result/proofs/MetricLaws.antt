@@ -99,11 +99,11 @@ two_sum m n h = grind (arith, nat_tests)
 
 pub metric_sum-two : (m n : Metric) → fits_u64 (metric_sum (m ∷ n ∷ [])).count ≡ true → fits_i128 (metric_sum (m ∷ n ∷ [])).sum ≡ true → merged_metric n m ≡ metric_sum (m ∷ n ∷ [])
 metric_sum-two m n h g = λ i. record {
-    count = two_sum m.count n.count h i;
-    sum = (fitting (m.sum +ℤ n.sum) (ap (λ z. fits_i128 (m.sum +ℤ z)) (sym (+ℤ_idr n.sum)) ∙ g) ∙ ap (λ z. m.sum +ℤ z) (sym (+ℤ_idr n.sum))) i;
-    least = reduce-two int_min m.least n.least i;
-    greatest = reduce-two int_max m.greatest n.greatest i;
-  }
+  count = two_sum m.count n.count h i;
+  sum = (fitting (m.sum +ℤ n.sum) (ap (λ z. fits_i128 (m.sum +ℤ z)) (sym (+ℤ_idr n.sum)) ∙ g) ∙ ap (λ z. m.sum +ℤ z) (sym (+ℤ_idr n.sum))) i;
+  least = reduce-two int_min m.least n.least i;
+  greatest = reduce-two int_max m.greatest n.greatest i;
+}
 
 map-append : {Y : Type 0} (f : Metric → Y) (xs ys : List Metric) → map f (xs ++ ys) ≡ map f xs ++ map f ys
 map-append f [] ys = refl
@@ -111,11 +111,11 @@ map-append f (x ∷ xs) ys = ap (λ zs. f x ∷ zs) (map-append f xs ys)
 
 pub metric_sum-flip : (xs ys : List Metric) → metric_sum (xs ++ ys) ≡ metric_sum (ys ++ xs)
 metric_sum-flip xs ys = λ i. record {
-    count = (sum_by-append count_of xs ys ∙ add_comm (sum_by count_of xs) (sum_by count_of ys) ∙ sym (sum_by-append count_of ys xs)) i;
-    sum = (sums xs ys ∙ +ℤ_comm (int_sum (map sum_of xs)) (int_sum (map sum_of ys)) ∙ sym (sums ys xs)) i;
-    least = bests int_min min_assoc min_comm (λ m. m.least) i;
-    greatest = bests int_max max_assoc max_comm (λ m. m.greatest) i;
-  }
+  count = (sum_by-append count_of xs ys ∙ add_comm (sum_by count_of xs) (sum_by count_of ys) ∙ sym (sum_by-append count_of ys xs)) i;
+  sum = (sums xs ys ∙ +ℤ_comm (int_sum (map sum_of xs)) (int_sum (map sum_of ys)) ∙ sym (sums ys xs)) i;
+  least = bests int_min min_assoc min_comm (λ m. m.least) i;
+  greatest = bests int_max max_assoc max_comm (λ m. m.greatest) i;
+}
   where
     sums : (xs ys : List Metric) → int_sum (map sum_of (xs ++ ys)) ≡ int_sum (map sum_of xs) +ℤ int_sum (map sum_of ys)
     sums xs ys = ap int_sum (map-append sum_of xs ys) ∙ int_sum-append (map sum_of xs) (map sum_of ys)
@@ -149,8 +149,8 @@ module _ {Z : Type 0} (part : Z → List Metric) where
 
   pub metric_sum-union : (zs : List Z) → metric_sum (map (λ z. metric_sum (part z)) zs) ≡ metric_sum (flat_map part zs)
   metric_sum-union zs = λ i. record {
-      count = counts zs i;
-      sum = sums zs i;
-      least = bests int_min min_assoc (λ m. m.least) (λ z. refl) zs i;
-      greatest = bests int_max max_assoc (λ m. m.greatest) (λ z. refl) zs i;
-    }
+    count = counts zs i;
+    sum = sums zs i;
+    least = bests int_min min_assoc (λ m. m.least) (λ z. refl) zs i;
+    greatest = bests int_max max_assoc (λ m. m.greatest) (λ z. refl) zs i;
+  }

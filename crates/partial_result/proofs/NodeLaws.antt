@@ -131,7 +131,7 @@ module _ (ws : List (List Node → Node)) (tests : List (Node → Bool)) (each :
       let p = parts_of m (Node-F.Keyed bs e f c) is in
       let q = parts_of n (Node-F.Keyed cs e' f' c') is' in
       let whole_is : keyed (m ∷ n ∷ []) ≡ Keyed (keyed_table (bs ++ cs)) (0 + e + e') (0 + f + f') (0 + c + c') =
-          λ i. Keyed (keyed_table ((p i).buckets ++ append-nil (q i).buckets i)) (0 + (p i).error + (q i).error) (0 + (p i).full + (q i).full) (0 + (p i).cut + (q i).cut) in
+      λ i. Keyed (keyed_table ((p i).buckets ++ append-nil (q i).buckets i)) (0 + (p i).error + (q i).error) (0 + (p i).full + (q i).full) (0 + (p i).cut + (q i).cut) in
       let up = and_first _ _ pass in
       let up' = and_first _ _ pass' in
       let errors = fits_u64 (0 + e + e') in
@@ -139,13 +139,13 @@ module _ (ws : List (List Node → Node)) (tests : List (Node → Bool)) (each :
       let cuts = fits_u64 (0 + c + c') in
       let below = list_all (λ fits. fits) (map bucket_passes (keyed_table (bs ++ cs))) in
       let level : (((errors && fulls) && cuts) && below) ≡ true =
-          sym (fold_node-Keyed node_fits_at bucket_fits (keyed_table (bs ++ cs)) (0 + e + e') (0 + f + f') (0 + c + c')) ∙ ap node_fits (sym whole_is) ∙ fits in
+      sym (fold_node-Keyed node_fits_at bucket_fits (keyed_table (bs ++ cs)) (0 + e + e') (0 + f + f') (0 + c + c')) ∙ ap node_fits (sym whole_is) ∙ fits in
       let numbers : ((errors && fulls) && cuts) ≡ true = and_first ((errors && fulls) && cuts) below level in
       let firsts : (errors && fulls) ≡ true = and_first (errors && fulls) cuts numbers in
       let buckets = table-two ws tests each (distinct_keys (map bucket_key (bs ++ cs))) bs cs (ascending-distinct (map bucket_key (bs ++ cs)))
-            (λ key. has_key-distinct key (map bucket_key (bs ++ cs)) ∙ ap (has_key key) (map-append bs cs) ∙ has_key-append key (map bucket_key bs) (map bucket_key cs))
-            (sorted-entries bs ∙ up) (sorted-entries cs ∙ up') (and_second _ _ pass) (and_second _ _ pass')
-            (sym (all-map (keyed_table (bs ++ cs))) ∙ and_second ((errors && fulls) && cuts) below level) in
+      (λ key. has_key-distinct key (map bucket_key (bs ++ cs)) ∙ ap (has_key key) (map-append bs cs) ∙ has_key-append key (map bucket_key bs) (map bucket_key cs))
+      (sorted-entries bs ∙ up) (sorted-entries cs ∙ up') (and_second _ _ pass) (and_second _ _ pass')
+      (sym (all-map (keyed_table (bs ++ cs))) ∙ and_second ((errors && fulls) && cuts) below level) in
       (λ i. merged ((node_of n (Node-F.Keyed cs e' f' c') is' ∙ rolls-Keyed cs e' f' c') i) ((node_of m (Node-F.Keyed bs e f c) is ∙ rolls-Keyed bs e f c) i))
       ∙ merged-Keyed cs bs e' f' c' e f c
       ∙ (λ i. Keyed (buckets i) (sum_u64-fitting e e' (and_first errors fulls firsts) i) (sum_u32-fitting f f' (and_second errors fulls firsts) i) (sum_u64-fitting c c' (and_second (errors && fulls) cuts numbers) i))
@@ -164,7 +164,7 @@ module _ (ws : List (List Node → Node)) (tests : List (Node → Bool)) (each :
     where
       has_of : (q : Key) (xs ys : List Bucket) → has_key q (map bucket_key (xs ++ ys)) ≡ (has_key q (map bucket_key xs) || has_key q (map bucket_key ys))
       has_of q [] ys = refl
-      has_of q (x ∷ xs) ys = elim (key_eq q x.key) as (λ b. (b || has_key q (map bucket_key (xs ++ ys))) ≡ ((b || has_key q (map bucket_key xs)) || has_key q (map bucket_key ys))) [ | true ↦ refl | false ↦ has_of q xs ys ]
+      has_of q (x ∷ xs) ys = elim (key_eq q x.key) as (λ b. (b || has_key q (map bucket_key (xs ++ ys))) ≡ ((b || has_key q (map bucket_key xs)) || has_key q (map bucket_key ys))) [ true ↦ refl | false ↦ has_of q xs ys ]
 
   table-flip : (xs ys : List Bucket) → keyed_table (xs ++ ys) ≡ keyed_table (ys ++ xs)
   table-flip xs ys = ap (λ ks. table ws tests each ks (xs ++ ys)) (keys-flip xs ys) ∙ map_same _ _ (distinct_keys (map bucket_key (ys ++ xs))) (λ q there. bucket-flip ws tests each q xs ys)
@@ -187,12 +187,12 @@ module _ (ws : List (List Node → Node)) (tests : List (Node → Bool)) (each :
   keyed-tables xss =
       ap (λ ks. table ws tests each ks (flat_map (λ xs. keyed_table (buckets_in xs)) xss)) (same_distinct _ _ (λ q. has_all q xss))
       ∙ map_same _ _ (distinct_keys (map bucket_key (flat_map (λ xs. buckets_in xs) xss))) (λ q there.
-          bucket-union ws tests each (λ (xs : List Node). buckets_in xs) (λ xs. distinct_keys (map bucket_key (buckets_in xs))) (λ xs. ascending-distinct (map bucket_key (buckets_in xs))) q
-            (λ xs none. no_bucket q (buckets_in xs) (sym (has_key-distinct q (map bucket_key (buckets_in xs))) ∙ none)) xss)
+      bucket-union ws tests each (λ (xs : List Node). buckets_in xs) (λ xs. distinct_keys (map bucket_key (buckets_in xs))) (λ xs. ascending-distinct (map bucket_key (buckets_in xs))) q
+      (λ xs none. no_bucket q (buckets_in xs) (sym (has_key-distinct q (map bucket_key (buckets_in xs))) ∙ none)) xss)
     where
       has_of : (q : Key) (xs ys : List Bucket) → has_key q (map bucket_key (xs ++ ys)) ≡ (has_key q (map bucket_key xs) || has_key q (map bucket_key ys))
       has_of q [] ys = refl
-      has_of q (x ∷ xs) ys = elim (key_eq q x.key) as (λ b. (b || has_key q (map bucket_key (xs ++ ys))) ≡ ((b || has_key q (map bucket_key xs)) || has_key q (map bucket_key ys))) [ | true ↦ refl | false ↦ has_of q xs ys ]
+      has_of q (x ∷ xs) ys = elim (key_eq q x.key) as (λ b. (b || has_key q (map bucket_key (xs ++ ys))) ≡ ((b || has_key q (map bucket_key xs)) || has_key q (map bucket_key ys))) [ true ↦ refl | false ↦ has_of q xs ys ]
 
       has_all : (q : Key) (xss : List (List Node)) → has_key q (map bucket_key (flat_map (λ xs. keyed_table (buckets_in xs)) xss)) ≡ has_key q (map bucket_key (flat_map (λ xs. buckets_in xs) xss))
       has_all q [] = refl
@@ -204,16 +204,16 @@ module _ (ws : List (List Node → Node)) (tests : List (Node → Bool)) (each :
   keyed-union : (xss : List (List Node)) → keyed (map keyed xss) ≡ keyed (flat_map (λ xs. xs) xss)
   keyed-union xss = λ i. Keyed
       ((ap keyed_table (parts-flat (λ t. (parts t).buckets) keyed (λ xs. keyed_table (buckets_in xs)) (λ xs. ap (λ (p : Parts). p.buckets) (keyed-parts xs)) xss)
-        ∙ keyed-tables xss ∙ ap keyed_table (flat-flat (λ t. (parts t).buckets) xss)) i)
+      ∙ keyed-tables xss ∙ ap keyed_table (flat-flat (λ t. (parts t).buckets) xss)) i)
       (sum-flat error_of keyed (λ xs. ap (λ (p : Parts). p.error) (keyed-parts xs)) xss i)
       (sum-flat full_of keyed (λ xs. ap (λ (p : Parts). p.full) (keyed-parts xs)) xss i)
       (sum-flat cut_of keyed (λ xs. ap (λ (p : Parts). p.cut) (keyed-parts xs)) xss i)
 
   pub keyed_is : IsWhole keyed keyed_test
   keyed_is = record {
-      tree = keyed-tree;
-      one = λ n pass. keyed-one n (out-Node n) refl pass;
-      two = λ m n pass pass' fits. keyed-two m n (out-Node m) (out-Node n) refl refl pass pass' fits;
-      union = keyed-union;
-      flips = keyed-flips;
-    }
+    tree = keyed-tree;
+    one = λ n pass. keyed-one n (out-Node n) refl pass;
+    two = λ m n pass pass' fits. keyed-two m n (out-Node m) (out-Node n) refl refl pass pass' fits;
+    union = keyed-union;
+    flips = keyed-flips;
+  }

@@ -41,7 +41,7 @@ module _ (ws : List (List Node → Node)) (tests : List (Node → Bool)) (each :
   fixed-tree xs =
       ap (is_tree_at tests (fixed_keys k) from_start) (outs-Fixed (fixed_table (buckets_in xs)))
       ∙ and_both _ _ (ap (λ ks. are_same_keys ks (fixed_keys k)) (keys-table ws tests each (fixed_keys k) (buckets_in xs)) ∙ ap is_eq (slice_cmp-itself (fixed_keys k)))
-          (table-pass ws tests each (fixed_keys k) (buckets_in xs))
+      (table-pass ws tests each (fixed_keys k) (buckets_in xs))
 
   keys_are : (bs : List Bucket) → are_same_keys (map bucket_key bs) (fixed_keys k) ≡ true → map bucket_key bs ≡ fixed_keys k
   keys_are bs h = slice_cmp-IsAntisymmetric exact_keys (map bucket_key bs) (fixed_keys k) (equal_is _ h)
@@ -67,14 +67,14 @@ module _ (ws : List (List Node → Node)) (tests : List (Node → Bool)) (each :
       let q = parts_of n (Node-F.Fixed cs) is' in
       let whole_is : fixed (m ∷ n ∷ []) ≡ Fixed (fixed_table (bs ++ cs)) = λ i. Fixed (fixed_table ((p i).buckets ++ append-nil (q i).buckets i)) in
       let level : list_all (λ fits. fits) (map bucket_passes (fixed_table (bs ++ cs))) ≡ true =
-          sym (fold_node-Fixed node_fits_at bucket_fits (fixed_table (bs ++ cs))) ∙ ap node_fits (sym whole_is) ∙ fits in
+      sym (fold_node-Fixed node_fits_at bucket_fits (fixed_table (bs ++ cs))) ∙ ap node_fits (sym whole_is) ∙ fits in
       let keys = and_first (are_same_keys (map bucket_key bs) (fixed_keys k)) (have_children tests bs) pass in
       let kids = and_second (are_same_keys (map bucket_key bs) (fixed_keys k)) (have_children tests bs) pass in
       let keys' = and_first (are_same_keys (map bucket_key cs) (fixed_keys k)) (have_children tests cs) pass' in
       let kids' = and_second (are_same_keys (map bucket_key cs) (fixed_keys k)) (have_children tests cs) pass' in
       let buckets = table-two ws tests each (fixed_keys k) bs cs (ascending-fixed k)
-            (λ key. or_itself (has_key key (fixed_keys k)) ∙ (λ i. has_key key (sym (keys_are bs keys) i) || has_key key (sym (keys_are cs keys') i)))
-            (sorted-entries bs ∙ rising bs keys) (sorted-entries cs ∙ rising cs keys') kids kids' (sym (all-map (fixed_table (bs ++ cs))) ∙ level) in
+      (λ key. or_itself (has_key key (fixed_keys k)) ∙ (λ i. has_key key (sym (keys_are bs keys) i) || has_key key (sym (keys_are cs keys') i)))
+      (sorted-entries bs ∙ rising bs keys) (sorted-entries cs ∙ rising cs keys') kids kids' (sym (all-map (fixed_table (bs ++ cs))) ∙ level) in
       (λ i. merged ((node_of n (Node-F.Fixed cs) is' ∙ rolls-Fixed cs) i) ((node_of m (Node-F.Fixed bs) is ∙ rolls-Fixed bs) i))
       ∙ merged-Fixed cs bs ∙ ap Fixed buckets ∙ sym whole_is
   fixed-two m n (Node-F.Fixed bs) (Node-F.Keyed cs e f c) is is' pass pass' fits = false_true pass'
@@ -85,8 +85,8 @@ module _ (ws : List (List Node → Node)) (tests : List (Node → Bool)) (each :
   fixed-flips : (xs ys : List Node) → fixed (xs ++ ys) ≡ fixed (ys ++ xs)
   fixed-flips xs ys = ap Fixed
       (ap fixed_table (flat_map-append (λ t. (parts t).buckets) xs ys)
-        ∙ map_same _ _ (fixed_keys k) (λ q there. bucket-flip ws tests each q (buckets_in xs) (buckets_in ys))
-        ∙ ap fixed_table (sym (flat_map-append (λ t. (parts t).buckets) ys xs)))
+      ∙ map_same _ _ (fixed_keys k) (λ q there. bucket-flip ws tests each q (buckets_in xs) (buckets_in ys))
+      ∙ ap fixed_table (sym (flat_map-append (λ t. (parts t).buckets) ys xs)))
 
   -- a key that is there is not absent
   not_absent : {A : Type 0} (b : Bool) → b ≡ true → b ≡ false → A
@@ -95,18 +95,18 @@ module _ (ws : List (List Node → Node)) (tests : List (Node → Bool)) (each :
   fixed-union : (xss : List (List Node)) → fixed (map fixed xss) ≡ fixed (flat_map (λ xs. xs) xss)
   fixed-union xss = ap Fixed
       (ap fixed_table (parts-flat (λ t. (parts t).buckets) fixed (λ xs. fixed_table (buckets_in xs)) (λ xs. ap (λ d. (parts_at d).buckets) (outs-Fixed (fixed_table (buckets_in xs)))) xss)
-        ∙ map_same _ _ (fixed_keys k) (λ q there.
-            bucket-union ws tests each (λ (xs : List Node). buckets_in xs) (λ xs. fixed_keys k) (λ xs. ascending-fixed k) q (λ xs none. not_absent (has_key q (fixed_keys k)) there none) xss)
-        ∙ ap fixed_table (flat-flat (λ t. (parts t).buckets) xss))
+      ∙ map_same _ _ (fixed_keys k) (λ q there.
+      bucket-union ws tests each (λ (xs : List Node). buckets_in xs) (λ xs. fixed_keys k) (λ xs. ascending-fixed k) q (λ xs none. not_absent (has_key q (fixed_keys k)) there none) xss)
+      ∙ ap fixed_table (flat-flat (λ t. (parts t).buckets) xss))
 
   pub fixed_is : IsWhole fixed (λ n. is_tree_at tests (fixed_keys k) from_start (out-Node n))
   fixed_is = record {
-      tree = fixed-tree;
-      one = λ n pass. fixed-one n (out-Node n) refl pass;
-      two = λ m n pass pass' fits. fixed-two m n (out-Node m) (out-Node n) refl refl pass pass' fits;
-      union = fixed-union;
-      flips = fixed-flips;
-    }
+    tree = fixed-tree;
+    one = λ n pass. fixed-one n (out-Node n) refl pass;
+    two = λ m n pass pass' fits. fixed-two m n (out-Node m) (out-Node n) refl refl pass pass' fits;
+    union = fixed-union;
+    flips = fixed-flips;
+  }
 
   abbrev number : List Node → Node
   number = whole_by ws k a_number
@@ -140,18 +140,18 @@ module _ (ws : List (List Node → Node)) (tests : List (Node → Bool)) (each :
   number-union : (xss : List (List Node)) → number (map number xss) ≡ number (flat_map (λ xs. xs) xss)
   number-union xss = ap Number
       (ap metric_sum (parts-flat (λ t. (parts t).metrics) number (λ xs. metric_sum (metrics_in xs) ∷ []) (λ xs. ap (λ d. (parts_at d).metrics) (outs-Number (metric_sum (metrics_in xs)))) xss
-          ∙ flat_map_single (λ xs. metric_sum (metrics_in xs)) xss)
-        ∙ metric_sum-union (λ xs. metrics_in xs) xss
-        ∙ ap metric_sum (flat-flat (λ t. (parts t).metrics) xss))
+      ∙ flat_map_single (λ xs. metric_sum (metrics_in xs)) xss)
+      ∙ metric_sum-union (λ xs. metrics_in xs) xss
+      ∙ ap metric_sum (flat-flat (λ t. (parts t).metrics) xss))
 
   pub number_is : IsWhole number (λ n. is_tree_at tests (fixed_keys k) a_number (out-Node n))
   number_is = record {
-      tree = λ xs. ap (is_tree_at tests (fixed_keys k) a_number) (outs-Number (metric_sum (metrics_in xs)));
-      one = λ n pass. number-one n (out-Node n) refl pass;
-      two = λ m n pass pass' fits. number-two m n (out-Node m) (out-Node n) refl refl pass pass' fits;
-      union = number-union;
-      flips = λ xs ys. ap Number (ap metric_sum (flat_map-append (λ t. (parts t).metrics) xs ys) ∙ metric_sum-flip (metrics_in xs) (metrics_in ys) ∙ ap metric_sum (sym (flat_map-append (λ t. (parts t).metrics) ys xs)));
-    }
+    tree = λ xs. ap (is_tree_at tests (fixed_keys k) a_number) (outs-Number (metric_sum (metrics_in xs)));
+    one = λ n pass. number-one n (out-Node n) refl pass;
+    two = λ m n pass pass' fits. number-two m n (out-Node m) (out-Node n) refl refl pass pass' fits;
+    union = number-union;
+    flips = λ xs ys. ap Number (ap metric_sum (flat_map-append (λ t. (parts t).metrics) xs ys) ∙ metric_sum-flip (metrics_in xs) (metrics_in ys) ∙ ap metric_sum (sym (flat_map-append (λ t. (parts t).metrics) ys xs)));
+  }
 
   -- at each shape
   pub shape_is : (s : Shape) → IsWhole (whole_by ws k s) (λ n. is_tree_at tests (fixed_keys k) s (out-Node n))

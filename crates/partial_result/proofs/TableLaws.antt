@@ -63,7 +63,7 @@ module _ (ws : List (List Node → Node)) (tests : List (Node → Bool)) (each :
       let counts : (count && covered) ≡ true = and_first (count && covered) kept fits in
       let kids = wholes_are children_of ws (b ∷ c ∷ []) in
       let below : list_all node_fits (columns children_of ws (b ∷ c ∷ [])) ≡ true =
-          ap (list_all node_fits) (sym kids) ∙ sym (all-map (wholes children_of ws (b ∷ c ∷ []))) ∙ and_second (count && covered) kept fits in
+      ap (list_all node_fits) (sym kids) ∙ sym (all-map (wholes children_of ws (b ∷ c ∷ []))) ∙ and_second (count && covered) kept fits in
       merged_bucket_level c b ∙ (λ i. record {
         key = sym is i;
         count = (two_sum b.count c.count (and_first count covered counts)) i;
@@ -87,28 +87,28 @@ module _ (ws : List (List Node → Node)) (tests : List (Node → Bool)) (each :
       → united (others cs) bs ≡ table ws tests each ks (bs ++ cs)
   table-two ks bs cs rising keys up up' pass pass' fits =
       same_found _ _ (rising-united cs bs up' up) (sorted-entries (table ws tests each ks (bs ++ cs)) ∙ ap is_ascending (keys-table ws tests each ks (bs ++ cs)) ∙ rising) (λ q.
-        let there : has_key q ks ≡ (is_some (found q bs) || is_some (found q cs)) = keys q ∙ (λ i. sym (is_some-found q bs) i || sym (is_some-found q cs) i) in
-        let parts : same q (bs ++ cs) ≡ option_to_list (found q bs) ++ option_to_list (found q cs) =
-            filter-append (λ (b : Bucket). key_eq q b.key) bs cs ∙ (λ i. same-found q bs up i ++ same-found q cs up' i) in
-        let fit : (is_some (found q bs) || is_some (found q cs)) ≡ true → bucket_passes (made ws tests each q (option_to_list (found q bs) ++ option_to_list (found q cs))) ≡ true = λ has.
-            ap (λ xs. bucket_passes (made ws tests each q xs)) (sym parts)
-            ∙ found-pass bucket_passes q (table ws tests each ks (bs ++ cs)) (whole_bucket ws (bs ++ cs) q) fits
-                (found-table q ks (bs ++ cs) ∙ ap (λ r. cond r (Some (whole_bucket ws (bs ++ cs) q)) None) (there ∙ has)) in
-        found-united q cs bs up' up
-        ∙ together q (found q bs) (found q cs)
-            (record { key = found-key q bs; pass = λ b. found-pass (λ x. pass_each tests x.children) q bs b pass })
-            (record { key = found-key q cs; pass = λ c. found-pass (λ x. pass_each tests x.children) q cs c pass' }) fit
-        ∙ (λ i. cond (sym there i) (Some (made ws tests each q (sym parts i))) None)
-        ∙ sym (found-table q ks (bs ++ cs)))
+      let there : has_key q ks ≡ (is_some (found q bs) || is_some (found q cs)) = keys q ∙ (λ i. sym (is_some-found q bs) i || sym (is_some-found q cs) i) in
+      let parts : same q (bs ++ cs) ≡ option_to_list (found q bs) ++ option_to_list (found q cs) =
+      filter-append (λ (b : Bucket). key_eq q b.key) bs cs ∙ (λ i. same-found q bs up i ++ same-found q cs up' i) in
+      let fit : (is_some (found q bs) || is_some (found q cs)) ≡ true → bucket_passes (made ws tests each q (option_to_list (found q bs) ++ option_to_list (found q cs))) ≡ true = λ has.
+      ap (λ xs. bucket_passes (made ws tests each q xs)) (sym parts)
+      ∙ found-pass bucket_passes q (table ws tests each ks (bs ++ cs)) (whole_bucket ws (bs ++ cs) q) fits
+      (found-table q ks (bs ++ cs) ∙ ap (λ r. cond r (Some (whole_bucket ws (bs ++ cs) q)) None) (there ∙ has)) in
+      found-united q cs bs up' up
+      ∙ together q (found q bs) (found q cs)
+      (record { key = found-key q bs; pass = λ b. found-pass (λ x. pass_each tests x.children) q bs b pass })
+      (record { key = found-key q cs; pass = λ c. found-pass (λ x. pass_each tests x.children) q cs c pass' }) fit
+      ∙ (λ i. cond (sym there i) (Some (made ws tests each q (sym parts i))) None)
+      ∙ sym (found-table q ks (bs ++ cs)))
 
   -- the order of two lists does not matter
   made-flip : (q : Key) (us vs : List Bucket) → made ws tests each q (us ++ vs) ≡ made ws tests each q (vs ++ us)
   made-flip q us vs = λ i. record {
-      key = q;
-      count = flip_sum bucket_count us vs i;
-      covered = flip_sum covered_of us vs i;
-      children = (wholes_are children_of ws (us ++ vs) ∙ columns-flip children_of ws tests us vs each ∙ sym (wholes_are children_of ws (vs ++ us))) i;
-    }
+    key = q;
+    count = flip_sum bucket_count us vs i;
+    covered = flip_sum covered_of us vs i;
+    children = (wholes_are children_of ws (us ++ vs) ∙ columns-flip children_of ws tests us vs each ∙ sym (wholes_are children_of ws (vs ++ us))) i;
+  }
     where
       flip_sum : (f : Bucket → ℕ) (us vs : List Bucket) → sum_by f (us ++ vs) ≡ sum_by f (vs ++ us)
       flip_sum f us vs = sum_by-append f us vs ∙ add_comm (sum_by f us) (sum_by f vs) ∙ sym (sum_by-append f vs us)
@@ -130,7 +130,7 @@ module _ (ws : List (List Node → Node)) (tests : List (Node → Bool)) (each :
     same-tables (z ∷ zs) =
         filter-append (λ (b : Bucket). key_eq q b.key) (table ws tests each (keys z) (part z)) (flat_map (λ z. table ws tests each (keys z) (part z)) zs)
         ∙ (λ i. one_same (whole_bucket ws (part z)) (λ k. refl) q (keys z) (rising z) i ++ same-tables zs i)
-        ∙ elim (has_key q (keys z)) as (λ r. cond r (of_part z ∷ []) [] ++ map of_part (present zs) ≡ map of_part (cond r (z ∷ present zs) (present zs))) [ | true ↦ refl | false ↦ refl ]
+        ∙ elim (has_key q (keys z)) as (λ r. cond r (of_part z ∷ []) [] ++ map of_part (present zs) ≡ map of_part (cond r (z ∷ present zs) (present zs))) [ true ↦ refl | false ↦ refl ]
 
     same-parts : (zs : List Z) → flat_map (λ z. same q (part z)) (present zs) ≡ same q (flat_map part zs)
     same-parts [] = refl
@@ -156,9 +156,9 @@ module _ (ws : List (List Node → Node)) (tests : List (Node → Bool)) (each :
     bucket-union zs =
         ap (made ws tests each q) (same-tables zs)
         ∙ (λ i. record {
-            key = q;
-            count = sum-parts bucket_count (λ z. refl) (present zs) i;
-            covered = sum-parts covered_of (λ z. refl) (present zs) i;
-            children = children-parts (present zs) i;
-          })
+          key = q;
+          count = sum-parts bucket_count (λ z. refl) (present zs) i;
+          covered = sum-parts covered_of (λ z. refl) (present zs) i;
+          children = children-parts (present zs) i;
+        })
         ∙ ap (made ws tests each q) (same-parts zs)

@@ -35,7 +35,7 @@ pub map_same : (f g : Key → Bucket) (ks : List Key) → ((q : Key) → has_key
 map_same f g [] h = refl
 map_same f g (k ∷ ks) h = λ i.
     h k (ap (λ r. is_eq r || has_key k ks) (tied_itself key_cmp_total k)) i
-    ∷ map_same f g ks (λ q there. h q (elim (key_eq q k) as (λ b. (b || has_key q ks) ≡ true) [ | true ↦ refl | false ↦ there ])) i
+    ∷ map_same f g ks (λ q there. h q (elim (key_eq q k) as (λ b. (b || has_key q ks) ≡ true) [ true ↦ refl | false ↦ there ])) i
 
 map-keys : (f : Key → Bucket) → ((k : Key) → (f k).key ≡ k) → (ks : List Key) → map bucket_key (map f ks) ≡ ks
 map-keys f keyed [] = refl
@@ -59,11 +59,11 @@ module _ (ws : List (List Node → Node)) (tests : List (Node → Bool)) (each :
   -- a bucket alone
   pub made-one : (b : Bucket) → pass_each tests b.children ≡ true → made b.key (b ∷ []) ≡ b
   made-one b pass = λ i. record {
-      key = b.key;
-      count = zero-add b.count i;
-      covered = zero-add b.covered i;
-      children = (wholes_are children_of ws (b ∷ []) ∙ columns-one children_of ws tests b b.children each refl pass) i;
-    }
+    key = b.key;
+    count = zero-add b.count i;
+    covered = zero-add b.covered i;
+    children = (wholes_are children_of ws (b ∷ []) ∙ columns-one children_of ws tests b b.children each refl pass) i;
+  }
 
   -- the table of a list that ascends is the list
   pub table-one : (bs : List Bucket) → is_ascending (map bucket_key bs) ≡ true → have_children tests bs ≡ true → table (map bucket_key bs) bs ≡ bs
@@ -73,9 +73,9 @@ module _ (ws : List (List Node → Node)) (tests : List (Node → Bool)) (each :
       let none : same b.key bs ≡ [] = absent_same b.key bs (absent_below b.key (map bucket_key bs) below) in
       let first : same b.key (b ∷ bs) ≡ b ∷ [] = ap (λ r. cond (is_eq r) (b ∷ same b.key bs) (same b.key bs)) (tied_itself key_cmp_total b.key) ∙ ap (λ xs. b ∷ xs) none in
       λ i. (ap (made b.key) first ∙ made-one b (and_first _ _ pass)) i
-        ∷ (map_same (whole_bucket ws (b ∷ bs)) (whole_bucket ws bs) (map bucket_key bs) (λ q there.
-            ap (made q) (ap (λ r. cond r (b ∷ same q bs) (same q bs)) (other q there)))
-          ∙ table-one bs (and_second _ _ rising) (and_second _ _ pass)) i
+      ∷ (map_same (whole_bucket ws (b ∷ bs)) (whole_bucket ws bs) (map bucket_key bs) (λ q there.
+      ap (made q) (ap (λ r. cond r (b ∷ same q bs) (same q bs)) (other q there)))
+      ∙ table-one bs (and_second _ _ rising) (and_second _ _ pass)) i
     where
       absent_same : (q : Key) (bs : List Bucket) → has_key q (map bucket_key bs) ≡ false → same q bs ≡ []
       absent_same q [] h = refl

@@ -52,9 +52,9 @@ whole-result search ps = ap (pass_each (map is_tree_of search.aggs)) (whole-node
 
 pub whole-one : (search : Search) (p : Partial) → is_result_of search p ≡ true → whole search (p ∷ []) ≡ p
 whole-one search p pass = λ i. record {
-    hits = zero_add p.hits i;
-    nodes = (whole-nodes search (p ∷ []) ∙ columns-one nodes_of (map whole_node search.aggs) (map is_tree_of search.aggs) p p.nodes (each_agg search.aggs) refl pass) i;
-  }
+  hits = zero_add p.hits i;
+  nodes = (whole-nodes search (p ∷ []) ∙ columns-one nodes_of (map whole_node search.aggs) (map is_tree_of search.aggs) p p.nodes (each_agg search.aggs) refl pass) i;
+}
   where
     zero_add : (n : ℕ) → 0 + n ≡ n
     zero_add n = omega arith
@@ -74,12 +74,12 @@ whole-two search p q pass pass' fits =
 
 pub whole-union : (search : Search) (pss : List (List Partial)) → whole search (map (whole search) pss) ≡ whole search (flat_map (λ ps. ps) pss)
 whole-union search pss = λ i. record {
-    hits = hits_union pss i;
-    nodes = (whole-nodes search (map (whole search) pss) ∙ columns-map nodes_of (whole search) (map whole_node search.aggs) pss
+  hits = hits_union pss i;
+  nodes = (whole-nodes search (map (whole search) pss) ∙ columns-map nodes_of (whole search) (map whole_node search.aggs) pss
       ∙ (λ j. columns (λ ps. whole-nodes search ps j) (map whole_node search.aggs) pss)
       ∙ columns-union nodes_of (map whole_node search.aggs) (map is_tree_of search.aggs) (λ ps. ps) pss (each_agg search.aggs)
       ∙ sym (whole-nodes search (flat_map (λ ps. ps) pss))) i;
-  }
+}
   where
     hits_union : (pss : List (List Partial)) → sum_by hits_of (map (whole search) pss) ≡ sum_by hits_of (flat_map (λ ps. ps) pss)
     hits_union [] = refl
@@ -88,9 +88,9 @@ whole-union search pss = λ i. record {
 
 pub whole-flips : (search : Search) (ps qs : List Partial) → whole search (ps ++ qs) ≡ whole search (qs ++ ps)
 whole-flips search ps qs = λ i. record {
-    hits = (sum_by-append hits_of ps qs ∙ add_comm (sum_by hits_of ps) (sum_by hits_of qs) ∙ sym (sum_by-append hits_of qs ps)) i;
-    nodes = (whole-nodes search (ps ++ qs) ∙ columns-flip nodes_of (map whole_node search.aggs) (map is_tree_of search.aggs) ps qs (each_agg search.aggs) ∙ sym (whole-nodes search (qs ++ ps))) i;
-  }
+  hits = (sum_by-append hits_of ps qs ∙ add_comm (sum_by hits_of ps) (sum_by hits_of qs) ∙ sym (sum_by-append hits_of qs ps)) i;
+  nodes = (whole-nodes search (ps ++ qs) ∙ columns-flip nodes_of (map whole_node search.aggs) (map is_tree_of search.aggs) ps qs (each_agg search.aggs) ∙ sym (whole-nodes search (qs ++ ps))) i;
+}
 
 -- what joins parts and does not mind the order of two does not mind any order
 module _ {X : Type 0} (w : List X → X) (union : (xss : List (List X)) → w (map w xss) ≡ w (flat_map (λ xs. xs) xss)) (flips : (xs ys : List X) → w (xs ++ ys) ≡ w (ys ++ xs)) where

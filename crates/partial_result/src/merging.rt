@@ -1,7 +1,10 @@
 //! The union of two partial results (Elasticsearch Reference 8, 'Aggregations': the reduce phase).
-ghost use Rattle.std.specs.Prelude.{◌≡◌, IfOk, map};
+ghost use Rattle.std.specs.Prelude.{◌≡◌, IfOk, IsTrue, map, [], ◌∷◌};
 ghost use Rattle.std.specs.Int.{int_min, int_max};
-ghost use Rattle.partial_result.specs.Merged.{merged, merged_bucket, merged_metric, merged_nodes, merged_partial, either_or, other_bucket, united, IsPassed};
+ghost use Rattle.agg_model.specs.declared.aggregation.Search.{Search as AnySearch};
+ghost use Rattle.agg_evaluation.specs.Whole.{whole};
+ghost use Rattle.agg_evaluation.specs.Trees.{is_result_of, numbers_fit};
+ghost use Rattle.partial_result.specs.Merged.{merged, merged_bucket, merged_metric, merged_nodes, either_or, other_bucket, united, IsPassed};
 
 use agg_model::key::Key;
 use agg_model::list::List;
@@ -10,9 +13,13 @@ use std::alloc::{AllocError, Global};
 use std::cmp::Ordering;
 use std::collections::VecDeque;
 
-/// The union of two partial results of one search.
+/// The union of two partial results of one search: keys are united, counts, errors, cuts and metrics added, the least
+/// and the greatest taken. It takes time in proportion to the buckets of both. Nothing is promised of results of two
+/// searches, and sums that do not fit their types stay at the greatest value. After want of memory both are spent.
 pub fn merge(alloc: Global, into: Partial, other: Partial) -> Result<Partial, AllocError>
-    ensures { IfOk result (λ p. p ≡ merged_partial other into) }
+    ensures whole { IfOk result (λ p. (search : AnySearch) →
+        IsTrue (is_result_of search into) → IsTrue (is_result_of search other) →
+        IsTrue (numbers_fit (whole search (into ∷ other ∷ []))) → p ≡ whole search (into ∷ other ∷ [])) }
 {
     Ok(Partial {
         hits: into.hits.saturating_add(other.hits),

@@ -9,7 +9,7 @@ returns-in-Less c = λ o next same.
     let bs = c.loop-first.rest.items in
     c.loop-first.invariant o next same
     ∙ ap (λ xs. c.loop-first.merged.items ++ xs)
-        (put_in-Less c.args.key.now c.in-Some.first.now o next same bs c.in-Some.ensures.item.3.0 c.in-Some.ensures.lookup (sym (derived_is _ _) ∙ sym c.cmp.ensures ∙ c.in-Less.is))
+    (put_in-Less c.args.key.now c.in-Some.first.now o next same bs c.in-Some.ensures.item.3.0 c.in-Some.ensures.lookup (sym (derived_is _ _) ∙ sym c.cmp.ensures ∙ c.in-Less.is))
 
 pub returns-in-Equal : goal.returns-in-Equal
 returns-in-Equal c = λ o next same.
@@ -17,8 +17,8 @@ returns-in-Equal c = λ o next same.
     let b = c.in-Some.first.now in
     c.loop-first.invariant o next same
     ∙ ap (λ xs. c.loop-first.merged.items ++ xs)
-        (put_in-Equal c.args.key.now b o next same bs c.in-Some.ensures.item.3.0 c.in-Some.ensures.lookup (sym (derived_is _ _) ∙ sym c.cmp.ensures ∙ c.in-Equal.is)
-          ∙ (λ i. joined (sym (c.pop_front.ensures.value b (search rules)) i) o ∷ next (sym c.pop_front.ensures.rest i)))
+    (put_in-Equal c.args.key.now b o next same bs c.in-Some.ensures.item.3.0 c.in-Some.ensures.lookup (sym (derived_is _ _) ∙ sym c.cmp.ensures ∙ c.in-Equal.is)
+    ∙ (λ i. joined (sym (c.pop_front.ensures.value b (search rules)) i) o ∷ next (sym c.pop_front.ensures.rest i)))
 
 pub loop-first-preserved : goal.loop-first-preserved
 loop-first-preserved c = λ o next same.
