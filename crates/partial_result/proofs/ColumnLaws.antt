@@ -6,15 +6,13 @@ use Rattle.agg_model.specs.declared.partial.Node.{Node}
 use Rattle.agg_evaluation.specs.Trees.{pass_each, node_fits}
 use Rattle.partial_result.specs.Merged.{merged, merged_children, other_node}
 use Rattle.partial_result.proofs.KeyLists.{and_first, and_second, and_both}
-use Rattle.partial_result.proofs.Columns.{tail, heads, columns, heads-append, heads-flat_map}
+use Rattle.partial_result.proofs.Columns.{tail, heads, columns}
 
 -- what the whole of an aggregation keeps, whose trees pass the test
 pub record IsWhole (w : List Node → Node) (test : Node → Bool) : Type 0 where
   pub tree : (xs : List Node) → test (w xs) ≡ true
   pub one : (n : Node) → test n ≡ true → w (n ∷ []) ≡ n
   pub two : (m n : Node) → test m ≡ true → test n ≡ true → node_fits (w (m ∷ n ∷ [])) ≡ true → merged n m ≡ w (m ∷ n ∷ [])
-  pub union : (xss : List (List Node)) → w (map w xss) ≡ w (flat_map (λ xs. xs) xss)
-  pub flips : (xs ys : List Node) → w (xs ++ ys) ≡ w (ys ++ xs)
 
 -- as many wholes as tests, each of its own
 abbrev pub EachWhole : List (List Node → Node) → List (Node → Bool) → Type 0
@@ -24,21 +22,6 @@ EachWhole _ _ = ⊥
 
 pub false_true : {A : Type 0} → false ≡ true → A
 false_true h = absurd (subst T (sym h) tt)
-
-flat_map-map : {Z : Type 0} (f : Z → List Node) (zs : List Z) → flat_map (λ xs. xs) (map f zs) ≡ flat_map f zs
-flat_map-map f [] = refl
-flat_map-map f (z ∷ zs) = ap (λ ns. f z ++ ns) (flat_map-map f zs)
-
-pub union_of : (w : List Node → Node) (test : Node → Bool) → IsWhole w test → {Z : Type 0} (f : Z → List Node) (zs : List Z) → w (map (λ z. w (f z)) zs) ≡ w (flat_map f zs)
-union_of w test is f zs = ap w (sym (maps zs)) ∙ is.union (map f zs) ∙ ap w (flat_map-map f zs)
-  where
-    maps : (zs : List _) → map w (map f zs) ≡ map (λ z. w (f z)) zs
-    maps [] = refl
-    maps (z ∷ zs) = ap (λ ns. w (f z) ∷ ns) (maps zs)
-
-heads-first : {Z : Type 0} (first : Z → Node) (rest : Z → List Node) (zs : List Z) → heads (λ z. first z ∷ rest z) zs ≡ map first zs
-heads-first first rest [] = refl
-heads-first first rest (z ∷ zs) = ap (λ ns. first z ∷ ns) (heads-first first rest zs)
 
 module _ {X : Type 0} where
   pub columns-pass : (get : X → List Node) (ws : List (List Node → Node)) (tests : List (Node → Bool)) (xs : List X) → EachWhole ws tests → pass_each tests (columns get ws xs) ≡ true
@@ -71,20 +54,3 @@ module _ {X : Type 0} where
       let here = each.0.two m n (and_first _ _ h) (and_first _ _ g) (ap node_fits (sym first) ∙ and_first _ _ fits) ∙ sym first in
       let rest = columns-two (λ x. tail (get x)) ws tests x y ms ns each.1 (ap tail p) (ap tail q) (and_second _ _ h) (and_second _ _ g) (and_second _ _ fits) in
       λ i. here i ∷ rest i
-
-  pub columns-flip : (get : X → List Node) (ws : List (List Node → Node)) (tests : List (Node → Bool)) (xs ys : List X) → EachWhole ws tests → columns get ws (xs ++ ys) ≡ columns get ws (ys ++ xs)
-  columns-flip get [] tests xs ys each = refl
-  columns-flip get (w ∷ ws) [] xs ys each = absurd each
-  columns-flip get (w ∷ ws) (test ∷ tests) xs ys each = λ i.
-      (ap w (heads-append get xs ys) ∙ each.0.flips (heads get xs) (heads get ys) ∙ ap w (sym (heads-append get ys xs))) i
-      ∷ columns-flip (λ x. tail (get x)) ws tests xs ys each.1 i
-
-  -- the wholes of wholes are the wholes of all
-  pub columns-union : {Z : Type 0} (get : X → List Node) (ws : List (List Node → Node)) (tests : List (Node → Bool)) (part : Z → List X) (zs : List Z) → EachWhole ws tests
-      → columns (λ z. columns get ws (part z)) ws zs ≡ columns get ws (flat_map part zs)
-  columns-union get [] tests part zs each = refl
-  columns-union get (w ∷ ws) [] part zs each = absurd each
-  columns-union get (w ∷ ws) (test ∷ tests) part zs each = λ i.
-      (ap w (heads-first (λ z. w (heads get (part z))) (λ z. columns (λ x. tail (get x)) ws (part z)) zs)
-      ∙ union_of w test each.0 (λ z. heads get (part z)) zs ∙ ap w (sym (heads-flat_map get part zs))) i
-      ∷ columns-union (λ x. tail (get x)) ws tests part zs each.1 i

@@ -44,21 +44,3 @@ module _ {X : Type 0} where
 
   pub wholes_are : (get : X → List Node) (ws : List (List Node → Node)) (xs : List X) → wholes get ws xs ≡ columns get ws xs
   wholes_are get ws xs = from_place get ws xs 0
-
-  pub heads-append : (get : X → List Node) (xs ys : List X) → heads get (xs ++ ys) ≡ heads get xs ++ heads get ys
-  heads-append get [] ys = refl
-  heads-append get (x ∷ xs) ys =
-      ap (cons_option (slice_get (get x) 0)) (heads-append get xs ys)
-      ∙ elim (slice_get (get x) 0) as (λ o. cons_option o (heads get xs ++ heads get ys) ≡ cons_option o (heads get xs) ++ heads get ys) [ None ↦ refl | Some n ↦ refl ]
-
-  pub heads-flat_map : {Z : Type 0} (get : X → List Node) (part : Z → List X) (zs : List Z) → heads get (flat_map part zs) ≡ flat_map (λ z. heads get (part z)) zs
-  heads-flat_map get part [] = refl
-  heads-flat_map get part (z ∷ zs) = heads-append get (part z) (flat_map part zs) ∙ ap (λ ns. heads get (part z) ++ ns) (heads-flat_map get part zs)
-
-  pub heads-map : {Z : Type 0} (get : X → List Node) (f : Z → X) (zs : List Z) → heads get (map f zs) ≡ heads (λ z. get (f z)) zs
-  heads-map get f [] = refl
-  heads-map get f (z ∷ zs) = ap (cons_option (slice_get (get (f z)) 0)) (heads-map get f zs)
-
-  pub columns-map : {Z : Type 0} (get : X → List Node) (f : Z → X) (ws : List (List Node → Node)) (zs : List Z) → columns get ws (map f zs) ≡ columns (λ z. get (f z)) ws zs
-  columns-map get f [] zs = refl
-  columns-map get f (w ∷ ws) zs = λ i. w (heads-map get f zs i) ∷ columns-map (λ x. tail (get x)) f ws zs i

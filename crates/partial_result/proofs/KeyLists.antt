@@ -106,9 +106,6 @@ same_keys js ks h g same =
     (λ q. find-units q js ∙ ap (λ b. cond b (Some tt) None) (same q) ∙ sym (find-units q ks)))
     ∙ keys-units ks
 
-pub same_distinct : (js ks : List Key) → ((q : Key) → has_key q js ≡ has_key q ks) → distinct_keys js ≡ distinct_keys ks
-same_distinct js ks same = same_keys _ _ (ascending-distinct js) (ascending-distinct ks) (λ q. has_key-distinct q js ∙ same q ∙ sym (has_key-distinct q ks))
-
 pub distinct-ascending : (ks : List Key) → is_ascending ks ≡ true → distinct_keys ks ≡ ks
 distinct-ascending ks h = same_keys _ _ (ascending-distinct ks) h (λ q. has_key-distinct q ks)
 

@@ -14,3 +14,4 @@ pub mod NodeLaws
 pub mod ShapeLaws
 pub mod WholeLaws
 pub mod EmptyLevels
+pub mod SumLaws

@@ -24,13 +24,13 @@ use Rattle.agg_evaluation.proofs.KeyExact.{exact_keys}
 use Rattle.partial_result.specs.Merged.{merged, united, merged_metric, sum_u64, sum_u32}
 use Rattle.partial_result.proofs.FoldLevels.{fold_node-Keyed, fold_node-Fixed}
 use Rattle.partial_result.proofs.MergeLevels.{merged-Keyed, merged-Fixed, merged-Number}
-use Rattle.partial_result.proofs.KeyLists.{and_first, and_second, and_both, equal_is, ascending-distinct, has_key-distinct, same_distinct, distinct-ascending, has_key-append}
+use Rattle.partial_result.proofs.KeyLists.{and_first, and_second, and_both, equal_is, ascending-distinct, has_key-distinct, distinct-ascending, has_key-append}
 use Rattle.partial_result.proofs.FixedKeys.{ascending-fixed, slice_cmp-itself}
-use Rattle.partial_result.proofs.MetricLaws.{metric_sum-one, metric_sum-two, metric_sum-flip, metric_sum-union}
+use Rattle.partial_result.proofs.MetricLaws.{metric_sum-one, metric_sum-two}
 use Rattle.partial_result.proofs.ColumnLaws.{IsWhole, EachWhole, false_true}
 use Rattle.partial_result.proofs.Found.{IsRising, others, sorted-entries}
 use Rattle.partial_result.proofs.Tables.{same, map_same, table, keys-table, table-pass, table-one}
-use Rattle.partial_result.proofs.TableLaws.{bucket_passes, table-two, bucket-flip, bucket-union}
+use Rattle.partial_result.proofs.TableLaws.{bucket_passes, table-two}
 
 -- a node by its level
 abbrev pub Level : Type 0
@@ -45,26 +45,6 @@ node_of n d is = sym (roll-out-Node n) ∙ ap roll-Node is
 abbrev pub buckets_in : List Node → List Bucket
 buckets_in trees = flat_map (λ t. (parts t).buckets) trees
 
-abbrev pub metrics_in : List Node → List Metric
-metrics_in trees = flat_map (λ t. (parts t).metrics) trees
-
-pub parts-flat : {A : Type 0} (of : Node → List A) (whole_of : List Node → Node) (made : List Node → List A) → ((xs : List Node) → of (whole_of xs) ≡ made xs)
-    → (xss : List (List Node)) → flat_map of (map whole_of xss) ≡ flat_map made xss
-parts-flat of whole_of made is [] = refl
-parts-flat of whole_of made is (xs ∷ xss) = λ i. is xs i ++ parts-flat of whole_of made is xss i
-
-pub flat-flat : {A : Type 0} (of : Node → List A) (xss : List (List Node)) → flat_map (λ xs. flat_map of xs) xss ≡ flat_map of (flat_map (λ xs. xs) xss)
-flat-flat of [] = refl
-flat-flat of (xs ∷ xss) = ap (λ ys. flat_map of xs ++ ys) (flat-flat of xss) ∙ sym (flat_map-append of xs (flat_map (λ xs. xs) xss))
-
-sum-flat : (of : Node → ℕ) (whole_of : List Node → Node) → ((xs : List Node) → of (whole_of xs) ≡ sum_by of xs) → (xss : List (List Node)) → sum_by of (map whole_of xss) ≡ sum_by of (flat_map (λ xs. xs) xss)
-sum-flat of whole_of is [] = refl
-sum-flat of whole_of is (xs ∷ xss) =
-    sum_by-cons of (whole_of xs) (map whole_of xss) ∙ (λ i. is xs i + sum-flat of whole_of is xss i) ∙ sym (sum_by-append of xs (flat_map (λ xs. xs) xss))
-
-sum-flip : (of : Node → ℕ) (xs ys : List Node) → sum_by of (xs ++ ys) ≡ sum_by of (ys ++ xs)
-sum-flip of xs ys = sum_by-append of xs ys ∙ add_comm (sum_by of xs) (sum_by of ys) ∙ sym (sum_by-append of ys xs)
-
 pub all-map : (bs : List Bucket) → list_all (λ fits. fits) (map bucket_passes bs) ≡ list_all bucket_passes bs
 all-map [] = refl
 all-map (b ∷ bs) = ap (λ r. bucket_passes b && r) (all-map bs)
@@ -72,12 +52,6 @@ all-map (b ∷ bs) = ap (λ r. bucket_passes b && r) (all-map bs)
 pub or_itself : (b : Bool) → b ≡ (b || b)
 or_itself true = refl
 or_itself false = refl
-
-or_comm : (a b : Bool) → (a || b) ≡ (b || a)
-or_comm true true = refl
-or_comm true false = refl
-or_comm false true = refl
-or_comm false false = refl
 
 sum_u64-fitting : (m n : ℕ) → fits_u64 (0 + m + n) ≡ true → sum_u64 m n ≡ 0 + m + n
 sum_u64-fitting m n h = grind (arith, nat_tests)
@@ -103,9 +77,6 @@ module _ (ws : List (List Node → Node)) (tests : List (Node → Bool)) (each :
 
   abbrev keyed_test : Node → Bool
   keyed_test n = is_tree_at tests (fixed_keys k) by_key (out-Node n)
-
-  keyed-parts : (xs : List Node) → parts (keyed xs) ≡ record { buckets = keyed_table (buckets_in xs); error = sum_by error_of xs; full = sum_by full_of xs; cut = sum_by cut_of xs; metrics = [] }
-  keyed-parts xs = ap parts_at (outs-Keyed (keyed_table (buckets_in xs)) (sum_by error_of xs) (sum_by full_of xs) (sum_by cut_of xs))
 
   keyed-tree : (xs : List Node) → keyed_test (keyed xs) ≡ true
   keyed-tree xs =
@@ -159,61 +130,9 @@ module _ (ws : List (List Node → Node)) (tests : List (Node → Bool)) (each :
   keyed-two m n (Node-F.Fixed bs) g is is' pass pass' fits = false_true pass
   keyed-two m n (Node-F.Number o) g is is' pass pass' fits = false_true pass
 
-  keys-flip : (xs ys : List Bucket) → distinct_keys (map bucket_key (xs ++ ys)) ≡ distinct_keys (map bucket_key (ys ++ xs))
-  keys-flip xs ys = same_distinct _ _ (λ q. has_of q xs ys ∙ or_comm (has_key q (map bucket_key xs)) (has_key q (map bucket_key ys)) ∙ sym (has_of q ys xs))
-    where
-      has_of : (q : Key) (xs ys : List Bucket) → has_key q (map bucket_key (xs ++ ys)) ≡ (has_key q (map bucket_key xs) || has_key q (map bucket_key ys))
-      has_of q [] ys = refl
-      has_of q (x ∷ xs) ys = elim (key_eq q x.key) as (λ b. (b || has_key q (map bucket_key (xs ++ ys))) ≡ ((b || has_key q (map bucket_key xs)) || has_key q (map bucket_key ys))) [ true ↦ refl | false ↦ has_of q xs ys ]
-
-  table-flip : (xs ys : List Bucket) → keyed_table (xs ++ ys) ≡ keyed_table (ys ++ xs)
-  table-flip xs ys = ap (λ ks. table ws tests each ks (xs ++ ys)) (keys-flip xs ys) ∙ map_same _ _ (distinct_keys (map bucket_key (ys ++ xs))) (λ q there. bucket-flip ws tests each q xs ys)
-
-  keyed-flips : (xs ys : List Node) → keyed (xs ++ ys) ≡ keyed (ys ++ xs)
-  keyed-flips xs ys = λ i. Keyed
-      ((ap keyed_table (flat_map-append (λ t. (parts t).buckets) xs ys) ∙ table-flip (buckets_in xs) (buckets_in ys) ∙ ap keyed_table (sym (flat_map-append (λ t. (parts t).buckets) ys xs))) i)
-      (sum-flip error_of xs ys i) (sum-flip full_of xs ys i) (sum-flip cut_of xs ys i)
-
-  -- what has no key among those of the buckets has no bucket
-  no_bucket : (q : Key) (bs : List Bucket) → has_key q (map bucket_key bs) ≡ false → same q bs ≡ []
-  no_bucket q [] h = refl
-  no_bucket q (x ∷ xs) h =
-      elim (key_eq q x.key) as (λ r. (r || has_key q (map bucket_key xs)) ≡ false → cond r (x ∷ same q xs) (same q xs) ≡ []) [
-        | true ↦ λ g. absurd (subst T g tt)
-        | false ↦ λ g. no_bucket q xs g
-      ] h
-
-  keyed-tables : (xss : List (List Node)) → keyed_table (flat_map (λ xs. keyed_table (buckets_in xs)) xss) ≡ keyed_table (flat_map (λ xs. buckets_in xs) xss)
-  keyed-tables xss =
-      ap (λ ks. table ws tests each ks (flat_map (λ xs. keyed_table (buckets_in xs)) xss)) (same_distinct _ _ (λ q. has_all q xss))
-      ∙ map_same _ _ (distinct_keys (map bucket_key (flat_map (λ xs. buckets_in xs) xss))) (λ q there.
-      bucket-union ws tests each (λ (xs : List Node). buckets_in xs) (λ xs. distinct_keys (map bucket_key (buckets_in xs))) (λ xs. ascending-distinct (map bucket_key (buckets_in xs))) q
-      (λ xs none. no_bucket q (buckets_in xs) (sym (has_key-distinct q (map bucket_key (buckets_in xs))) ∙ none)) xss)
-    where
-      has_of : (q : Key) (xs ys : List Bucket) → has_key q (map bucket_key (xs ++ ys)) ≡ (has_key q (map bucket_key xs) || has_key q (map bucket_key ys))
-      has_of q [] ys = refl
-      has_of q (x ∷ xs) ys = elim (key_eq q x.key) as (λ b. (b || has_key q (map bucket_key (xs ++ ys))) ≡ ((b || has_key q (map bucket_key xs)) || has_key q (map bucket_key ys))) [ true ↦ refl | false ↦ has_of q xs ys ]
-
-      has_all : (q : Key) (xss : List (List Node)) → has_key q (map bucket_key (flat_map (λ xs. keyed_table (buckets_in xs)) xss)) ≡ has_key q (map bucket_key (flat_map (λ xs. buckets_in xs) xss))
-      has_all q [] = refl
-      has_all q (xs ∷ xss) =
-          has_of q (keyed_table (buckets_in xs)) (flat_map (λ xs. keyed_table (buckets_in xs)) xss)
-          ∙ (λ i. (ap (has_key q) (keys-table ws tests each (distinct_keys (map bucket_key (buckets_in xs))) (buckets_in xs)) ∙ has_key-distinct q (map bucket_key (buckets_in xs))) i || has_all q xss i)
-          ∙ sym (has_of q (buckets_in xs) (flat_map (λ xs. buckets_in xs) xss))
-
-  keyed-union : (xss : List (List Node)) → keyed (map keyed xss) ≡ keyed (flat_map (λ xs. xs) xss)
-  keyed-union xss = λ i. Keyed
-      ((ap keyed_table (parts-flat (λ t. (parts t).buckets) keyed (λ xs. keyed_table (buckets_in xs)) (λ xs. ap (λ (p : Parts). p.buckets) (keyed-parts xs)) xss)
-      ∙ keyed-tables xss ∙ ap keyed_table (flat-flat (λ t. (parts t).buckets) xss)) i)
-      (sum-flat error_of keyed (λ xs. ap (λ (p : Parts). p.error) (keyed-parts xs)) xss i)
-      (sum-flat full_of keyed (λ xs. ap (λ (p : Parts). p.full) (keyed-parts xs)) xss i)
-      (sum-flat cut_of keyed (λ xs. ap (λ (p : Parts). p.cut) (keyed-parts xs)) xss i)
-
   pub keyed_is : IsWhole keyed keyed_test
   keyed_is = record {
     tree = keyed-tree;
     one = λ n pass. keyed-one n (out-Node n) refl pass;
     two = λ m n pass pass' fits. keyed-two m n (out-Node m) (out-Node n) refl refl pass pass' fits;
-    union = keyed-union;
-    flips = keyed-flips;
   }

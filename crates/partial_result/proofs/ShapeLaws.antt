@@ -23,12 +23,15 @@ use Rattle.partial_result.proofs.FoldLevels.{fold_node-Fixed}
 use Rattle.partial_result.proofs.MergeLevels.{merged-Fixed, merged-Number}
 use Rattle.partial_result.proofs.KeyLists.{and_first, and_second, and_both, equal_is}
 use Rattle.partial_result.proofs.FixedKeys.{ascending-fixed, slice_cmp-itself}
-use Rattle.partial_result.proofs.MetricLaws.{metric_sum-one, metric_sum-two, metric_sum-flip, metric_sum-union}
+use Rattle.partial_result.proofs.MetricLaws.{metric_sum-one, metric_sum-two}
 use Rattle.partial_result.proofs.ColumnLaws.{IsWhole, EachWhole, false_true}
 use Rattle.partial_result.proofs.Found.{sorted-entries}
 use Rattle.partial_result.proofs.Tables.{map_same, table, keys-table, table-pass, table-one}
-use Rattle.partial_result.proofs.TableLaws.{bucket_passes, table-two, bucket-flip, bucket-union}
-use Rattle.partial_result.proofs.NodeLaws.{Level, parts_of, node_of, buckets_in, metrics_in, parts-flat, flat-flat, all-map, or_itself, keyed_is}
+use Rattle.partial_result.proofs.TableLaws.{bucket_passes, table-two}
+use Rattle.partial_result.proofs.NodeLaws.{Level, parts_of, node_of, buckets_in, all-map, or_itself, keyed_is}
+
+abbrev metrics_in : List Node → List Metric
+metrics_in trees = flat_map (λ t. (parts t).metrics) trees
 
 module _ (ws : List (List Node → Node)) (tests : List (Node → Bool)) (each : EachWhole ws tests) (k : Kind) where
   abbrev fixed_table : List Bucket → List Bucket
@@ -82,30 +85,11 @@ module _ (ws : List (List Node → Node)) (tests : List (Node → Bool)) (each :
   fixed-two m n (Node-F.Keyed bs e f c) g is is' pass pass' fits = false_true pass
   fixed-two m n (Node-F.Number o) g is is' pass pass' fits = false_true pass
 
-  fixed-flips : (xs ys : List Node) → fixed (xs ++ ys) ≡ fixed (ys ++ xs)
-  fixed-flips xs ys = ap Fixed
-      (ap fixed_table (flat_map-append (λ t. (parts t).buckets) xs ys)
-      ∙ map_same _ _ (fixed_keys k) (λ q there. bucket-flip ws tests each q (buckets_in xs) (buckets_in ys))
-      ∙ ap fixed_table (sym (flat_map-append (λ t. (parts t).buckets) ys xs)))
-
-  -- a key that is there is not absent
-  not_absent : {A : Type 0} (b : Bool) → b ≡ true → b ≡ false → A
-  not_absent b h g = false_true (sym g ∙ h)
-
-  fixed-union : (xss : List (List Node)) → fixed (map fixed xss) ≡ fixed (flat_map (λ xs. xs) xss)
-  fixed-union xss = ap Fixed
-      (ap fixed_table (parts-flat (λ t. (parts t).buckets) fixed (λ xs. fixed_table (buckets_in xs)) (λ xs. ap (λ d. (parts_at d).buckets) (outs-Fixed (fixed_table (buckets_in xs)))) xss)
-      ∙ map_same _ _ (fixed_keys k) (λ q there.
-      bucket-union ws tests each (λ (xs : List Node). buckets_in xs) (λ xs. fixed_keys k) (λ xs. ascending-fixed k) q (λ xs none. not_absent (has_key q (fixed_keys k)) there none) xss)
-      ∙ ap fixed_table (flat-flat (λ t. (parts t).buckets) xss))
-
   pub fixed_is : IsWhole fixed (λ n. is_tree_at tests (fixed_keys k) from_start (out-Node n))
   fixed_is = record {
     tree = fixed-tree;
     one = λ n pass. fixed-one n (out-Node n) refl pass;
     two = λ m n pass pass' fits. fixed-two m n (out-Node m) (out-Node n) refl refl pass pass' fits;
-    union = fixed-union;
-    flips = fixed-flips;
   }
 
   abbrev number : List Node → Node
@@ -137,20 +121,11 @@ module _ (ws : List (List Node → Node)) (tests : List (Node → Bool)) (each :
   number-two m n (Node-F.Keyed bs e f c) g is is' pass pass' fits = false_true pass
   number-two m n (Node-F.Fixed bs) g is is' pass pass' fits = false_true pass
 
-  number-union : (xss : List (List Node)) → number (map number xss) ≡ number (flat_map (λ xs. xs) xss)
-  number-union xss = ap Number
-      (ap metric_sum (parts-flat (λ t. (parts t).metrics) number (λ xs. metric_sum (metrics_in xs) ∷ []) (λ xs. ap (λ d. (parts_at d).metrics) (outs-Number (metric_sum (metrics_in xs)))) xss
-      ∙ flat_map_single (λ xs. metric_sum (metrics_in xs)) xss)
-      ∙ metric_sum-union (λ xs. metrics_in xs) xss
-      ∙ ap metric_sum (flat-flat (λ t. (parts t).metrics) xss))
-
   pub number_is : IsWhole number (λ n. is_tree_at tests (fixed_keys k) a_number (out-Node n))
   number_is = record {
     tree = λ xs. ap (is_tree_at tests (fixed_keys k) a_number) (outs-Number (metric_sum (metrics_in xs)));
     one = λ n pass. number-one n (out-Node n) refl pass;
     two = λ m n pass pass' fits. number-two m n (out-Node m) (out-Node n) refl refl pass pass' fits;
-    union = number-union;
-    flips = λ xs ys. ap Number (ap metric_sum (flat_map-append (λ t. (parts t).metrics) xs ys) ∙ metric_sum-flip (metrics_in xs) (metrics_in ys) ∙ ap metric_sum (sym (flat_map-append (λ t. (parts t).metrics) ys xs)));
   }
 
   -- at each shape

@@ -20,8 +20,8 @@ use Rattle.partial_result.specs.Merged.{united, merged_bucket, sum_u64}
 use Rattle.partial_result.proofs.FoldLevels.{fold_bucket}
 use Rattle.partial_result.proofs.MergeLevels.{merged_bucket_level}
 use Rattle.partial_result.proofs.KeyLists.{and_first, and_second, and_both, equal_is, one_same}
-use Rattle.partial_result.proofs.Columns.{wholes, columns, wholes_are, columns-map}
-use Rattle.partial_result.proofs.ColumnLaws.{EachWhole, columns-two, columns-flip, columns-union}
+use Rattle.partial_result.proofs.Columns.{wholes, columns, wholes_are}
+use Rattle.partial_result.proofs.ColumnLaws.{EachWhole, columns-two}
 use Rattle.partial_result.proofs.Found.{entries, found, both_found, IsRising, others, same_found, sorted-entries, same-found, is_some-found, found-key, found-pass, rising-united, found-united}
 use Rattle.partial_result.proofs.Tables.{same, made, table, children_of, covered_of, keys-table, made-one}
 
@@ -100,65 +100,3 @@ module _ (ws : List (List Node → Node)) (tests : List (Node → Bool)) (each :
       (record { key = found-key q cs; pass = λ c. found-pass (λ x. pass_each tests x.children) q cs c pass' }) fit
       ∙ (λ i. cond (sym there i) (Some (made ws tests each q (sym parts i))) None)
       ∙ sym (found-table q ks (bs ++ cs)))
-
-  -- the order of two lists does not matter
-  made-flip : (q : Key) (us vs : List Bucket) → made ws tests each q (us ++ vs) ≡ made ws tests each q (vs ++ us)
-  made-flip q us vs = λ i. record {
-    key = q;
-    count = flip_sum bucket_count us vs i;
-    covered = flip_sum covered_of us vs i;
-    children = (wholes_are children_of ws (us ++ vs) ∙ columns-flip children_of ws tests us vs each ∙ sym (wholes_are children_of ws (vs ++ us))) i;
-  }
-    where
-      flip_sum : (f : Bucket → ℕ) (us vs : List Bucket) → sum_by f (us ++ vs) ≡ sum_by f (vs ++ us)
-      flip_sum f us vs = sum_by-append f us vs ∙ add_comm (sum_by f us) (sum_by f vs) ∙ sym (sum_by-append f vs us)
-
-  pub bucket-flip : (q : Key) (xs ys : List Bucket) → whole_bucket ws (xs ++ ys) q ≡ whole_bucket ws (ys ++ xs) q
-  bucket-flip q xs ys =
-      ap (made ws tests each q) (filter-append (λ (b : Bucket). key_eq q b.key) xs ys) ∙ made-flip q (same q xs) (same q ys) ∙ ap (made ws tests each q) (sym (filter-append (λ (b : Bucket). key_eq q b.key) ys xs))
-
-  module _ {Z : Type 0} (part : Z → List Bucket) (keys : Z → List Key) (rising : (z : Z) → is_ascending (keys z) ≡ true) (q : Key) (absent : (z : Z) → has_key q (keys z) ≡ false → same q (part z) ≡ []) where
-    -- what is made of one part
-    abbrev of_part : Z → Bucket
-    of_part z = made ws tests each q (same q (part z))
-
-    abbrev present : List Z → List Z
-    present zs = filter (λ z. has_key q (keys z)) zs
-
-    same-tables : (zs : List Z) → same q (flat_map (λ z. table ws tests each (keys z) (part z)) zs) ≡ map of_part (present zs)
-    same-tables [] = refl
-    same-tables (z ∷ zs) =
-        filter-append (λ (b : Bucket). key_eq q b.key) (table ws tests each (keys z) (part z)) (flat_map (λ z. table ws tests each (keys z) (part z)) zs)
-        ∙ (λ i. one_same (whole_bucket ws (part z)) (λ k. refl) q (keys z) (rising z) i ++ same-tables zs i)
-        ∙ elim (has_key q (keys z)) as (λ r. cond r (of_part z ∷ []) [] ++ map of_part (present zs) ≡ map of_part (cond r (z ∷ present zs) (present zs))) [ true ↦ refl | false ↦ refl ]
-
-    same-parts : (zs : List Z) → flat_map (λ z. same q (part z)) (present zs) ≡ same q (flat_map part zs)
-    same-parts [] = refl
-    same-parts (z ∷ zs) =
-        elim (has_key q (keys z)) as (λ r. has_key q (keys z) ≡ r → flat_map (λ z. same q (part z)) (cond r (z ∷ present zs) (present zs)) ≡ same q (part z) ++ same q (flat_map part zs)) [
-          | true ↦ λ e. ap (λ xs. same q (part z) ++ xs) (same-parts zs)
-          | false ↦ λ e. same-parts zs ∙ ap (λ xs. xs ++ same q (flat_map part zs)) (sym (absent z e))
-        ] refl
-        ∙ sym (filter-append (λ (b : Bucket). key_eq q b.key) (part z) (flat_map part zs))
-
-    sum-parts : (f : Bucket → ℕ) → ((z : Z) → f (of_part z) ≡ sum_by f (same q (part z))) → (zs : List Z) → sum_by f (map of_part zs) ≡ sum_by f (flat_map (λ z. same q (part z)) zs)
-    sum-parts f is [] = refl
-    sum-parts f is (z ∷ zs) =
-        sum_by-cons f (of_part z) (map of_part zs) ∙ (λ i. is z i + sum-parts f is zs i) ∙ sym (sum_by-append f (same q (part z)) (flat_map (λ z. same q (part z)) zs))
-
-    children-parts : (zs : List Z) → wholes children_of ws (map of_part zs) ≡ wholes children_of ws (flat_map (λ z. same q (part z)) zs)
-    children-parts zs =
-        wholes_are children_of ws (map of_part zs) ∙ columns-map children_of of_part ws zs ∙ (λ i. columns (λ z. wholes_are children_of ws (same q (part z)) i) ws zs)
-        ∙ columns-union children_of ws tests (λ z. same q (part z)) zs each ∙ sym (wholes_are children_of ws (flat_map (λ z. same q (part z)) zs))
-
-    -- the bucket over the tables of parts is the one over all parts
-    pub bucket-union : (zs : List Z) → whole_bucket ws (flat_map (λ z. table ws tests each (keys z) (part z)) zs) q ≡ whole_bucket ws (flat_map part zs) q
-    bucket-union zs =
-        ap (made ws tests each q) (same-tables zs)
-        ∙ (λ i. record {
-          key = q;
-          count = sum-parts bucket_count (λ z. refl) (present zs) i;
-          covered = sum-parts covered_of (λ z. refl) (present zs) i;
-          children = children-parts (present zs) i;
-        })
-        ∙ ap (made ws tests each q) (same-parts zs)

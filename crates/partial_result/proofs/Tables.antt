@@ -17,9 +17,9 @@ use Rattle.agg_evaluation.specs.Whole.{whole_bucket}
 use Rattle.agg_evaluation.specs.Trees.{is_ascending, pass_each, have_children}
 use Rattle.agg_evaluation.proofs.KeyCompare.{key_cmp_total}
 use Rattle.agg_evaluation.proofs.KeyExact.{exact_keys}
-use Rattle.partial_result.proofs.KeyLists.{and_first, and_second, and_both, equal_is, same_distinct, has_key-append, absent_below, one_same, ascending-distinct, has_key-distinct}
-use Rattle.partial_result.proofs.Columns.{wholes, columns, wholes_are, columns-map}
-use Rattle.partial_result.proofs.ColumnLaws.{IsWhole, EachWhole, columns-pass, columns-one, columns-flip, columns-union}
+use Rattle.partial_result.proofs.KeyLists.{and_first, and_second, and_both, equal_is, has_key-append, absent_below, one_same, ascending-distinct, has_key-distinct}
+use Rattle.partial_result.proofs.Columns.{wholes, columns, wholes_are}
+use Rattle.partial_result.proofs.ColumnLaws.{IsWhole, EachWhole, columns-pass, columns-one}
 
 -- the buckets of a key
 abbrev pub same : Key → List Bucket → List Bucket

@@ -3,6 +3,7 @@
 
 mod beginning;
 mod costing;
+pub mod laws;
 mod merging;
 #[cfg(test)]
 mod tests;
