@@ -165,14 +165,14 @@ fn merge_children(
     Ok(List::from_vec(children))
 }
 
-fn merge_metric(other: Metric, into: Metric) -> Metric
-    ensures { result ≡ merged_metric other into }
+fn merge_metric(more: Metric, metric: Metric) -> Metric
+    ensures { result ≡ merged_metric more metric }
 {
     Metric {
-        count: into.count.saturating_add(other.count),
-        sum: into.sum.saturating_add(other.sum),
-        least: least(into.least, other.least),
-        greatest: greatest(into.greatest, other.greatest),
+        count: metric.count.saturating_add(more.count),
+        sum: metric.sum.saturating_add(more.sum),
+        least: least(metric.least, more.least),
+        greatest: greatest(metric.greatest, more.greatest),
     }
 }
 
