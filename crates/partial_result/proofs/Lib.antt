@@ -1,0 +1,17 @@
+pub mod FoldLevels
+pub mod CostLevels
+pub mod MergeLevels
+pub mod PassingLaws
+pub mod KeyLists
+pub mod Columns
+pub mod ColumnLaws
+pub mod Found
+pub mod Tables
+pub mod TableLaws
+pub mod MetricLaws
+pub mod FixedKeys
+pub mod NodeLaws
+pub mod ShapeLaws
+pub mod WholeLaws
+pub mod EmptyLevels
+pub mod SumLaws

@@ -1,0 +1,13 @@
+//! Partial results: the empty one, the union of two, and their cost.
+#![tactic(auto)]
+
+mod beginning;
+mod costing;
+pub mod laws;
+mod merging;
+#[cfg(test)]
+mod tests;
+
+pub use beginning::empty;
+pub use costing::cost;
+pub use merging::merge;
