@@ -1,0 +1,4 @@
+pub mod SortLaws
+pub mod TotalLaws
+pub mod SameOrder
+pub mod CompositeLaws

@@ -1,0 +1,55 @@
+-- Selections and the answers that are made of them.
+use Rattle.std.specs.Prelude.{◌≡◌, refl, ℕ, ◌<◌, ◌==◌, ◌&&◌, Bool, true, List, [], ◌∷◌, map, take, filter}
+use Rattle.std.specs.List.{list_all}
+use Rattle.std.proofs.Common.{sym, ◌∙◌, ap, subst, cond, ⊎_elim, zero, suc, arith}
+use Rattle.std.proofs.lemmas.Bool.{cases_Bool, and_parts, and_from, cond-false, ne_eqb}
+use Rattle.agg_model.specs.declared.key.Key.{Key}
+use Rattle.agg_model.specs.declared.partial.Bucket.{Bucket}
+use Rattle.agg_model.specs.declared.aggregation.Bounds.{Bounds}
+use Rattle.agg_model.specs.declared.aggregation.Order.{Order}
+use Rattle.agg_model.specs.declared.aggregation.Agg.{Agg}
+use Rattle.agg_evaluation.specs.Sorting.{sorted}
+use Rattle.agg_evaluation.specs.Orders.{bucket_cmp}
+use Rattle.agg_spec.specs.Filling.{frequent, filled}
+use Rattle.agg_spec.specs.Final.{Finisher, finisher, finisher_of}
+use Rattle.bucket_order.specs.Kinds.{kind_of, child_kinds}
+use Rattle.final_reduce.proofs.AggLaws.{fold_agg-level}
+
+pub map-map : {A B C : Type 0} (g : B → C) (f : A → B) (xs : List A) → map g (map f xs) ≡ map (λ x. g (f x)) xs
+map-map g f [] = refl
+map-map g f (x ∷ xs) = ap (λ ys. g (f x) ∷ ys) (map-map g f xs)
+
+pub list_all-map : {A B : Type 0} (p : B → Bool) (f : A → B) (xs : List A) → list_all p (map f xs) ≡ list_all (λ x. p (f x)) xs
+list_all-map p f [] = refl
+list_all-map p f (x ∷ xs) = ap (λ b. p (f x) && b) (list_all-map p f xs)
+
+module _ {A : Type 0} (p : A → Bool) where
+  pub list_all-take : (n : ℕ) (xs : List A) → list_all p xs ≡ true → list_all p (take n xs) ≡ true
+  list_all-take zero xs all = refl
+  list_all-take (suc n) [] all = refl
+  list_all-take (suc n) (x ∷ xs) all = and_from _ _ (and_parts _ _ all).0 (list_all-take n xs (and_parts _ _ all).1)
+
+  pub list_all-filter : (q : A → Bool) (xs : List A) → list_all p xs ≡ true → list_all p (filter q xs) ≡ true
+  list_all-filter q [] all = refl
+  list_all-filter q (x ∷ xs) all =
+      let rest = list_all-filter q xs (and_parts _ _ all).1 in
+      ⊎_elim (λ e. subst (λ b. list_all p (cond b (x ∷ filter q xs) (filter q xs)) ≡ true) (sym e) (and_from _ _ (and_parts _ _ all).0 rest))
+      (λ e. subst (λ b. list_all p (cond b (x ∷ filter q xs) (filter q xs)) ≡ true) (sym e) rest)
+      (cases_Bool (q x))
+
+-- a finisher has the kind of its aggregation
+pub finisher-kind : (a : Agg) → (finisher a).kind ≡ kind_of a
+finisher-kind a = ap (λ (f : Finisher). f.kind) (fold_agg-level finisher_of a)
+
+pub kinds_of_finishers : (aggs : List Agg) → map (λ (f : Finisher). f.kind) (map finisher aggs) ≡ child_kinds aggs
+kinds_of_finishers [] = refl
+kinds_of_finishers (a ∷ rest) = λ i. finisher-kind a i ∷ kinds_of_finishers rest i
+
+-- a histogram with a minimum count above 0 has no gaps
+pub unfilled_is : (empty : Key → Bucket) (interval offset min_doc_count : ℕ) (extended hard : Bounds) (order : List Order) (children : List Agg) (buckets : List Bucket) → 0 < min_doc_count
+    → sorted (bucket_cmp (child_kinds children) order) (frequent min_doc_count buckets)
+    ≡ sorted (bucket_cmp (map (λ (f : Finisher). f.kind) (map finisher children)) order) (filled empty interval offset min_doc_count extended hard buckets)
+unfilled_is empty interval offset min_doc_count extended hard order children buckets positive =
+    ap (λ kinds. sorted (bucket_cmp kinds order) (frequent min_doc_count buckets)) (sym (kinds_of_finishers children))
+    ∙ ap (sorted (bucket_cmp (map (λ (f : Finisher). f.kind) (map finisher children)) order))
+    (sym (cond-false (min_doc_count == 0) _ (frequent min_doc_count buckets) (ne_eqb min_doc_count 0 (λ e. absurd (omega arith)))))

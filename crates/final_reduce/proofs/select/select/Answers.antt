@@ -1,0 +1,113 @@
+use Rattle.std.proofs.Common.{◌≡◌, ◌∙◌, ap, sym, map, arith, List, None, Bool, [], take}
+use Rattle.std.specs.Prelude.{sum_by, length, nat_le}
+use Rattle.std.specs.List.{list_all}
+use Rattle.std.proofs.lemmas.Result.{IfOk-weaker}
+use Rattle.agg_model.specs.declared.aggregation.Agg.{Agg, out-Agg}
+use Rattle.agg_model.specs.declared.aggregation.Kind.{Kind}
+use Rattle.agg_model.specs.declared.partial.Bucket.{Bucket}
+use Rattle.agg_model.specs.declared.partial.Node.{Node}
+use Rattle.agg_evaluation.specs.Orders.{bucket_key, bucket_count, bucket_cmp, composite_cmp}
+use Rattle.agg_evaluation.specs.Trees.{have_children, pass_each}
+use Rattle.agg_evaluation.specs.Whole.{Parts, parts}
+use Rattle.agg_spec.specs.Final.{finisher, finish_at, finish_bucket, buckets_answer, metric_answer, terms_answer, empty_bucket}
+use Rattle.agg_evaluation.specs.Sorting.{sorted}
+use Rattle.bucket_order.specs.Composites.{is_composite_of}
+use Rattle.bucket_order.proofs.SameOrder.{list_all-sorted}
+use Rattle.final_reduce.specs.Finishable.{is_finishable, fits_at}
+use Rattle.std.proofs.lemmas.Bool.{ltb-true}
+use Rattle.agg_spec.specs.Filling.{frequent}
+use Rattle.bucket_order.specs.Kinds.{child_kinds}
+use Rattle.final_reduce.proofs.SelectLaws.{list_all-take, list_all-filter, unfilled_is}
+use Rattle.final_reduce.proofs.FinishableLaws.{opened, finish_is, counts_fit, plain_is, metric_is}
+use Rattle.final_reduce.proofs.select.select.Goals as goal
+
+abbrev tests_of : Agg → List (Node → Bool)
+tests_of a = map is_finishable (out-Agg a).children
+
+pub select_terms-requires-clause-children : goal.select_terms-requires-clause-children
+select_terms-requires-clause-children c = ap (have_children (tests_of c.args.agg.now)) c.into_parts-parts.ensures.buckets ∙ (opened c.args.agg.now c.args.node c.requires).0
+
+pub select_terms-requires-clause-counts : goal.select_terms-requires-clause-counts
+select_terms-requires-clause-counts c =
+    let fit = counts_fit (parts c.args.node) (sym (ap (λ k. fits_at k (parts c.args.node)) c.in-Terms.is) ∙ (opened c.args.agg.now c.args.node c.requires).1) in
+    omega (arith, fit.0, c.into_parts-parts.ensures.cut, ap (sum_by bucket_count) c.into_parts-parts.ensures.buckets)
+
+pub select_terms-requires-clause-error : goal.select_terms-requires-clause-error
+select_terms-requires-clause-error c =
+    let fit = counts_fit (parts c.args.node) (sym (ap (λ k. fits_at k (parts c.args.node)) c.in-Terms.is) ∙ (opened c.args.agg.now c.args.node c.requires).1) in
+    omega (arith, fit.1, c.into_parts-parts.ensures.error)
+
+pub first_composites-requires : goal.first_composites-requires
+first_composites-requires c =
+    ap (list_all (λ (b : Bucket). is_composite_of (length c.in-Composite.sources) (bucket_key b))) c.into_parts-parts.ensures.buckets
+    ∙ sym (ap (λ k. fits_at k (parts c.args.node)) c.in-Composite.is) ∙ (opened c.args.agg.now c.args.node c.requires).1
+
+pub select_buckets-requires-in-Composite : goal.select_buckets-requires-in-Composite
+select_buckets-requires-in-Composite c =
+    let passes = λ (b : Bucket). pass_each (tests_of c.args.agg.now) b.children in
+    record {
+      children = ap (list_all passes) c.in_ok-buckets-in-Composite.ensures
+          ∙ list_all-take passes c.in-Composite.size _ (list_all-sorted passes (λ a b. composite_cmp c.in-Composite.sources (bucket_key a) (bucket_key b)) c.into_parts-parts.result.buckets
+          (ap (have_children (tests_of c.args.agg.now)) c.into_parts-parts.ensures.buckets ∙ (opened c.args.agg.now c.args.node c.requires).0));
+    }
+
+pub select_buckets-requires-in_default : goal.select_buckets-requires-in_default
+select_buckets-requires-in_default c = record { children = ap (have_children (tests_of c.args.agg.now)) c.into_parts-parts.ensures.buckets ∙ (opened c.args.agg.now c.args.node c.requires).0 }
+
+pub returns-in_default-clause-answer : goal.returns-in_default-clause-answer
+returns-in_default-clause-answer c =
+    let a = out-Agg c.args.agg.now in
+    let finishers = map finisher a.children in
+    IfOk-weaker c.select_buckets-in_default.result _ _ (λ s is.
+    is a.name ∙ ap (λ bs. buckets_answer a.name (map (finish_bucket finishers None) bs)) c.into_parts-parts.ensures.buckets
+    ∙ sym (plain_is a.name finishers (parts c.args.node) a.kind c.in_default.not-Terms c.in_default.not-Histogram c.in_default.not-Composite c.in_default.not-Sum c.in_default.not-Min c.in_default.not-Max c.in_default.not-Avg c.in_default.not-ValueCount)
+    ∙ sym (finish_is c.args.agg.now c.args.node)) c.select_buckets-in_default.ensures.answer
+
+pub returns-in-Sum-clause-answer : goal.returns-in-Sum-clause-answer
+returns-in-Sum-clause-answer c =
+    let a = out-Agg c.args.agg.now in
+    let finishers = map finisher a.children in
+    let p = parts c.args.node in
+    let is = metric_is a.name finishers p a.kind c.in-Sum.is in
+    c.select_metric.ensures.answer a.name ∙ ap (metric_answer a.name) c.into_parts-parts.ensures.metric ∙ sym is ∙ sym (finish_is c.args.agg.now c.args.node)
+
+pub returns-in-Terms-clause-answer : goal.returns-in-Terms-clause-answer
+returns-in-Terms-clause-answer c =
+    let a = out-Agg c.args.agg.now in
+    let finishers = map finisher a.children in
+    let p = parts c.args.node in
+    let same : record { buckets = c.into_parts-parts.result.buckets; error = c.into_parts-parts.result.error; full = c.into_parts-parts.result.full; cut = c.into_parts-parts.result.cut; metrics = [] } ≡ (let q : Parts = record { buckets = p.buckets; error = p.error; full = p.full; cut = p.cut; metrics = [] } in q)
+    = λ i. record { buckets = c.into_parts-parts.ensures.buckets i; error = c.into_parts-parts.ensures.error i; full = c.into_parts-parts.ensures.full i; cut = c.into_parts-parts.ensures.cut i; metrics = [] } in
+    IfOk-weaker c.select_terms.result _ _ (λ s is.
+    is a.name ∙ ap (λ (q : Parts). terms_answer a.name finishers c.in-Terms.size c.in-Terms.min_doc_count c.in-Terms.order q) same
+    ∙ sym (ap (λ (k : Kind). finish_at a.name finishers k p) c.in-Terms.is) ∙ sym (finish_is c.args.agg.now c.args.node)) c.select_terms.ensures.answer
+
+pub returns-in_ok-buckets-in-Composite-clause-answer : goal.returns-in_ok-buckets-in-Composite-clause-answer
+returns-in_ok-buckets-in-Composite-clause-answer c =
+    let a = out-Agg c.args.agg.now in
+    let finishers = map finisher a.children in
+    let p = parts c.args.node in
+    IfOk-weaker c.select_buckets-in-Composite.result _ _ (λ s is.
+    is a.name ∙ ap (λ bs. buckets_answer a.name (map (finish_bucket finishers None) bs)) (c.in_ok-buckets-in-Composite.ensures ∙ ap (λ bs. take c.in-Composite.size (sorted (λ x y. composite_cmp c.in-Composite.sources (bucket_key x) (bucket_key y)) bs)) c.into_parts-parts.ensures.buckets)
+    ∙ sym (ap (λ (k : Kind). finish_at a.name finishers k p) c.in-Composite.is) ∙ sym (finish_is c.args.agg.now c.args.node)) c.select_buckets-in-Composite.ensures.answer
+
+pub select_buckets-requires : goal.select_buckets-requires
+select_buckets-requires c =
+    let passes = λ (b : Bucket). pass_each (tests_of c.args.agg.now) b.children in
+    record {
+      children = ap (list_all passes) c.in_ok-buckets-in-Histogram.ensures
+          ∙ list_all-sorted passes (bucket_cmp (child_kinds (out-Agg c.args.agg.now).children) c.in-Histogram.order) _ (list_all-filter passes (λ b. nat_le c.in-Histogram.min_doc_count (bucket_count b)) c.into_parts-parts.result.buckets
+          (ap (have_children (tests_of c.args.agg.now)) c.into_parts-parts.ensures.buckets ∙ (opened c.args.agg.now c.args.node c.requires).0));
+    }
+
+pub returns-in_ok-buckets-in-Histogram-clause-answer : goal.returns-in_ok-buckets-in-Histogram-clause-answer
+returns-in_ok-buckets-in-Histogram-clause-answer c =
+    let a = out-Agg c.args.agg.now in
+    let finishers = map finisher a.children in
+    let p = parts c.args.node in
+    let positive = ltb-true 0 c.in-Histogram.min_doc_count (sym (ap (λ k. fits_at k p) c.in-Histogram.is) ∙ (opened c.args.agg.now c.args.node c.requires).1) in
+    IfOk-weaker c.select_buckets.result _ _ (λ s is.
+    is a.name ∙ ap (λ bs. buckets_answer a.name (map (finish_bucket finishers None) bs)) (c.in_ok-buckets-in-Histogram.ensures
+    ∙ ap (λ bs. sorted (bucket_cmp (child_kinds a.children) c.in-Histogram.order) (frequent c.in-Histogram.min_doc_count bs)) c.into_parts-parts.ensures.buckets
+    ∙ unfilled_is (empty_bucket finishers) c.in-Histogram.interval c.in-Histogram.offset c.in-Histogram.min_doc_count c.in-Histogram.extended c.in-Histogram.hard c.in-Histogram.order a.children p.buckets positive)
+    ∙ sym (ap (λ (k : Kind). finish_at a.name finishers k p) c.in-Histogram.is) ∙ sym (finish_is c.args.agg.now c.args.node)) c.select_buckets.ensures.answer

@@ -1,0 +1,16 @@
+//! The final answer to a search from the whole of the shard answers (Elasticsearch Reference 8, 'Aggregations': the
+//! reduce phase; 'Terms aggregation', 'Histogram aggregation', 'Composite aggregation').
+#![tactic(auto)]
+
+mod answer;
+mod composite;
+mod count;
+mod errors;
+mod filling;
+pub mod finish;
+mod parts;
+mod range;
+mod select;
+mod terms;
+#[cfg(test)]
+mod tests;

@@ -1,0 +1,168 @@
+// What an answer to one aggregation is made of.
+ghost use Rattle.std.specs.Prelude.{◌≡◌, ◌<◌, ◌^◌, ◌+◌, List as Items, ℕ, IfOk, IsTrue, map, sum_by, option_to_list, None, []};
+ghost use Rattle.agg_evaluation.specs.Orders.{bucket_count};
+ghost use Rattle.agg_evaluation.specs.Trees.{have_children};
+ghost use Rattle.agg_model.specs.declared.aggregation.Agg.{out-Agg};
+ghost use Rattle.agg_spec.specs.Final.{finisher, no_metric as metric_of_nothing, terms_answer, buckets_answer, metric_answer, finish_bucket};
+ghost use Rattle.final_reduce.specs.Finishable.{is_finishable, is_finishable_at};
+ghost use Rattle.final_reduce.specs.Selection.{answer_of, chosen_bucket, chosen_pass, chosen_term};
+
+use crate::composite::first_composites;
+use crate::errors::count_error;
+use crate::filling::frequent_buckets;
+use crate::parts::{NodeParts, into_parts};
+use crate::terms::returned_terms;
+use agg_model::aggregation::{Agg, Kind, Order};
+use agg_model::list::List;
+use agg_model::partial::{Bucket, Metric, Node};
+use std::alloc::{AllocError, Global};
+
+/// A bucket that is returned, with its error where it is one of terms.
+#[derive(Drop)]
+pub(crate) struct Chosen {
+    pub(crate) error: Option<i64>,
+    pub(crate) bucket: Bucket,
+}
+
+/// The buckets that are returned, in order, and the numbers beside them.
+#[derive(Drop)]
+pub(crate) struct Selected {
+    pub(crate) chosen: List<Chosen>,
+    pub(crate) error: i64,
+    pub(crate) other: u64,
+    pub(crate) metric: Metric,
+}
+
+fn no_metric() -> Metric
+    ensures { result ≡ metric_of_nothing }
+{
+    Metric {
+        count: 0,
+        sum: 0,
+        least: None,
+        greatest: None,
+    }
+}
+
+fn with_errors(
+    alloc: Global,
+    order: &List<Order>,
+    error: u64,
+    full: u32,
+    buckets: List<Bucket>,
+) -> Result<List<Chosen>, AllocError>
+    requires { error < 2 ^ 63 }
+    ensures { IfOk result (λ cs. cs ≡ map (chosen_term order.now error full) buckets) }
+{
+    let mut chosen = List::new(alloc);
+    for bucket in buckets.into_vec() {
+        let error = Some(count_error(order, error, bucket.covered, full));
+        chosen.push(Chosen { error, bucket })?;
+    }
+    Ok(chosen)
+}
+
+fn without_errors(alloc: Global, buckets: List<Bucket>) -> Result<List<Chosen>, AllocError>
+    ensures { IfOk result (λ cs. cs ≡ map chosen_bucket buckets) }
+{
+    let mut chosen = List::new(alloc);
+    for bucket in buckets.into_vec() {
+        chosen.push(Chosen {
+            error: None,
+            bucket,
+        })?;
+    }
+    Ok(chosen)
+}
+
+fn select_terms(
+    alloc: Global,
+    children: &List<Agg>,
+    size: u32,
+    min_doc_count: u64,
+    order: &List<Order>,
+    parts: NodeParts,
+) -> Result<Selected, AllocError>
+    requires children { IsTrue (have_children (map is_finishable children.now) parts.buckets) }
+    requires counts { parts.cut + sum_by bucket_count parts.buckets < 2 ^ 64 }
+    requires error { parts.error < 2 ^ 63 }
+    ensures answer { IfOk result (λ s. (name : Items ℕ) → answer_of name (map finisher children.now) s ≡ terms_answer name (map finisher children.now) size min_doc_count order.now (record { buckets = parts.buckets; error = parts.error; full = parts.full; cut = parts.cut; metrics = [] })) }
+    ensures children { IfOk result (λ s. IsTrue (chosen_pass (map is_finishable children.now) s.chosen)) }
+{
+    let returned = returned_terms(children, size, min_doc_count, order, parts.buckets)?;
+    let error = count_error(order, parts.error, 0, parts.full);
+    let other = parts.cut + returned.beyond;
+    Ok(Selected {
+        chosen: with_errors(alloc, order, parts.error, parts.full, returned.buckets)?,
+        error,
+        other,
+        metric: no_metric(),
+    })
+}
+
+fn select_buckets(
+    alloc: Global,
+    children: &List<Agg>,
+    buckets: List<Bucket>,
+) -> Result<Selected, AllocError>
+    requires children { IsTrue (have_children (map is_finishable children.now) buckets) }
+    ensures answer { IfOk result (λ s. (name : Items ℕ) → answer_of name (map finisher children.now) s ≡ buckets_answer name (map (finish_bucket (map finisher children.now) None) buckets)) }
+    ensures children { IfOk result (λ s. IsTrue (chosen_pass (map is_finishable children.now) s.chosen)) }
+{
+    Ok(Selected {
+        chosen: without_errors(alloc, buckets)?,
+        error: 0,
+        other: 0,
+        metric: no_metric(),
+    })
+}
+
+fn select_metric(alloc: Global, children: &List<Agg>, metric: Option<Metric>) -> Selected
+    ensures answer { (name : Items ℕ) → answer_of name (map finisher children.now) result ≡ metric_answer name (option_to_list metric) }
+    ensures children { IsTrue (chosen_pass (map is_finishable children.now) result.chosen) }
+{
+    Selected {
+        chosen: List::new(alloc),
+        error: 0,
+        other: 0,
+        metric: match metric {
+            Some(metric) => metric,
+            None => no_metric(),
+        },
+    }
+}
+
+/// What the answer to an aggregation is made of.
+pub(crate) fn select(alloc: Global, agg: &Agg, node: Node) -> Result<Selected, AllocError>
+    requires { IsTrue (is_finishable agg.now node) }
+    ensures answer { IfOk result (λ s. answer_of (out-Agg agg.now).name (map finisher (out-Agg agg.now).children) s ≡ (finisher agg.now).finish node) }
+    ensures children { IfOk result (λ s. IsTrue (chosen_pass (map is_finishable (out-Agg agg.now).children) s.chosen)) }
+{
+    let parts = into_parts(alloc, node);
+    match &agg.kind {
+        Kind::Terms {
+            size,
+            min_doc_count,
+            order,
+            ..
+        } => select_terms(alloc, &agg.children, *size, *min_doc_count, order, parts),
+        Kind::Histogram {
+            min_doc_count,
+            order,
+            ..
+        } => {
+            let buckets = frequent_buckets(&agg.children, *min_doc_count, order, parts.buckets)?;
+            select_buckets(alloc, &agg.children, buckets)
+        }
+        Kind::Composite { sources, size, .. } => {
+            let buckets = first_composites(sources, *size, parts.buckets)?;
+            select_buckets(alloc, &agg.children, buckets)
+        }
+        Kind::Sum { .. }
+        | Kind::Min { .. }
+        | Kind::Max { .. }
+        | Kind::Avg { .. }
+        | Kind::ValueCount { .. } => Ok(select_metric(alloc, &agg.children, parts.metric)),
+        _ => select_buckets(alloc, &agg.children, parts.buckets),
+    }
+}

@@ -1,0 +1,158 @@
+ghost use Rattle.std.specs.Prelude.{◌≡◌, ◌+◌, ◌∷◌, [], IfOk, IsTrue, codes};
+ghost use Rattle.agg_model.specs.declared.key.Key.TheVariants.{Word};
+ghost use Rattle.agg_model.specs.declared.aggregation.Agg.{out-Agg};
+ghost use Rattle.agg_model.specs.declared.partial.Node.TheVariants.{Keyed};
+ghost use Rattle.final_reduce.specs.Finishable.{can_finish};
+ghost use Rattle.final_reduce.specs.SampleTerms.{IsTermsAlone, returned_bucket};
+
+use crate::finish::finish;
+use agg_model::aggregation::{Agg, Kind, Order, OrderBy, Search};
+use agg_model::answer::NodeAnswer;
+use agg_model::key::Key;
+use agg_model::list::List;
+use agg_model::partial::{Bucket, Node, Partial};
+use agg_model::query::Query;
+use agg_model::text::Text;
+use std::alloc::{AllocError, Global};
+use std::test::Fail;
+
+/// A search and the whole of its shard answers.
+#[derive(Drop)]
+struct Sample {
+    search: Search,
+    whole: Partial,
+}
+
+fn one<T: Drop>(alloc: Global, item: T) -> Result<List<T>, AllocError>
+    ensures { IfOk result (λ items. items ≡ item ∷ []) }
+{
+    let mut items = List::new(alloc);
+    items.push(item)?;
+    Ok(items)
+}
+
+fn bucket(alloc: Global, word: &str, count: u32, covered: u32) -> Result<Bucket, AllocError>
+    ensures { IfOk result (λ b. b ≡ returned_bucket word.now count covered) }
+{
+    Ok(Bucket {
+        key: Key::Word(Text::of(alloc, word)?),
+        count: u64::from(count),
+        covered: u64::from(covered),
+        children: List::new(alloc),
+    })
+}
+
+/// The terms `a` and `b`, of which each shard returned one as its only one.
+fn both(
+    alloc: Global,
+    a: u32,
+    a_covered: u32,
+    b: u32,
+    b_covered: u32,
+    cut: u32,
+) -> Result<Node, AllocError>
+    ensures { IfOk result (λ node. node ≡ Keyed (returned_bucket (codes "a") a a_covered ∷ returned_bucket (codes "b") b b_covered ∷ []) (a_covered + b_covered) 2 cut) }
+{
+    let mut buckets = List::new(alloc);
+    buckets.push(bucket(alloc, "a", a, a_covered)?)?;
+    buckets.push(bucket(alloc, "b", b, b_covered)?)?;
+    Ok(Node::Keyed {
+        buckets,
+        error: u64::from(a_covered) + u64::from(b_covered),
+        full: 2,
+        cut: u64::from(cut),
+    })
+}
+
+fn first_term(alloc: Global, order: Order) -> Result<Agg, AllocError>
+    ensures { IfOk result (λ agg. IsTermsAlone (out-Agg agg)) }
+{
+    Ok(Agg {
+        name: Text::of(alloc, "t")?,
+        kind: Kind::Terms {
+            field: 0,
+            size: 1,
+            shard_size: 1,
+            min_doc_count: 1,
+            order: one(alloc, order)?,
+            include: None,
+            exclude: List::new(alloc),
+            missing: None,
+            show_error: true,
+        },
+        children: List::new(alloc),
+    })
+}
+
+fn sample_of(
+    alloc: Global,
+    order: Order,
+    a: u32,
+    a_covered: u32,
+    b: u32,
+    b_covered: u32,
+    cut: u32,
+) -> Result<Sample, AllocError>
+    ensures { IfOk result (λ sample. IsTrue (can_finish sample.search sample.whole)) }
+{
+    Ok(Sample {
+        search: Search {
+            query: Query::All,
+            aggs: one(alloc, first_term(alloc, order)?)?,
+            body_bytes: 0,
+        },
+        whole: Partial {
+            hits: 9,
+            nodes: one(alloc, both(alloc, a, a_covered, b, b_covered, cut)?)?,
+        },
+    })
+}
+
+/// Whether the answer has this one term, with these errors and this number of other documents.
+fn has_one(node: &NodeAnswer, word: &str, count: u64, errors: (i64, i64), other: u64) -> bool {
+    let is_only = match node.buckets.as_slice() {
+        [bucket] => {
+            let is_key = match &bucket.key {
+                Key::Word(text) => text.as_str() == word,
+                _ => false,
+            };
+            is_key && bucket.count == count && bucket.error == Some(errors.0)
+        }
+        _ => false,
+    };
+    is_only && node.error == errors.1 && node.other == other
+}
+
+#[test]
+fn two_shards_cut_to_one_term_leave_an_error(rt: HostRuntime) -> Result<(), Fail> {
+    let order = Order {
+        by: OrderBy::Count,
+        descending: true,
+    };
+    let Sample { search, whole } = sample_of(rt.alloc(), order, 3, 3, 3, 3, 3)?;
+    match finish(rt.alloc(), &search, 1, whole) {
+        Ok(answer) => match answer.nodes.as_slice() {
+            [node] => assert!(rt; has_one(node, "a", 3, (3, 6), 6)),
+            _ => assert!(rt; false),
+        },
+        Err(_) => assert!(rt; false),
+    }
+    Ok(())
+}
+
+#[test]
+fn by_rising_count_the_error_is_unknown(rt: HostRuntime) -> Result<(), Fail> {
+    let order = Order {
+        by: OrderBy::Count,
+        descending: false,
+    };
+    let Sample { search, whole } = sample_of(rt.alloc(), order, 1, 1, 2, 2, 6)?;
+    match finish(rt.alloc(), &search, 1, whole) {
+        Ok(answer) => match answer.nodes.as_slice() {
+            [node] => assert!(rt; has_one(node, "a", 1, (-1, -1), 8)),
+            _ => assert!(rt; false),
+        },
+        Err(_) => assert!(rt; false),
+    }
+    Ok(())
+}

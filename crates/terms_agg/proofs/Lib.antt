@@ -1,0 +1,2 @@
+pub mod LastLaws
+pub mod TrimLaws

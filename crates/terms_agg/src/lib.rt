@@ -1,0 +1,6 @@
+//! The terms that a shard answers (Elasticsearch Reference 8, 'Terms aggregation').
+#![tactic(auto)]
+
+#[cfg(test)]
+mod tests;
+pub mod trim;
