@@ -1,0 +1,53 @@
+-- Folds of aggregations and of keys, one level at a time.
+use Rattle.std.specs.Prelude.{◌≡◌, refl, ℕ, ◌&&◌, List, [], ◌∷◌, ◌++◌, map, flat_map, codes}
+use Rattle.std.specs.List.{list_all}
+use Rattle.std.proofs.Common.{sym, ◌∙◌, ap}
+use Rattle.serde_json.specs.Data.{Data}
+use Rattle.agg_model.specs.declared.key.Key.{Key}
+use Rattle.agg_model.specs.declared.key.Key.TheVariants as key
+use Rattle.agg_model.specs.declared.aggregation.Kind.{Kind}
+use Rattle.agg_model.specs.declared.aggregation.Agg.{Agg, Agg', out-Agg, roll-Agg, roll-out-Agg}
+use Rattle.agg_model.specs.declared.aggregation.Agg.TheOpen.{Agg-F}
+use Rattle.agg_evaluation.specs.Folds.{fold_agg, fold_aggs, fold_key}
+use Rattle.agg_evaluation.proofs.FoldLaws.{fold_key-Many}
+use Rattle.agg_evaluation.proofs.Computing.{computing}
+use Rattle.agg_model.specs.declared.answer.NodeAnswer.{NodeAnswer, out-NodeAnswer}
+use Rattle.agg_spec.specs.AnswerTree.{Printer, printer, tree_at}
+use Rattle.agg_spec.specs.RangeCheck.{Checker, checker, check_bucket, unless, sum_in_range, key_in_range, part_in_range}
+
+module _ {A : Type 0} (step : Agg-F A → A) where
+  abbrev parts : Agg → List A
+  parts (Agg' name kind n children) = fold_aggs step children
+
+  parts-roll : (name : List ℕ) (kind : Kind) (children : List Agg) → parts (roll-Agg (record { name = name; kind = kind; children = children })) ≡ map (fold_agg step) children
+  unfolding computing
+  parts-roll name kind [] = refl
+  parts-roll name kind (a ∷ rest) = ap (λ xs. fold_agg step a ∷ xs) (parts-roll name kind rest)
+
+  fold_agg-roll : (name : List ℕ) (kind : Kind) (children : List Agg)
+      → fold_agg step (roll-Agg (record { name = name; kind = kind; children = children })) ≡ step (record { name = name; kind = kind; children = map (fold_agg step) children })
+  unfolding computing
+  fold_agg-roll name kind children = ap (λ xs. step (record { name = name; kind = kind; children = xs })) (parts-roll name kind children)
+
+  pub fold_agg-level : (a : Agg) → fold_agg step a ≡ step (record { name = (out-Agg a).name; kind = (out-Agg a).kind; children = map (fold_agg step) (out-Agg a).children })
+  fold_agg-level a = ap (fold_agg step) (sym (roll-out-Agg a)) ∙ fold_agg-roll (out-Agg a).name (out-Agg a).kind (out-Agg a).children
+
+all_true : (ks : List Key) → list_all (λ b. b) (map key_in_range ks) ≡ list_all key_in_range ks
+all_true [] = refl
+all_true (k ∷ ks) = ap (λ b. key_in_range k && b) (all_true ks)
+
+pub key_in_range-Many : (ks : List Key) → key_in_range (key.Many ks) ≡ list_all key_in_range ks
+key_in_range-Many ks = fold_key-Many part_in_range ks ∙ all_true ks
+
+pub printer-level : (a : Agg) (n : NodeAnswer) → printer a n ≡ tree_at (map printer (out-Agg a).children) (out-Agg a).kind (out-NodeAnswer n)
+printer-level a n = ap (λ (p : Printer). p n) (fold_agg-level (λ x m. tree_at x.children x.kind (out-NodeAnswer m)) a)
+
+pub checker-level : (a : Agg) (n : NodeAnswer) → checker a n ≡ map (λ path. codes "/" ++ ((out-Agg a).name ++ path))
+    (unless (sum_in_range (out-Agg a).kind (out-NodeAnswer n).metric.sum) [] ++ flat_map (check_bucket (map checker (out-Agg a).children)) (out-NodeAnswer n).buckets)
+checker-level a n = ap (λ (p : Checker). p n) (fold_agg-level (λ x m. map (λ path. codes "/" ++ (x.name ++ path))
+    (unless (sum_in_range x.kind (out-NodeAnswer m).metric.sum) [] ++ flat_map (check_bucket x.children) (out-NodeAnswer m).buckets)) a)
+
+-- a tree that depends on the kind alone is the answer's tree where the kind is known
+pub printer-kind : (a : Agg) (n : NodeAnswer) (k : Kind) (tree : Kind → Data) → (out-Agg a).kind ≡ k → tree k ≡ tree_at (map printer (out-Agg a).children) k (out-NodeAnswer n) → tree (out-Agg a).kind ≡ printer a n
+printer-kind a n k tree e same =
+    ap tree e ∙ same ∙ sym (ap (λ j. tree_at (map printer (out-Agg a).children) j (out-NodeAnswer n)) e) ∙ sym (printer-level a n)

@@ -1,0 +1,10 @@
+pub mod NoFloat
+pub mod BulkText
+pub mod WholeNumbers
+pub mod Levels
+pub mod Places
+pub mod InRange
+pub mod PutLaws
+pub mod SixDigits
+pub mod LastItem
+pub mod Sizes

@@ -1,0 +1,58 @@
+-- Members put one after another while a loop goes through a list: what is left of the list answers for all of it.
+use Rattle.std.specs.Prelude.{◌≡◌, refl, ℕ, ◌+◌, List, [], ◌∷◌, ◌++◌, map, flat_map, codes}
+use Rattle.std.proofs.Common.{◌∙◌, ap, sym, drop, append_assoc}
+use Rattle.serde_json.specs.Data.{Data, Members}
+use Rattle.serde_json.specs.Data.{put as with_member}
+use Rattle.agg_model.specs.declared.answer.BucketAnswer.{BucketAnswer, out-BucketAnswer}
+use Rattle.agg_model.specs.declared.answer.NodeAnswer.{NodeAnswer, out-NodeAnswer}
+use Rattle.agg_model.specs.declared.aggregation.Agg.{Agg}
+use Rattle.agg_spec.specs.AnswerTree.{Printer, printer, named_answers, bucket_members}
+use Rattle.agg_spec.specs.Json.{Member, with_members, count}
+
+pub with_members-append : (xs ys : List Member) (ms : Members) → with_members (xs ++ ys) ms ≡ with_members ys (with_members xs ms)
+with_members-append [] ys ms = refl
+with_members-append (x ∷ xs) ys ms = with_members-append xs ys (with_member x.0 x.1 ms)
+
+-- a bucket's own members and then the answers below it are all its members
+pub bucket_made : (children : List Printer) (own : List Member) (b : BucketAnswer) (ms : Members)
+    → with_members (named_answers children (out-BucketAnswer b).children) (with_members ((codes "doc_count", count (out-BucketAnswer b).count) ∷ own) ms)
+    ≡ with_members (bucket_members children own b) ms
+bucket_made children own b ms =
+    sym (with_members-append own (named_answers children (out-BucketAnswer b).children) (with_member (codes "doc_count") (count (out-BucketAnswer b).count) ms))
+
+put_as : (name name' : List ℕ) (d d' : Data) (old new : Members) → name ≡ name' → d ≡ d' → new ≡ with_member name d old → new ≡ with_member name' d' old
+put_as name name' d d' old new n v put = put ∙ ap (λ m. with_member m d old) n ∙ ap (λ e. with_member name' e old) v
+
+module _ {X : Type 0} (g : X → Member) where
+  pub mapped_here : (xs : List X) (i : ℕ) (x : X) (name : List ℕ) (d : Data) (old new : Members)
+      → drop i xs ≡ x ∷ drop (i + 1) xs → name ≡ (g x).0 → d ≡ (g x).1 → new ≡ with_member name d old
+      → with_members (map g (drop (i + 1) xs)) new ≡ with_members (map g (drop i xs)) old
+  mapped_here xs i x name d old new p n v put =
+      ap (with_members (map g (drop (i + 1) xs))) (put_as name _ d _ old new n v put) ∙ sym (ap (λ zs. with_members (map g zs) old) p)
+
+module _ {X : Type 0} (g : X → List Member) where
+  pub flat_here : (xs : List X) (i : ℕ) (x : X) (old new : Members) → drop i xs ≡ x ∷ drop (i + 1) xs → new ≡ with_members (g x) old
+      → with_members (flat_map g (drop (i + 1) xs)) new ≡ with_members (flat_map g (drop i xs)) old
+  flat_here xs i x old new p put =
+      ap (with_members (flat_map g (drop (i + 1) xs))) put ∙ sym (with_members-append (g x) (flat_map g (drop (i + 1) xs)) old)
+      ∙ sym (ap (λ zs. with_members (flat_map g zs) old) p)
+
+module _ {X : Type 0} (f : X → Data) where
+  pub listed_here : (xs : List X) (i : ℕ) (x : X) (d : Data) (old new : List Data) → drop i xs ≡ x ∷ drop (i + 1) xs → d ≡ f x → new ≡ old ++ d ∷ []
+      → new ++ map f (drop (i + 1) xs) ≡ old ++ map f (drop i xs)
+  listed_here xs i x d old new p v push =
+      ap (λ zs. zs ++ map f (drop (i + 1) xs)) push ∙ append_assoc old (d ∷ []) (map f (drop (i + 1) xs))
+      ∙ ap (λ e. old ++ e ∷ map f (drop (i + 1) xs)) v ∙ sym (ap (λ zs. old ++ map f zs) p)
+
+abbrev pub answers_put : List Agg → List NodeAnswer → Members → Members
+answers_put aggs nodes ms = with_members (named_answers (map printer aggs) nodes) ms
+
+pub answers_here : (aggs : List Agg) (nodes : List NodeAnswer) (i : ℕ) (a : Agg) (n : NodeAnswer) (name : List ℕ) (d : Data) (old new : Members)
+    → drop i aggs ≡ a ∷ drop (i + 1) aggs → drop i nodes ≡ n ∷ drop (i + 1) nodes → name ≡ (out-NodeAnswer n).name → d ≡ printer a n → new ≡ with_member name d old
+    → answers_put (drop (i + 1) aggs) (drop (i + 1) nodes) new ≡ answers_put (drop i aggs) (drop i nodes) old
+answers_here aggs nodes i a n name d old new p q named v put =
+    ap (answers_put (drop (i + 1) aggs) (drop (i + 1) nodes)) (put_as name _ d _ old new named v put)
+    ∙ sym (ap (λ zs. answers_put zs (drop i nodes) old) p ∙ ap (λ zs. answers_put (a ∷ drop (i + 1) aggs) zs old) q)
+
+pub answers_end : (a : Agg) (aggs more : List Agg) (nodes : List NodeAnswer) (ms : Members) → aggs ≡ a ∷ more → nodes ≡ [] → answers_put aggs nodes ms ≡ ms
+answers_end a aggs more nodes ms p q = ap (λ zs. answers_put zs nodes ms) p ∙ ap (λ zs. answers_put (a ∷ more) zs ms) q

@@ -1,0 +1,166 @@
+//! The lines of refused searches, and the last line of a run that ends early.
+ghost use Rattle.std.specs.Prelude.{◌≡◌, IfOk, codes, [], ◌∷◌, string_bytes};
+ghost use Rattle.serde_json.specs.Data.{object, no_members};
+ghost use Rattle.serde_json.specs.View.{members_view};
+ghost use Rattle.serde_json.specs.Written.{compact_text};
+ghost use Rattle.agg_spec.specs.Json.{object_of, count, with_members};
+ghost use Rattle.agg_spec.specs.EndLines as definition;
+ghost use Rattle.agg_spec.specs.ErrorLines.{breaker_name as name_of_breaker, durability as durability_of, breaker_reason, exception_line, refusal_members as members_of_refusal, refusal_line};
+
+use crate::json::Object;
+use agg_model::breaker::{Tripped, Which};
+use agg_model::outcome::Refused;
+use agg_model::settings::Usage;
+use agg_model::text::Text;
+use std::alloc::{AllocError, Global};
+
+/// The line of an error with these members.
+fn error_line(alloc: Global, members: Object, status: u16) -> Result<Text, AllocError>
+    ensures { IfOk result (λ t. t ≡ compact_text (object_of
+        ((codes "error", object (members_view members.members.entries)) ∷ (codes "status", count status) ∷ []))) }
+{
+    let line = Object::new(alloc)
+        .with(alloc, "error", members.into_json())?
+        .with_count(alloc, "status", u64::from(status))?;
+    line.into_json().text(alloc)
+}
+
+/// The name of a breaker.
+pub(crate) fn breaker_name(which: Which) -> &'static str
+    ensures { result.now ≡ name_of_breaker which }
+{
+    match which {
+        Which::Request => "request",
+        Which::Fielddata => "fielddata",
+        Which::Inflight => "inflight_requests",
+        Which::Parent => "parent",
+    }
+}
+
+/// Whether a later try can help.
+fn durability(which: Which) -> &'static str
+    ensures { result.now ≡ durability_of which }
+{
+    match which {
+        Which::Fielddata => "PERMANENT",
+        Which::Request | Which::Inflight | Which::Parent => "TRANSIENT",
+    }
+}
+
+/// What a breaker says of the charge that it refused.
+fn reason(alloc: Global, tripped: &Tripped, label: &str) -> Result<String, AllocError>
+    ensures { IfOk result (λ s. string_bytes s ≡ breaker_reason tripped.now label.now) }
+{
+    let name = breaker_name(tripped.which);
+    let (wanted, limit) = (tripped.wanted, tripped.limit);
+    format!(in alloc;
+        "[{name}] Data too large, data for [{label}] would be [{wanted}b], which is larger than the limit of [{limit}b]"
+    )
+}
+
+/// The line of a charge that a breaker refused. `label` says what the bytes were for, `search` or `columns`; `status` is
+/// 429 for a search and the program's exit status for columns.
+pub fn exception(
+    alloc: Global,
+    tripped: &Tripped,
+    label: &str,
+    status: u16,
+) -> Result<Text, AllocError>
+    ensures { IfOk result (λ t. t ≡ exception_line tripped.now label.now status) }
+{
+    let members = Object::new(alloc)
+        .with_count(alloc, "bytes_limit", tripped.limit)?
+        .with_count(alloc, "bytes_wanted", tripped.wanted)?
+        .with_text(alloc, "durability", durability(tripped.which))?
+        .with_text(alloc, "reason", reason(alloc, tripped, label)?.as_str())?
+        .with_text(alloc, "type", "circuit_breaking_exception")?;
+    error_line(alloc, members, status)
+}
+
+/// The members of a refusal.
+fn refusal_members(alloc: Global, refused: &Refused) -> Result<Object, AllocError>
+    ensures { IfOk result (λ o. members_view o.members.entries ≡ with_members (members_of_refusal refused.now) no_members) }
+{
+    let members = Object::new(alloc);
+    match refused {
+        Refused::NotJson => members
+            .with_text(alloc, "reason", "the body is not JSON")?
+            .with_text(alloc, "type", "parsing_exception"),
+        Refused::Bad { code, path } => members
+            .with_count(alloc, "code", u64::from(*code))?
+            .with_text(alloc, "path", path.as_str())?
+            .with_text(alloc, "reason", "bad request")?
+            .with_text(alloc, "type", "parsing_exception"),
+        Refused::TooManyBuckets { count, max } => members
+            .with_count(alloc, "count", *count)?
+            .with_count(alloc, "max_buckets", *max)?
+            .with_text(alloc, "reason", "too many buckets")?
+            .with_text(alloc, "type", "too_many_buckets_exception"),
+        Refused::SumRange { path } => members
+            .with_text(alloc, "path", path.as_str())?
+            .with_text(alloc, "reason", "a number is outside 64 bits")?
+            .with_text(alloc, "type", "number_range_exception"),
+        Refused::TooWide => members
+            .with_text(alloc, "reason", "the search is too wide")?
+            .with_text(alloc, "type", "too_wide_exception"),
+    }
+}
+
+/// The line of a refused search.
+pub fn refusal(alloc: Global, refused: &Refused) -> Result<Text, AllocError>
+    ensures { IfOk result (λ t. t ≡ refusal_line refused.now) }
+{
+    let members = refusal_members(alloc, refused)?;
+    error_line(alloc, members, 400)
+}
+
+/// The last line of a run whose words are outside the grammar.
+pub fn usage_line(alloc: Global, usage: &Usage) -> Result<Text, AllocError>
+    ensures { IfOk result (λ t. t ≡ definition.usage_line usage.now) }
+{
+    let members = Object::new(alloc)
+        .with_text(alloc, "key", usage.key.as_str())?
+        .with_text(alloc, "type", "usage")?
+        .with_text(alloc, "value", usage.value.as_str())?;
+    error_line(alloc, members, 2)
+}
+
+/// The error type of a refused script; empty for a number that refuses none.
+fn script_type(number: u8) -> &'static str
+    ensures { result.now ≡ definition.script_type number }
+{
+    match number {
+        29 => "not_built",
+        30 => "line_too_long",
+        31 => "bad_index_line",
+        32 => "malformed_action",
+        33 => "update_not_supported",
+        34 => "missing_source",
+        35 => "too_many_documents",
+        36 => "missing_body",
+        37 => "input_too_long",
+        38 => "missing_section",
+        39 => "bad_header",
+        _ => "",
+    }
+}
+
+/// The refusal that tells where in the index line it lies.
+const BAD_INDEX_LINE: u8 = 31;
+
+/// The last line of a run whose script is refused: the refusal's number (29 to 39), the line where it was found, counted
+/// from 1, and the JSON pointer in the index line, which prints for number 31 alone.
+pub fn script_line(alloc: Global, number: u8, line: u64, path: &Text) -> Result<Text, AllocError>
+    ensures { IfOk result (λ t. t ≡ definition.script_line number line path.now) }
+{
+    let members = Object::new(alloc)
+        .with_count(alloc, "line", line)?
+        .with_count(alloc, "number", u64::from(number))?;
+    let located = if number == BAD_INDEX_LINE {
+        members.with_text(alloc, "path", path.as_str())?
+    } else {
+        members
+    };
+    let members = located.with_text(alloc, "type", script_type(number))?;
+    error_line(alloc, members, 5)
+}

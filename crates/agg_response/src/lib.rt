@@ -1,0 +1,20 @@
+//! The lines that the program prints, each exactly the text that its definition gives: the answers to bulk actions,
+//! refusals, breakers' exceptions, statistics, and the last line of a run that ends early.
+#![tactic(auto)]
+
+mod answers;
+mod buckets;
+mod bulk;
+mod errors;
+mod json;
+mod keys;
+mod numbers;
+mod search_line;
+mod statistics;
+#[cfg(test)]
+mod tests;
+
+pub use bulk::bulk_line;
+pub use errors::{exception, refusal, script_line, usage_line};
+pub use search_line::response;
+pub use statistics::stats_line;

@@ -1,0 +1,97 @@
+//! The line that answers a search.
+ghost use Rattle.std.specs.Prelude.{◌≡◌, ◌∷◌, [], IfOk, None, codes, false};
+ghost use Rattle.serde_json.specs.Data.{object, boolean};
+ghost use Rattle.serde_json.specs.View.{view, members_view};
+ghost use Rattle.serde_json.specs.Written.{compact_text};
+ghost use Rattle.agg_spec.specs.Json.{with_members, count};
+ghost use Rattle.agg_spec.specs.RangeCheck.{out_of_range};
+ghost use Rattle.agg_spec.specs.Response as definition;
+
+use crate::answers::with_answers;
+use crate::json::{Array, Json, Object, flag_value, text_value};
+use crate::numbers::null_value;
+use agg_model::aggregation::Search;
+use agg_model::answer::Answer;
+use agg_model::text::Text;
+use std::alloc::{AllocError, Global};
+
+/// The shards that answered, all of them.
+fn shards_value(alloc: Global, shards: u32) -> Result<Json, AllocError>
+    ensures { IfOk result (λ j. view j.value ≡ (definition.shards_member shards).1) }
+{
+    let shards = u64::from(shards);
+    Ok(
+        Object::new(alloc)
+            .with_count(alloc, "failed", 0)?
+            .with_count(alloc, "skipped", 0)?
+            .with_count(alloc, "successful", shards)?
+            .with_count(alloc, "total", shards)?
+            .into_json(),
+    )
+}
+
+/// The exact number of documents found, none of which is shown.
+fn hits_value(alloc: Global, hits: u64) -> Result<Json, AllocError>
+    ensures { IfOk result (λ j. view j.value ≡ (definition.hits_member hits).1) }
+{
+    let total = Object::new(alloc)
+        .with_text(alloc, "relation", "eq")?
+        .with_count(alloc, "value", hits)?;
+    Ok(
+        Object::new(alloc)
+            .with(alloc, "hits", Array::new(alloc).into_json())?
+            .with(alloc, "max_score", null_value())?
+            .with(alloc, "total", total.into_json())?
+            .into_json(),
+    )
+}
+
+/// The object with the answers to the aggregations, where the search has one.
+fn with_aggregations(
+    alloc: Global,
+    object: Object,
+    search: &Search,
+    answer: &Answer,
+) -> Result<Object, AllocError>
+    requires { out_of_range search.now answer.now ≡ None }
+    ensures { IfOk result (λ o. members_view o.members.entries
+        ≡ with_members (definition.aggregations search.now.aggs answer.now.nodes) (members_view object.members.entries)) }
+{
+    if search.aggs.is_empty() {
+        return Ok(object);
+    }
+    let answers = with_answers(alloc, &answer.nodes, &search.aggs, Object::new(alloc))?;
+    object.with(alloc, "aggregations", answers.into_json())
+}
+
+/// The line of an object with these members and those that stand behind the aggregations, the hits first.
+fn finished(alloc: Global, members: Object, hits: Json) -> Result<Text, AllocError>
+    ensures { IfOk result (λ t. t ≡ compact_text (object (with_members
+        ((codes "hits", view hits.value) ∷ (codes "status", count 200) ∷ (codes "timed_out", boolean false)
+        ∷ (codes "took", count 0) ∷ []) (members_view members.members.entries)))) }
+{
+    members
+        .with(alloc, "hits", hits)?
+        .with_count(alloc, "status", 200)?
+        .with(alloc, "timed_out", flag_value(false))?
+        .with_count(alloc, "took", 0)?
+        .into_json()
+        .text(alloc)
+}
+
+/// The line of the final answer to a search over so many shards. Only numbers of 64 bits can be printed, so an answer
+/// with a wider sum or key is refused before.
+pub fn response(
+    alloc: Global,
+    search: &Search,
+    answer: &Answer,
+    shards: u32,
+) -> Result<Text, AllocError>
+    requires { out_of_range search.now answer.now ≡ None }
+    ensures { IfOk result (λ t. t ≡ definition.response_line search.now shards answer.now) }
+{
+    let opened = Object::new(alloc).with(alloc, "_shards", shards_value(alloc, shards)?)?;
+    let answered = with_aggregations(alloc, opened, search, answer)?;
+    let hits = hits_value(alloc, answer.hits)?;
+    finished(alloc, answered, hits)
+}

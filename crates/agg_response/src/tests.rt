@@ -1,0 +1,152 @@
+use crate::{bulk_line, exception, refusal, script_line, stats_line, usage_line};
+use agg_model::breaker::{BreakerStats, Totals, Tripped, Which};
+use agg_model::bulk::{ActionKind, Applied, Item, ItemEnd, ItemRefusal};
+use agg_model::list::List;
+use agg_model::outcome::Refused;
+use agg_model::settings::Usage;
+use agg_model::text::Text;
+use std::alloc::{AllocError, Global};
+use std::test::Fail;
+
+fn item(alloc: Global, kind: ActionKind, id: &str, end: ItemEnd) -> Result<Item, AllocError> {
+    Ok(Item {
+        kind,
+        id: Text::of(alloc, id)?,
+        end,
+    })
+}
+
+/// A create, the same again, and the delete of an id that is not there.
+fn items(alloc: Global) -> Result<List<Item>, AllocError> {
+    let refused = ItemEnd::Refused(ItemRefusal {
+        number: 26,
+        path: Text::of(alloc, "")?,
+    });
+    let created = ItemEnd::Applied(Applied::Created);
+    let missing = ItemEnd::Applied(Applied::NotFound);
+    let mut items = List::new(alloc);
+    items.push(item(alloc, ActionKind::Create, "1", created)?)?;
+    items.push(item(alloc, ActionKind::Create, "1", refused)?)?;
+    items.push(item(alloc, ActionKind::Delete, "9", missing)?)?;
+    Ok(items)
+}
+
+#[test]
+fn a_bulk_line_lists_each_item_with_its_end(rt: HostRuntime) -> Result<(), Fail> {
+    let index = Text::of(rt.alloc(), "i")?;
+    let line = bulk_line(rt.alloc(), &index, &items(rt.alloc())?, false)?;
+    let wanted =
+        "{\"errors\":true,\"items\":[{\"create\":{\"_id\":\"1\",\"_index\":\"i\",\"result\":\"created\",\"status\":201}},{\"create\":{\"_id\":\"1\",\"_index\":\"i\",\"error\":{\"number\":26,\"type\":\"version_conflict_engine_exception\"},\"status\":409}},{\"delete\":{\"_id\":\"9\",\"_index\":\"i\",\"result\":\"not_found\",\"status\":404}}],\"took\":0}";
+    assert!(rt; line.as_str() == wanted);
+    let none = bulk_line(rt.alloc(), &index, &List::new(rt.alloc()), false)?;
+    assert!(rt; none.as_str() == "{\"errors\":false,\"items\":[],\"took\":0}");
+    Ok(())
+}
+
+#[test]
+fn a_bulk_line_of_a_generated_script_counts_the_items(rt: HostRuntime) -> Result<(), Fail> {
+    let index = Text::of(rt.alloc(), "generated")?;
+    let line = bulk_line(rt.alloc(), &index, &items(rt.alloc())?, true)?;
+    assert!(rt; line.as_str() == "{\"errors\":true,\"items\":3,\"took\":0}");
+    Ok(())
+}
+
+#[test]
+fn an_exception_names_the_breaker_and_the_bytes(rt: HostRuntime) -> Result<(), Fail> {
+    let tripped = Tripped {
+        which: Which::Request,
+        wanted: 4866,
+        limit: 4865,
+    };
+    let line = exception(rt.alloc(), &tripped, "search", 429)?;
+    let wanted =
+        "{\"error\":{\"bytes_limit\":4865,\"bytes_wanted\":4866,\"durability\":\"TRANSIENT\",\"reason\":\"[request] Data too large, data for [search] would be [4866b], which is larger than the limit of [4865b]\",\"type\":\"circuit_breaking_exception\"},\"status\":429}";
+    assert!(rt; line.as_str() == wanted);
+    Ok(())
+}
+
+#[test]
+fn each_refusal_of_a_search_has_its_line(rt: HostRuntime) -> Result<(), Fail> {
+    let line = refusal(rt.alloc(), &Refused::NotJson)?;
+    assert!(rt;
+        line.as_str()
+            == "{\"error\":{\"reason\":\"the body is not JSON\",\"type\":\"parsing_exception\"},\"status\":400}"
+    );
+    let path = Text::of(rt.alloc(), "/aggs/t/terms/field")?;
+    let line = refusal(rt.alloc(), &Refused::Bad { code: 108, path })?;
+    assert!(rt;
+        line.as_str()
+            == "{\"error\":{\"code\":108,\"path\":\"/aggs/t/terms/field\",\"reason\":\"bad request\",\"type\":\"parsing_exception\"},\"status\":400}"
+    );
+    let many = Refused::TooManyBuckets {
+        count: 10000000001,
+        max: 65536,
+    };
+    let line = refusal(rt.alloc(), &many)?;
+    assert!(rt;
+        line.as_str()
+            == "{\"error\":{\"count\":10000000001,\"max_buckets\":65536,\"reason\":\"too many buckets\",\"type\":\"too_many_buckets_exception\"},\"status\":400}"
+    );
+    let path = Text::of(rt.alloc(), "/s")?;
+    let line = refusal(rt.alloc(), &Refused::SumRange { path })?;
+    assert!(rt;
+        line.as_str()
+            == "{\"error\":{\"path\":\"/s\",\"reason\":\"a number is outside 64 bits\",\"type\":\"number_range_exception\"},\"status\":400}"
+    );
+    let line = refusal(rt.alloc(), &Refused::TooWide)?;
+    assert!(rt;
+        line.as_str()
+            == "{\"error\":{\"reason\":\"the search is too wide\",\"type\":\"too_wide_exception\"},\"status\":400}"
+    );
+    Ok(())
+}
+
+#[test]
+fn a_run_that_ends_early_says_why(rt: HostRuntime) -> Result<(), Fail> {
+    let usage = Usage {
+        key: Text::of(rt.alloc(), "--workers")?,
+        value: Text::of(rt.alloc(), "0")?,
+    };
+    let line = usage_line(rt.alloc(), &usage)?;
+    assert!(rt;
+        line.as_str()
+            == "{\"error\":{\"key\":\"--workers\",\"type\":\"usage\",\"value\":\"0\"},\"status\":2}"
+    );
+    let path = Text::of(rt.alloc(), "/mappings/properties/x/type")?;
+    let line = script_line(rt.alloc(), 31, 1, &path)?;
+    assert!(rt;
+        line.as_str()
+            == "{\"error\":{\"line\":1,\"number\":31,\"path\":\"/mappings/properties/x/type\",\"type\":\"bad_index_line\"},\"status\":5}"
+    );
+    let line = script_line(rt.alloc(), 33, 3, &Text::of(rt.alloc(), "")?)?;
+    assert!(rt;
+        line.as_str()
+            == "{\"error\":{\"line\":3,\"number\":33,\"type\":\"update_not_supported\"},\"status\":5}"
+    );
+    Ok(())
+}
+
+fn numbers(limit: u64, granted: u64, overhead: u32) -> BreakerStats {
+    BreakerStats {
+        limit,
+        estimated: 0,
+        granted,
+        overhead,
+        tripped: 0,
+    }
+}
+
+#[test]
+fn statistics_have_the_numbers_of_each_breaker(rt: HostRuntime) -> Result<(), Fail> {
+    let stats = Totals {
+        request: numbers(644245094, 4873, 100),
+        fielddata: numbers(429496729, 0, 103),
+        inflight: numbers(1073741824, 76, 200),
+        parent: numbers(751619276, 4949, 100),
+    };
+    let line = stats_line(rt.alloc(), &stats)?;
+    let wanted =
+        "{\"breakers\":{\"fielddata\":{\"estimated_size_in_bytes\":0,\"granted_size_in_bytes\":0,\"limit_size_in_bytes\":429496729,\"overhead_percent\":103,\"tripped\":0},\"inflight_requests\":{\"estimated_size_in_bytes\":0,\"granted_size_in_bytes\":76,\"limit_size_in_bytes\":1073741824,\"overhead_percent\":200,\"tripped\":0},\"parent\":{\"estimated_size_in_bytes\":0,\"granted_size_in_bytes\":4949,\"limit_size_in_bytes\":751619276,\"overhead_percent\":100,\"tripped\":0},\"request\":{\"estimated_size_in_bytes\":0,\"granted_size_in_bytes\":4873,\"limit_size_in_bytes\":644245094,\"overhead_percent\":100,\"tripped\":0}}}";
+    assert!(rt; line.as_str() == wanted);
+    Ok(())
+}
