@@ -1,0 +1,10 @@
+mod AnswerLemmas
+mod DocumentLemmas
+mod LineLemmas
+mod LoadLemmas
+mod NameLemmas
+mod OutputLemmas
+mod RunLemmas
+mod ScriptLemmas
+mod SearchLemmas
+mod WriteLemmas

@@ -1,0 +1,253 @@
+-- A line that a reader hands out is the next line of the script, and is refused alike.
+use Rattle.std.proofs.Common.{◌≡◌, ◌≢◌, ◌⊎◌, ◌<◌, ◌≤◌, ◌==◌, ◌+◌, ◌-◌, ◌&&◌, ◌||◌, not, min, ℕ, zero, suc, Bool, true, false, List, [], ◌∷◌, ◌++◌, Option, Some, None, Result, Ok, Err, refl, sym, ap, subst, ◌∙◌, append_assoc, append-nil, length, length-append, inl, inr, ⊎_elim, arith}
+use Rattle.std.specs.Prelude.{IfSome, IfNone, option_map, nat_lt, nat_le, ⊤}
+use Rattle.std.specs.Io.KnownBytes.{prepend_known, IsAtEnd}
+use Rattle.std.proofs.lemmas.Bool.{cond-true, cond-false, cond_both, lt-ltb, le-ltb, le-leb, lt-leb, ltb-true, leb-true, cases_lt, cases_Bool, and_parts, and_from, and_left, and_right, not-true, ne_eqb}
+use Rattle.std.specs.Str.{bytes_eq}
+use Rattle.agg_base.specs.Cut.{newline, IsPlain, Answers, IsLine, first_line, whole_line, next_of, fault_of, or_fault}
+use Rattle.agg_base.specs.declared.lines.LineFault.{LineFault}
+use Rattle.agg_base.specs.declared.lines.LineFault.TheVariants.{Read, LineTooLong, InputTooLong, Memory}
+use Rattle.agg_base.specs.declared.limits.TheConstants.{MAX_LINE, MAX_INPUT}
+use Rattle.agg_reading.specs.Lines.{Line, Place, lines, with_byte, line_fault, is_beyond, past, max_line, max_input}
+use Rattle.agg_program.specs.SmallForm.{within, not_built, unless_fault}
+use Rattle.agg_program.specs.Reading.{Reads, stop_of}
+use Rattle.agg_program.specs.declared.stop.Stop.{Stop}
+use Rattle.agg_program.specs.declared.stop.Stop.TheVariants.{NotBuilt}
+use Rattle.agg_program.specs.declared.stop.Stop.TheVariants as stop
+
+abbrev line_of : List ℕ → ℕ → Line
+line_of text size = record { text = text; size = size }
+
+abbrev place_at : ℕ → ℕ → Place
+place_at number read = record { number = number; read = read }
+
+first_byte : (s : ℕ) (ss : List ℕ) → IsPlain (s ∷ ss) → s == newline ≡ false
+first_byte s ss plain = not-true _ (and_parts _ _ plain).0
+
+other_bytes : (s : ℕ) (ss : List ℕ) → IsPlain (s ∷ ss) → IsPlain ss
+other_bytes s ss plain = (and_parts _ _ plain).1
+
+-- the first line of what has a byte
+pub lines-first : (b : ℕ) (bs : List ℕ) → (ls : List Line) × (lines (b ∷ bs) ≡ line_of (first_line (b ∷ bs)) (length (whole_line (b ∷ bs))) ∷ ls)
+unfolding lines
+lines-first b [] =
+    cond_both (b == newline) (line_of [] 1 ∷ []) (with_byte b []) (λ v. (ls : List Line) × (v ≡ line_of (first_line (b ∷ [])) (length (whole_line (b ∷ []))) ∷ ls))
+    (λ yes. ([], ap (λ l. l ∷ []) (sym (
+      ap (λ t. line_of t (length (whole_line (b ∷ [])))) (cond-true (b == newline) [] (b ∷ []) yes)
+      ∙ ap (λ (t : List ℕ). line_of [] (length t)) (cond-true (b == newline) (b ∷ []) (b ∷ []) yes)))))
+    (λ no. ([], ap (λ l. l ∷ []) (sym (
+      ap (λ t. line_of t (length (whole_line (b ∷ [])))) (cond-false (b == newline) [] (b ∷ []) no)
+      ∙ ap (λ (t : List ℕ). line_of (b ∷ []) (length t)) (cond-false (b == newline) (b ∷ []) (b ∷ []) no)))))
+lines-first b (c ∷ cs) =
+    let more = lines-first c cs in
+    cond_both (b == newline) (line_of [] 1 ∷ lines (c ∷ cs)) (with_byte b (lines (c ∷ cs))) (λ v. (ls : List Line) × (v ≡ line_of (first_line (b ∷ c ∷ cs)) (length (whole_line (b ∷ c ∷ cs))) ∷ ls))
+    (λ yes. (lines (c ∷ cs), ap (λ l. l ∷ lines (c ∷ cs)) (sym (
+      ap (λ t. line_of t (length (whole_line (b ∷ c ∷ cs)))) (cond-true (b == newline) [] (b ∷ first_line (c ∷ cs)) yes)
+      ∙ ap (λ (t : List ℕ). line_of [] (length t)) (cond-true (b == newline) (b ∷ []) (b ∷ whole_line (c ∷ cs)) yes)))))
+    (λ no. (more.0, ap (with_byte b) more.1 ∙ ap (λ l. l ∷ more.0) (
+      ap (λ (n : ℕ). line_of (b ∷ first_line (c ∷ cs)) n) (omega arith)
+      ∙ sym (ap (λ t. line_of t (length (whole_line (b ∷ c ∷ cs)))) (cond-false (b == newline) [] (b ∷ first_line (c ∷ cs)) no)
+        ∙ ap (λ (t : List ℕ). line_of (b ∷ first_line (c ∷ cs)) (length t)) (cond-false (b == newline) (b ∷ []) (b ∷ whole_line (c ∷ cs)) no)))))
+
+-- the lines of what begins with a whole line, and of a last line
+pub lines-line : (line rest : List ℕ) → IsPlain line → lines (line ++ newline ∷ rest) ≡ line_of line (length line + 1) ∷ lines rest
+unfolding lines
+lines-line [] rest plain = refl
+lines-line (s ∷ ss) rest plain =
+    cond-false (s == newline) _ _ (first_byte s ss plain)
+    ∙ ap (with_byte s) (lines-line ss rest (other_bytes s ss plain))
+    ∙ ap (λ (n : ℕ). line_of (s ∷ ss) n ∷ lines rest) (omega arith)
+
+pub lines-last : (line : List ℕ) → IsPlain line → line ≢ [] → lines line ≡ line_of line (length line) ∷ []
+unfolding lines
+lines-last [] plain some = absurd (some refl)
+lines-last (s ∷ []) plain some = cond-false (s == newline) _ _ (first_byte s [] plain)
+lines-last (s ∷ t ∷ ss) plain some =
+    cond-false (s == newline) _ _ (first_byte s (t ∷ ss) plain)
+    ∙ ap (with_byte s) (lines-last (t ∷ ss) (other_bytes s (t ∷ ss) plain) (λ e. absurd cc))
+    ∙ ap (λ (n : ℕ). line_of (s ∷ t ∷ ss) n ∷ []) (omega arith)
+
+-- the two readings of the limits agree
+module _ (number before : ℕ) (text : List ℕ) (size : ℕ) (inside : before ≤ MAX_INPUT) where
+  beyond : MAX_INPUT < before + min size (MAX_LINE + 1) → is_beyond (place_at number before) (line_of text size) ≡ true
+  beyond lt = and_from _ _ (and_from _ _ (le-leb _ _ inside) (lt-ltb _ _ (omega arith))) (le-leb _ _ (omega arith))
+
+  not_beyond : before + min size (MAX_LINE + 1) ≤ MAX_INPUT → is_beyond (place_at number before) (line_of text size) ≡ false
+  not_beyond le =
+      ⊎_elim
+      (λ lt. and_right (nat_le before max_input && nat_lt max_input (before + size)) _ (lt-leb (max_input - before) max_line (omega arith)))
+      (λ ge. and_left _ (nat_le (max_input - before) max_line) (and_right (nat_le before max_input) _ (le-ltb max_input (before + size) ge)))
+      (cases_lt max_input (before + size))
+
+  pub fits : fault_of before (length text) size ≡ None → line_fault (place_at number before) (line_of text size) ≡ None
+  unfolding line_fault
+  fits none =
+      ⊎_elim
+      (λ lt. let e = sym (cond-true _ (Some InputTooLong) _ (lt-ltb _ _ lt)) ∙ none in absurd cc)
+      (λ le. ⊎_elim
+        (λ long. let e = sym (cond-false _ (Some InputTooLong) _ (le-ltb _ _ le) ∙ cond-true _ (Some LineTooLong) None (lt-ltb _ _ long)) ∙ none in absurd cc)
+        (λ short. cond-false _ (Some 37) _ (not_beyond le) ∙ cond-false _ (Some 30) None (le-ltb _ _ short))
+        (cases_lt MAX_LINE (length text)))
+      (cases_lt MAX_INPUT (before + min size (MAX_LINE + 1)))
+
+  pub faulty : (fault : LineFault) → fault_of before (length text) size ≡ Some fault → (n : ℕ) × (line_fault (place_at number before) (line_of text size) ≡ Some n)
+  unfolding line_fault
+  faulty fault is =
+      ⊎_elim
+      (λ lt. (37, cond-true _ (Some 37) _ (beyond lt)))
+      (λ le. ⊎_elim
+        (λ long. (30, cond-false _ (Some 37) _ (not_beyond le) ∙ cond-true _ (Some 30) None (lt-ltb _ _ long)))
+        (λ short. let e = sym (cond-false _ (Some InputTooLong) _ (le-ltb _ _ le) ∙ cond-false _ (Some LineTooLong) None (le-ltb _ _ short)) ∙ is in absurd cc)
+        (cases_lt MAX_LINE (length text)))
+      (cases_lt MAX_INPUT (before + min size (MAX_LINE + 1)))
+
+or_fault-some : (o : Option LineFault) (line text : List ℕ) → or_fault o line ≡ Ok (Some text) → o ≡ None
+or_fault-some None line text e = refl
+or_fault-some (Some f) line text e = absurd cc
+
+or_fault-err : (o : Option LineFault) (line : List ℕ) (fault : LineFault) → or_fault o line ≡ Err fault → o ≡ Some fault
+or_fault-err None line fault e = absurd cc
+or_fault-err (Some f) line fault e = cc
+
+nonempty : (text : List ℕ) → text ≢ [] → 0 < length text
+nonempty [] some = absurd (some refl)
+nonempty (t ∷ ts) some = omega arith
+
+abbrev head_text : List Line → List ℕ
+head_text [] = []
+head_text (l ∷ ls) = l.text
+
+abbrev head_size : List Line → ℕ
+head_size [] = 0
+head_size (l ∷ ls) = l.size
+
+-- a line that was handed out is within the limits
+fault_none : (before : ℕ) (rest text other : List ℕ) (size : ℕ) (ls : List Line) → lines rest ≡ line_of text size ∷ ls → next_of before rest ≡ Ok (Some other) → fault_of before (length text) size ≡ None
+fault_none before [] text other size ls e is = absurd cc
+fault_none before (b ∷ bs) text other size ls e is =
+    let first = lines-first b bs in
+    let same : line_of (first_line (b ∷ bs)) (length (whole_line (b ∷ bs))) ∷ first.0 ≡ line_of text size ∷ ls = sym first.1 ∙ e in
+    let text_same : first_line (b ∷ bs) ≡ text = ap head_text same in
+    let size_same : length (whole_line (b ∷ bs)) ≡ size = ap head_size same in
+    ap (λ (t : List ℕ). fault_of before (length t) size) (sym text_same)
+    ∙ ap (λ (n : ℕ). fault_of before (length (first_line (b ∷ bs))) n) (sym size_same)
+    ∙ or_fault-some _ _ _ is
+
+some_is : (x y : List ℕ) → Some x ≡ Some y → x ≡ y
+some_is x y e = cc
+
+within_limits : (number before : ℕ) (text : List ℕ) (size : ℕ) → before ≤ MAX_INPUT → fault_of before (length text) size ≡ None → within (place_at number before) (line_of text size) ≡ Ok tt
+unfolding within
+within_limits number before text size inside none = ap (unless_fault (number + 1)) (fits number before text size inside none)
+
+module _ (number before : ℕ) (text : List ℕ) (inside : before ≤ MAX_INPUT) (plain : IsPlain text) where
+  -- a line that a newline ends
+  whole_reads : (rest r : List ℕ) (n after : ℕ) → rest ≡ (text ++ newline ∷ []) ++ r → next_of before rest ≡ Ok (Some text) → n ≡ number + 1 → after ≡ before + length text + 1 →
+    Reads (place_at number before) (lines rest) (Ok (Some text)) (place_at n after) (Some (lines r))
+  whole_reads rest r n after e is next_number next_place =
+      let same : lines rest ≡ line_of text (length text + 1) ∷ lines r = ap lines (e ∙ append_assoc text (newline ∷ []) r) ∙ lines-line text r plain in
+      let read : after ≡ before + (length text + 1) = omega arith in
+      (line_of text (length text + 1), lines r, same, refl,
+       within_limits number before text (length text + 1) inside (fault_none before rest text text _ _ same is),
+       ap (λ (k : ℕ). place_at k after) next_number ∙ ap (place_at (number + 1)) read, refl)
+
+  -- a last line without one
+  last_reads : (rest : List ℕ) (n after : ℕ) → rest ≡ text → text ≢ [] → next_of before rest ≡ Ok (Some text) → n ≡ number + 1 → after ≡ before + length text →
+    Reads (place_at number before) (lines rest) (Ok (Some text)) (place_at n after) (Some [])
+  last_reads rest n after e some is next_number next_place =
+      let same : lines rest ≡ line_of text (length text) ∷ [] = ap lines e ∙ lines-last text plain some in
+      (line_of text (length text), [], same, refl,
+       within_limits number before text (length text) inside (fault_none before rest text text _ _ same is),
+       ap (λ (k : ℕ). place_at k after) next_number ∙ ap (place_at (number + 1)) next_place, refl)
+
+lines-nil : lines [] ≡ []
+unfolding lines
+lines-nil = refl
+
+-- a line that was handed out is the next line of the script
+pub reads_some : (number before n after : ℕ) (old new : Option (List ℕ)) (text : List ℕ) → before ≤ MAX_INPUT → IfSome old (λ rest. next_of before rest ≡ Ok (Some text)) →
+  IsLine text old before new after → n ≡ number + 1 → IfSome (option_map lines old) (λ rest. Reads (place_at number before) rest (Ok (Some text)) (place_at n after) (option_map lines new))
+reads_some number before n after None new text inside is line next_number = tt
+reads_some number before n after (Some rest) None text inside is line next_number =
+    ⊎_elim (λ h. let e = h.0 in absurd cc) (λ h. let e = h.1 in absurd cc) line.1
+reads_some number before n after (Some rest) (Some r) text inside is line next_number =
+    ⊎_elim
+    (λ h. whole_reads number before text inside line.0 rest r n after (some_is _ _ h.0) is next_number h.1)
+    (λ h.
+      let empty : r ≡ [] = h.2 in
+      let e : rest ≡ text = some_is _ _ h.1 ∙ ap (λ (t : List ℕ). text ++ t) empty ∙ append-nil text in
+      subst (λ (ls : List Line). Reads (place_at number before) (lines rest) (Ok (Some text)) (place_at n after) (Some ls)) (sym (ap lines empty ∙ lines-nil))
+        (last_reads number before text inside line.0 rest n after e h.0 is next_number h.3))
+    line.1
+
+no_end_at : (o : Option LineFault) (line : List ℕ) → or_fault o line ≡ Ok None → ⊥
+no_end_at None line e = absurd cc
+no_end_at (Some f) line e = absurd cc
+
+no_end : (before b : ℕ) (bs : List ℕ) → next_of before (b ∷ bs) ≡ Ok None → ⊥
+no_end before b bs e = no_end_at _ _ e
+
+-- the end of the input is the end of the script
+pub reads_none : (number before n after : ℕ) (old new : Option (List ℕ)) → IfSome old (λ rest. next_of before rest ≡ Ok None) → new ≡ old → n ≡ number → after ≡ before →
+  IfSome (option_map lines old) (λ rest. Reads (place_at number before) rest (Ok None) (place_at n after) (option_map lines new))
+reads_none number before n after None new is same_rest same_number same_place = tt
+reads_none number before n after (Some []) new is same_rest same_number same_place =
+    (lines-nil, ap (option_map lines) same_rest ∙ ap Some lines-nil, ap (λ (k : ℕ). place_at k after) same_number ∙ ap (place_at number) same_place)
+reads_none number before n after (Some (b ∷ bs)) new is same_rest same_number same_place = absurd (no_end before b bs is)
+
+-- a line beyond the limits is refused where it stands
+pub reads_err : (number before : ℕ) (old : Option (List ℕ)) (fault : LineFault) (line : ℕ) (after : Place) (left : Option (List Line)) → before ≤ MAX_INPUT → line ≡ number + 1 →
+  IfSome old (λ rest. next_of before rest ≡ Err fault) → IfSome (option_map lines old) (λ rest. Reads (place_at number before) rest (Err (NotBuilt line)) after left)
+unfolding within
+reads_err number before None fault line after left inside here is = tt
+reads_err number before (Some []) fault line after left inside here is = absurd cc
+reads_err number before (Some (b ∷ bs)) fault line after left inside here is =
+    let first = lines-first b bs in
+    let found = faulty number before (first_line (b ∷ bs)) (length (whole_line (b ∷ bs))) inside fault (or_fault-err _ _ fault is) in
+    (line_of (first_line (b ∷ bs)) (length (whole_line (b ∷ bs))), first.0, first.1, ap (unless_fault (number + 1)) found.1 ∙ ap (λ (n : ℕ). not_built {A = ⊤} n) (sym here))
+
+pub no_bytes : (bytes : List ℕ) → (length bytes == 0) ≡ bytes_eq bytes []
+no_bytes [] = refl
+no_bytes (b ∷ bs) = ne_eqb _ _ (λ e. omega arith)
+
+pub or-false : (a b : Bool) → a ≡ false → (a || b) ≡ b
+or-false true b e = absurd cc
+or-false false b e = refl
+
+-- an answer that the reader of lines gives
+pub reads_ok : (number before n after : ℕ) (old new : Option (List ℕ)) (next : Option (List ℕ)) → before ≤ MAX_INPUT → IfSome old (λ rest. next_of before rest ≡ Ok next) →
+  IfSome next (λ text. IsLine text old before new after) → IfSome next (λ text. n ≡ number + 1) → IfNone next ((new ≡ old) × (after ≡ before) × (n ≡ number)) →
+  IfSome (option_map lines old) (λ rest. Reads (place_at number before) rest (Ok next) (place_at n after) (option_map lines new))
+reads_ok number before n after old new None inside is line more stays = reads_none number before n after old new is stays.0 stays.2 stays.1
+reads_ok number before n after old new (Some text) inside is line more stays = reads_some number before n after old new text inside is line more
+
+-- a fault of the reader of lines
+pub reads_fault : (number before : ℕ) (old : Option (List ℕ)) (fault : LineFault) (line : ℕ) (after : Place) (left : Option (List Line)) → before ≤ MAX_INPUT → line ≡ number + 1 →
+  IfSome old (λ rest. Answers (next_of before rest) (Err fault)) → IfSome (option_map lines old) (λ rest. Reads (place_at number before) rest (Err (stop_of fault line)) after left)
+reads_fault number before None fault line after left inside here is = tt
+reads_fault number before (Some rest) Read line after left inside here is = tt
+reads_fault number before (Some rest) LineTooLong line after left inside here is = reads_err number before (Some rest) LineTooLong line after left inside here is
+reads_fault number before (Some rest) InputTooLong line after left inside here is = reads_err number before (Some rest) InputTooLong line after left inside here is
+reads_fault number before (Some rest) Memory line after left inside here is = tt
+
+pub read_from_stop : (fault : LineFault) (line : ℕ) → stop_of fault line ≡ stop.Read → fault ≡ Read
+read_from_stop Read line e = refl
+read_from_stop LineTooLong line e = absurd cc
+read_from_stop InputTooLong line e = absurd cc
+read_from_stop Memory line e = absurd cc
+
+pub stop_is_no_write : (fault : LineFault) (line : ℕ) → stop_of fault line ≢ stop.Write
+stop_is_no_write Read line = λ e. absurd cc
+stop_is_no_write LineTooLong line = λ e. absurd cc
+stop_is_no_write InputTooLong line = λ e. absurd cc
+stop_is_no_write Memory line = λ e. absurd cc
+
+pub reads_stop : (number before : ℕ) (old : Option (List ℕ)) (fault : LineFault) (line : ℕ) (answer : Stop) (after : Place) (left : Option (List Line)) → before ≤ MAX_INPUT → line ≡ number + 1 → answer ≡ stop_of fault line →
+  IfSome old (λ rest. Answers (next_of before rest) (Err fault)) → IfSome (option_map lines old) (λ rest. Reads (place_at number before) rest (Err answer) after left)
+reads_stop number before old fault line answer after left inside here same is =
+    subst (λ (s : Stop). IfSome (option_map lines old) (λ rest. Reads (place_at number before) rest (Err s) after left)) (sym same) (reads_fault number before old fault line after left inside here is)
+
+-- a line takes at least one byte
+pub line_moves : (text : List ℕ) (old : Option (List ℕ)) (before : ℕ) (new : Option (List ℕ)) (after : ℕ) → IsLine text old before new after → before < after
+line_moves text old before new after line =
+    ⊎_elim (λ h. let e = h.1 in omega arith) (λ h. let e = h.3 in let some = nonempty text h.0 in omega arith) line.1

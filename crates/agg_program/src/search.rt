@@ -1,0 +1,102 @@
+//! The lines that answer a script.
+ghost use Rattle.std.specs.Prelude.{◌≡◌, ◌≤◌, [], length, map, IfOk};
+ghost use Rattle.agg_spec.specs.EndLines as end;
+ghost use Rattle.document_terms.specs.SmallSearch.{HaveKeywords};
+ghost use Rattle.agg_program.specs.Answers.{search_named, search_line, item_of, loaded_line};
+ghost use Rattle.agg_program.specs.Documents.{max_actions};
+
+use agg_model::aggregation::Search;
+use agg_model::bulk::{ActionKind, Applied, Item, ItemEnd};
+use agg_model::copying::Copying;
+use agg_model::list::List;
+use agg_model::row::Document;
+use agg_model::settings::Usage;
+use agg_model::text::Text;
+use agg_response::{bulk_line, response, script_line, usage_line};
+use document_answer::answer::answer_of;
+use document_terms::search::terms_search;
+use std::alloc::{AllocError, Global};
+
+pub(crate) const BODY_FRONT: &[u8] = b"{\"aggs\":{\"";
+pub(crate) const BODY_BACK: &[u8] = b"\":{\"terms\":{\"field\":\"t\"}}}}";
+
+/// The longest name of an aggregation.
+pub(crate) const MAX_NAME: usize = 512;
+
+/// The refusal of what is not built yet.
+const NOT_BUILT: u8 = 29;
+
+/// The search of a body whose aggregation has this name.
+fn search_named(alloc: Global, name: &Text) -> Result<Search, AllocError>
+    requires { length name.now ≤ MAX_NAME }
+    ensures { IfOk result (λ search. search ≡ search_named name.now) }
+{
+    let bytes = BODY_FRONT.len() + name.len() + BODY_BACK.len();
+    terms_search(alloc, name.as_str(), bytes as u64)
+}
+
+/// The line of a search whose aggregation has this name.
+pub(crate) fn search_line(
+    alloc: Global,
+    documents: &List<Document>,
+    name: &Text,
+) -> Result<Text, AllocError>
+    requires keywords { HaveKeywords documents.now }
+    requires few { length documents.now ≤ max_actions }
+    requires short { length name.now ≤ MAX_NAME }
+    ensures { IfOk result (λ line. line ≡ search_line documents.now name.now) }
+{
+    let search = search_named(alloc, name)?;
+    let answer = answer_of(alloc, &search, documents)?;
+    response(alloc, &search, &answer, 1)
+}
+
+/// The item of a document that was put into the store.
+fn item_of(alloc: Global, document: &Document) -> Result<Item, AllocError>
+    ensures { IfOk result (λ item. item ≡ item_of document.now) }
+{
+    Ok(Item {
+        kind: ActionKind::Index,
+        id: document.id.copy(alloc)?,
+        end: ItemEnd::Applied(Applied::Created),
+    })
+}
+
+fn items_of(alloc: Global, documents: &List<Document>) -> Result<List<Item>, AllocError>
+    ensures { IfOk result (λ items. items ≡ map item_of documents.now) }
+{
+    let mut items = List::new(alloc);
+    for document in documents.as_slice() {
+        items.push(item_of(alloc, document)?)?;
+    }
+    Ok(items)
+}
+
+/// The line of the bulk actions.
+pub(crate) fn loaded_line(alloc: Global, documents: &List<Document>) -> Result<Text, AllocError>
+    ensures { IfOk result (λ line. line ≡ loaded_line documents.now) }
+{
+    let index = Text::of(alloc, "i")?;
+    let items = items_of(alloc, documents)?;
+    bulk_line(alloc, &index, &items, false)
+}
+
+/// The line of a script that is not built yet from a line on.
+pub(crate) fn not_built_line(alloc: Global, line: u64) -> Result<Text, AllocError>
+    ensures { IfOk result (λ text. text ≡ end.script_line 29 line []) }
+{
+    script_line(alloc, NOT_BUILT, line, &Text::of(alloc, "")?)
+}
+
+/// The line of words outside the grammar.
+pub(crate) fn usage_text(alloc: Global) -> Result<Text, AllocError>
+    ensures { IfOk result (λ text. text ≡ end.usage_line (record { key = []; value = [] })) }
+{
+    usage_line(
+        alloc,
+        &Usage {
+            key: Text::of(alloc, "")?,
+            value: Text::of(alloc, "")?,
+        },
+    )
+}
