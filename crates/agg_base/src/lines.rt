@@ -164,6 +164,15 @@ impl<'a, S: Source> Lines<'a, S> {
         }
     }
 
+    /// The source again, with what it has left. What was read ahead is dropped.
+    pub fn into_source(self) -> &'a mut S
+        ensures same_source { result.ghost_name ≡ source_name self.entry }
+        ensures source { result.now ≡ source_of self.entry }
+    {
+        let Lines { source, .. } = self;
+        source
+    }
+
     /// How many lines were handed out.
     pub fn line_number(&self) -> u64
         ensures { result ≡ handed self.now }
