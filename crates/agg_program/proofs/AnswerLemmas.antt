@@ -51,25 +51,25 @@ module _ (documents : List Document) (place : Place) (before : Option (List ℕ)
   move written whole a b e so = subst (λ (o : Output). Continues before written whole o) e so
 
   heads_at : (p : Place) (l : Option (List Line)) (ls : List Line) (result : Result NextHeader Stop) (after : Place) (left : Option (List Line)) → l ≡ Some ls → Heads p l result after left →
-    Follows refusal (pairs documents p ls) result (after_header documents after) left
+      Follows refusal (pairs documents p ls) result (after_header documents after) left
   heads_at p l ls result after left here heads = (subst (λ (o : Option (List Line)). Heads p o result after left) here heads) documents
 
   pub answered_empty : (rest : Option (List Line)) (written : Option (List ℕ)) (p : Place) (l : Option (List Line)) (h : NextHeader) (after : Place) (left : Option (List Line)) →
-    h ≡ EmptyLine → Answered rest written p l → Heads p l (Ok h) after left → Answered rest written after left
+      h ≡ EmptyLine → Answered rest written p l → Heads p l (Ok h) after left → Answered rest written after left
   answered_empty None written p l h after left is so heads = tt
   answered_empty (Some r) written p l h after left is so heads =
       let next = heads_at p l so.0 (Ok EmptyLine) after left so.1 (subst (λ (k : NextHeader). Heads p l (Ok k) after left) is heads) in
       (next.0, next.1, move written _ _ _ next.2 so.2)
 
   pub ended_end : (rest : Option (List Line)) (written : Option (List ℕ)) (p : Place) (l : Option (List Line)) (h : NextHeader) (after : Place) (left : Option (List Line)) →
-    h ≡ End → Answered rest written p l → Heads p l (Ok h) after left → Ended rest written (Ok tt)
+      h ≡ End → Answered rest written p l → Heads p l (Ok h) after left → Ended rest written (Ok tt)
   ended_end None written p l h after left is so heads = tt
   ended_end (Some r) written p l h after left is so heads =
       let next = heads_at p l so.0 (Ok End) after left so.1 (subst (λ (k : NextHeader). Heads p l (Ok k) after left) is heads) in
       ends_finished before written _ (move written _ _ _ next.2 so.2)
 
   pub ended_header : (rest : Option (List Line)) (written : Option (List ℕ)) (p : Place) (l : Option (List Line)) (stop : Stop) (after : Place) (left : Option (List Line)) →
-    no_header stop ≢ no_header Write → Answered rest written p l → Heads p l (Err stop) after left → Ended rest written (Err stop)
+      no_header stop ≢ no_header Write → Answered rest written p l → Heads p l (Err stop) after left → Ended rest written (Err stop)
   ended_header None written p l stop after left reads so heads = tt
   ended_header (Some r) written p l Read after left reads so heads = ends_read before written _ _ so.2
   ended_header (Some r) written p l Memory after left reads so heads = ends_memory before written _ _ so.2
@@ -82,18 +82,18 @@ module _ (documents : List Document) (place : Place) (before : Option (List ℕ)
   Headed rest written after left = IfSome rest (λ r. (ls : List Line) × (left ≡ Some ls) × Continues before written (pairs documents place r) (body documents after ls))
 
   pub headed : (rest : Option (List Line)) (written : Option (List ℕ)) (p : Place) (l : Option (List Line)) (h : NextHeader) (after : Place) (left : Option (List Line)) →
-    h ≡ Header → Answered rest written p l → Heads p l (Ok h) after left → Headed rest written after left
+      h ≡ Header → Answered rest written p l → Heads p l (Ok h) after left → Headed rest written after left
   headed None written p l h after left is so heads = tt
   headed (Some r) written p l h after left is so heads =
       let next = heads_at p l so.0 (Ok Header) after left so.1 (subst (λ (k : NextHeader). Heads p l (Ok k) after left) is heads) in
       (next.0, next.1, move written _ _ _ next.2 so.2)
 
   names_at : (p : Place) (l : Option (List Line)) (ls : List Line) (result : Result (List ℕ) Stop) (after : Place) (left : Option (List Line)) → l ≡ Some ls → Names p l result after left →
-    Follows refusal (body documents p ls) result (λ name more. with_line (search_line documents name) (pairs documents after more)) left
+      Follows refusal (body documents p ls) result (λ name more. with_line (search_line documents name) (pairs documents after more)) left
   names_at p l ls result after left here names = (subst (λ (o : Option (List Line)). Names p o result after left) here names) documents
 
   pub ended_name : (rest : Option (List Line)) (written : Option (List ℕ)) (p : Place) (l : Option (List Line)) (stop : Stop) (after : Place) (left : Option (List Line)) →
-    no_name stop ≢ no_name Write → Headed rest written p l → Names p l (Err stop) after left → Ended rest written (Err stop)
+      no_name stop ≢ no_name Write → Headed rest written p l → Names p l (Err stop) after left → Ended rest written (Err stop)
   ended_name None written p l stop after left reads so names = tt
   ended_name (Some r) written p l Read after left reads so names = ends_read before written _ _ so.2
   ended_name (Some r) written p l Memory after left reads so names = ends_memory before written _ _ so.2
@@ -102,16 +102,16 @@ module _ (documents : List Document) (place : Place) (before : Option (List ℕ)
       ends_refused before written _ line (move written _ _ _ (names_at p l so.0 (Err (NotBuilt line)) after left so.1 names) so.2)
 
   pub answered_line : (rest : Option (List Line)) (written new : Option (List ℕ)) (p : Place) (l : Option (List Line)) (name : List ℕ) (after : Place) (left : Option (List Line)) →
-    Headed rest written p l → Names p l (Ok name) after left → new ≡ append_known written (search_line documents name ++ 10 ∷ []) → Answered rest new after left
+      Headed rest written p l → Names p l (Ok name) after left → new ≡ append_known written (search_line documents name ++ 10 ∷ []) → Answered rest new after left
   answered_line None written new p l name after left so names wrote = tt
   answered_line (Some r) written new p l name after left so names wrote =
       let next = names_at p l so.0 (Ok name) after left so.1 names in
       (next.0, next.1, continues_line before written new _ _ (search_line documents name) (move written _ _ _ next.2 so.2) wrote)
 
   pub ended_answer : (rest : Option (List Line)) (written new : Option (List ℕ)) (p : Place) (l : Option (List Line)) (name : List ℕ) (after : Place) (left : Option (List Line)) (stop : Stop) →
-    Headed rest written p l → Names p l (Ok name) after left → (stop ≡ Write ⊎ stop ≡ Memory) →
-    (no_answer stop ≡ no_answer Write → (n : ℕ) × (n < length (search_line documents name) + 1) × (new ≡ append_known written (take n (search_line documents name ++ 10 ∷ [])))) →
-    (no_answer stop ≡ no_answer Memory → new ≡ written) → Ended rest new (Err stop)
+      Headed rest written p l → Names p l (Ok name) after left → (stop ≡ Write ⊎ stop ≡ Memory) →
+      (no_answer stop ≡ no_answer Write → (n : ℕ) × (n < length (search_line documents name) + 1) × (new ≡ append_known written (take n (search_line documents name ++ 10 ∷ [])))) →
+      (no_answer stop ≡ no_answer Memory → new ≡ written) → Ended rest new (Err stop)
   ended_answer None written new p l name after left stop so names kinds front nothing = tt
   ended_answer (Some r) written new p l name after left Write so names kinds front nothing =
       ends_write before written new _ _ (search_line documents name) (move written _ _ _ (names_at p l so.0 (Ok name) after left so.1 names).2 so.2) (front refl)

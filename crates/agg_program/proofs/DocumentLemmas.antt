@@ -39,7 +39,7 @@ ids_differ : (m n : ℕ) → m < n → n < 2 ^ 64 → document_id m ≢ document
 ids_differ m n lt fits e = let same : m ≡ n = decimal_injective m n (omega arith) fits (append_cancel_left (codes "_auto_") _ _ e) in omega arith
 
 fresh_at : (m n : ℕ) (words : List (List ℕ)) → m + length words ≤ n → n < 2 ^ 64 → (k : ℕ) (d : Document) → k < length (documents_from m words) →
-  (slice_index_or (documents_from m words) k d).id ≢ document_id n
+    (slice_index_or (documents_from m words) k d).id ≢ document_id n
 fresh_at m n [] le fits k d lt = absurd (omega arith)
 fresh_at m n (w ∷ ws) le fits zero d lt = ids_differ m n (omega arith) fits
 fresh_at m n (w ∷ ws) le fits (suc k) d lt = fresh_at (m + 1) n ws (omega arith) fits k d (omega arith)
@@ -53,7 +53,7 @@ some_is x y e = cc
 
 -- the source line that was read, by the keyword that it has
 indexes_by : (words : List (List ℕ)) (place : Place) (rest : List Line) (text : List ℕ) (after : Place) (left : Option (List Line)) (old new : List Document) (id : List ℕ) (o : Option (List ℕ)) →
-  Takes place rest (Ok text) after left → old ≡ documents_of words → id ≡ document_id (length old) → keyword_of text ≡ o → option_map (λ w. old ++ keyword_document id id w ∷ []) o ≡ Some new → Indexes words place rest (Ok tt) new after left
+    Takes place rest (Ok text) after left → old ≡ documents_of words → id ≡ document_id (length old) → keyword_of text ≡ o → option_map (λ w. old ++ keyword_document id id w ∷ []) o ≡ Some new → Indexes words place rest (Ok tt) new after left
 indexes_by words place rest text after left old new id None takes same is keyword e = absurd cc
 indexes_by words place rest text after left old new id (Some w) takes same is keyword e =
     let l = takes.0 in
@@ -61,32 +61,37 @@ indexes_by words place rest text after left old new id (Some w) takes same is ke
     let text_same : l.text ≡ text = takes.3 in
     let number : length old ≡ length words = ap length same ∙ length_documents_of words in
     let id_same : id ≡ document_id (length words) = is ∙ ap document_id number in
-    let next = λ (word : List ℕ). documents (words ++ word ∷ []) (past l place) ls in
-    (w, ls, takes.6,
-     sym (some_is _ _ e) ∙ ap (λ (ds : List Document). ds ++ keyword_document id id w ∷ []) same
-       ∙ ap (λ (i : List ℕ). documents_of words ++ keyword_document i i w ∷ []) id_same ∙ sym (documents_of_snoc words w),
-     ap (sources words place) takes.2
-       ∙ ap (λ (r : Script ⊤). r >> with_keyword (place.number + 1) (keyword_of l.text) next) takes.4
-       ∙ ap (λ (o : Option (List ℕ)). with_keyword (place.number + 1) o next) (ap keyword_of text_same ∙ keyword)
-       ∙ ap (λ (p : Place). documents (words ++ w ∷ []) p ls) (sym takes.5))
+    let next = λ (word : List ℕ). documents (words ++ word ∷ []) (past l place) ls in (
+      w,
+      ls,
+      takes.6,
+      sym (some_is _ _ e) ∙ ap (λ (ds : List Document). ds ++ keyword_document id id w ∷ []) same
+          ∙ ap (λ (i : List ℕ). documents_of words ++ keyword_document i i w ∷ []) id_same ∙ sym (documents_of_snoc words w),
+      ap (sources words place) takes.2
+          ∙ ap (λ (r : Script ⊤). r >> with_keyword (place.number + 1) (keyword_of l.text) next) takes.4
+          ∙ ap (λ (o : Option (List ℕ)). with_keyword (place.number + 1) o next) (ap keyword_of text_same ∙ keyword)
+          ∙ ap (λ (p : Place). documents (words ++ w ∷ []) p ls) (sym takes.5),
+    )
 
 -- one more document, where its source line has a keyword
 pub indexes_ok : (place : Place) (rest : Option (List Line)) (text : List ℕ) (after : Place) (left : Option (List Line)) (old new : List Document) (id routing : List ℕ) →
-  IfSome rest (λ ls. Takes place ls (Ok text) after left) → id ≡ document_id (length old) → routing ≡ id → option_map (λ w. old ++ keyword_document id routing w ∷ []) (keyword_of text) ≡ Some new →
-  IfSome rest (λ ls. (words : List (List ℕ)) → old ≡ documents_of words → Indexes words place ls (Ok tt) new after left)
+    IfSome rest (λ ls. Takes place ls (Ok text) after left) → id ≡ document_id (length old) → routing ≡ id → option_map (λ w. old ++ keyword_document id routing w ∷ []) (keyword_of text) ≡ Some new →
+    IfSome rest (λ ls. (words : List (List ℕ)) → old ≡ documents_of words → Indexes words place ls (Ok tt) new after left)
 indexes_ok place None text after left old new id routing takes is also e = tt
 indexes_ok place (Some rest) text after left old new id routing takes is also e =
     λ words same. indexes_by words place rest text after left old new id (keyword_of text) takes same is refl
-      (ap (λ (r : List ℕ). option_map (λ w. old ++ keyword_document id r w ∷ []) (keyword_of text)) (sym also) ∙ e)
+    (ap (λ (r : List ℕ). option_map (λ w. old ++ keyword_document id r w ∷ []) (keyword_of text)) (sym also) ∙ e)
 
 numbered_by : (old new : List Document) (id : List ℕ) (o : Option (List ℕ)) → id ≡ document_id (length old) → option_map (λ w. old ++ keyword_document id id w ∷ []) o ≡ Some new → IsNumbered old → IsNumbered new
 numbered_by old new id None is e words = absurd cc
 numbered_by old new id (Some w) is e numbered =
     let words = numbered.0 in
     let same : old ≡ documents_of words = numbered.1 in
-    let id_same : id ≡ document_id (length words) = is ∙ ap document_id (ap length same ∙ length_documents_of words) in
-    (words ++ w ∷ [], sym (some_is _ _ e) ∙ ap (λ (ds : List Document). ds ++ keyword_document id id w ∷ []) same
-       ∙ ap (λ (i : List ℕ). documents_of words ++ keyword_document i i w ∷ []) id_same ∙ sym (documents_of_snoc words w))
+    let id_same : id ≡ document_id (length words) = is ∙ ap document_id (ap length same ∙ length_documents_of words) in (
+      words ++ w ∷ [],
+      sym (some_is _ _ e) ∙ ap (λ (ds : List Document). ds ++ keyword_document id id w ∷ []) same
+          ∙ ap (λ (i : List ℕ). documents_of words ++ keyword_document i i w ∷ []) id_same ∙ sym (documents_of_snoc words w),
+    )
 
 pub numbered_ok : (old new : List Document) (id routing text : List ℕ) → id ≡ document_id (length old) → routing ≡ id → option_map (λ w. old ++ keyword_document id routing w ∷ []) (keyword_of text) ≡ Some new → IsNumbered old → IsNumbered new
 numbered_ok old new id routing text is also e =

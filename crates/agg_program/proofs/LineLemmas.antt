@@ -32,22 +32,34 @@ pub lines-first : (b : ℕ) (bs : List ℕ) → (ls : List Line) × (lines (b �
 unfolding lines
 lines-first b [] =
     cond_both (b == newline) (line_of [] 1 ∷ []) (with_byte b []) (λ v. (ls : List Line) × (v ≡ line_of (first_line (b ∷ [])) (length (whole_line (b ∷ []))) ∷ ls))
-    (λ yes. ([], ap (λ l. l ∷ []) (sym (
-      ap (λ t. line_of t (length (whole_line (b ∷ [])))) (cond-true (b == newline) [] (b ∷ []) yes)
-      ∙ ap (λ (t : List ℕ). line_of [] (length t)) (cond-true (b == newline) (b ∷ []) (b ∷ []) yes)))))
-    (λ no. ([], ap (λ l. l ∷ []) (sym (
-      ap (λ t. line_of t (length (whole_line (b ∷ [])))) (cond-false (b == newline) [] (b ∷ []) no)
-      ∙ ap (λ (t : List ℕ). line_of (b ∷ []) (length t)) (cond-false (b == newline) (b ∷ []) (b ∷ []) no)))))
+    (λ yes. (
+      [],
+      ap (λ l. l ∷ []) (sym (
+          ap (λ t. line_of t (length (whole_line (b ∷ [])))) (cond-true (b == newline) [] (b ∷ []) yes)
+          ∙ ap (λ (t : List ℕ). line_of [] (length t)) (cond-true (b == newline) (b ∷ []) (b ∷ []) yes))),
+    ))
+    (λ no. (
+      [],
+      ap (λ l. l ∷ []) (sym (
+          ap (λ t. line_of t (length (whole_line (b ∷ [])))) (cond-false (b == newline) [] (b ∷ []) no)
+          ∙ ap (λ (t : List ℕ). line_of (b ∷ []) (length t)) (cond-false (b == newline) (b ∷ []) (b ∷ []) no))),
+    ))
 lines-first b (c ∷ cs) =
     let more = lines-first c cs in
     cond_both (b == newline) (line_of [] 1 ∷ lines (c ∷ cs)) (with_byte b (lines (c ∷ cs))) (λ v. (ls : List Line) × (v ≡ line_of (first_line (b ∷ c ∷ cs)) (length (whole_line (b ∷ c ∷ cs))) ∷ ls))
-    (λ yes. (lines (c ∷ cs), ap (λ l. l ∷ lines (c ∷ cs)) (sym (
-      ap (λ t. line_of t (length (whole_line (b ∷ c ∷ cs)))) (cond-true (b == newline) [] (b ∷ first_line (c ∷ cs)) yes)
-      ∙ ap (λ (t : List ℕ). line_of [] (length t)) (cond-true (b == newline) (b ∷ []) (b ∷ whole_line (c ∷ cs)) yes)))))
-    (λ no. (more.0, ap (with_byte b) more.1 ∙ ap (λ l. l ∷ more.0) (
-      ap (λ (n : ℕ). line_of (b ∷ first_line (c ∷ cs)) n) (omega arith)
-      ∙ sym (ap (λ t. line_of t (length (whole_line (b ∷ c ∷ cs)))) (cond-false (b == newline) [] (b ∷ first_line (c ∷ cs)) no)
-        ∙ ap (λ (t : List ℕ). line_of (b ∷ first_line (c ∷ cs)) (length t)) (cond-false (b == newline) (b ∷ []) (b ∷ whole_line (c ∷ cs)) no)))))
+    (λ yes. (
+      lines (c ∷ cs),
+      ap (λ l. l ∷ lines (c ∷ cs)) (sym (
+          ap (λ t. line_of t (length (whole_line (b ∷ c ∷ cs)))) (cond-true (b == newline) [] (b ∷ first_line (c ∷ cs)) yes)
+          ∙ ap (λ (t : List ℕ). line_of [] (length t)) (cond-true (b == newline) (b ∷ []) (b ∷ whole_line (c ∷ cs)) yes))),
+    ))
+    (λ no. (
+      more.0,
+      ap (with_byte b) more.1 ∙ ap (λ l. l ∷ more.0) (
+          ap (λ (n : ℕ). line_of (b ∷ first_line (c ∷ cs)) n) (omega arith)
+          ∙ sym (ap (λ t. line_of t (length (whole_line (b ∷ c ∷ cs)))) (cond-false (b == newline) [] (b ∷ first_line (c ∷ cs)) no)
+          ∙ ap (λ (t : List ℕ). line_of (b ∷ first_line (c ∷ cs)) (length t)) (cond-false (b == newline) (b ∷ []) (b ∷ whole_line (c ∷ cs)) no))),
+    ))
 
 -- the lines of what begins with a whole line, and of a last line
 pub lines-line : (line rest : List ℕ) → IsPlain line → lines (line ++ newline ∷ rest) ≡ line_of line (length line + 1) ∷ lines rest
@@ -85,9 +97,9 @@ module _ (number before : ℕ) (text : List ℕ) (size : ℕ) (inside : before �
       ⊎_elim
       (λ lt. let e = sym (cond-true _ (Some InputTooLong) _ (lt-ltb _ _ lt)) ∙ none in absurd cc)
       (λ le. ⊎_elim
-        (λ long. let e = sym (cond-false _ (Some InputTooLong) _ (le-ltb _ _ le) ∙ cond-true _ (Some LineTooLong) None (lt-ltb _ _ long)) ∙ none in absurd cc)
-        (λ short. cond-false _ (Some 37) _ (not_beyond le) ∙ cond-false _ (Some 30) None (le-ltb _ _ short))
-        (cases_lt MAX_LINE (length text)))
+      (λ long. let e = sym (cond-false _ (Some InputTooLong) _ (le-ltb _ _ le) ∙ cond-true _ (Some LineTooLong) None (lt-ltb _ _ long)) ∙ none in absurd cc)
+      (λ short. cond-false _ (Some 37) _ (not_beyond le) ∙ cond-false _ (Some 30) None (le-ltb _ _ short))
+      (cases_lt MAX_LINE (length text)))
       (cases_lt MAX_INPUT (before + min size (MAX_LINE + 1)))
 
   pub faulty : (fault : LineFault) → fault_of before (length text) size ≡ Some fault → (n : ℕ) × (line_fault (place_at number before) (line_of text size) ≡ Some n)
@@ -96,9 +108,9 @@ module _ (number before : ℕ) (text : List ℕ) (size : ℕ) (inside : before �
       ⊎_elim
       (λ lt. (37, cond-true _ (Some 37) _ (beyond lt)))
       (λ le. ⊎_elim
-        (λ long. (30, cond-false _ (Some 37) _ (not_beyond le) ∙ cond-true _ (Some 30) None (lt-ltb _ _ long)))
-        (λ short. let e = sym (cond-false _ (Some InputTooLong) _ (le-ltb _ _ le) ∙ cond-false _ (Some LineTooLong) None (le-ltb _ _ short)) ∙ is in absurd cc)
-        (cases_lt MAX_LINE (length text)))
+      (λ long. (30, cond-false _ (Some 37) _ (not_beyond le) ∙ cond-true _ (Some 30) None (lt-ltb _ _ long)))
+      (λ short. let e = sym (cond-false _ (Some InputTooLong) _ (le-ltb _ _ le) ∙ cond-false _ (Some LineTooLong) None (le-ltb _ _ short)) ∙ is in absurd cc)
+      (cases_lt MAX_LINE (length text)))
       (cases_lt MAX_INPUT (before + min size (MAX_LINE + 1)))
 
 or_fault-some : (o : Option LineFault) (line text : List ℕ) → or_fault o line ≡ Ok (Some text) → o ≡ None
@@ -143,22 +155,32 @@ within_limits number before text size inside none = ap (unless_fault (number + 1
 module _ (number before : ℕ) (text : List ℕ) (inside : before ≤ MAX_INPUT) (plain : IsPlain text) where
   -- a line that a newline ends
   whole_reads : (rest r : List ℕ) (n after : ℕ) → rest ≡ (text ++ newline ∷ []) ++ r → next_of before rest ≡ Ok (Some text) → n ≡ number + 1 → after ≡ before + length text + 1 →
-    Reads (place_at number before) (lines rest) (Ok (Some text)) (place_at n after) (Some (lines r))
+      Reads (place_at number before) (lines rest) (Ok (Some text)) (place_at n after) (Some (lines r))
   whole_reads rest r n after e is next_number next_place =
       let same : lines rest ≡ line_of text (length text + 1) ∷ lines r = ap lines (e ∙ append_assoc text (newline ∷ []) r) ∙ lines-line text r plain in
-      let read : after ≡ before + (length text + 1) = omega arith in
-      (line_of text (length text + 1), lines r, same, refl,
-       within_limits number before text (length text + 1) inside (fault_none before rest text text _ _ same is),
-       ap (λ (k : ℕ). place_at k after) next_number ∙ ap (place_at (number + 1)) read, refl)
+      let read : after ≡ before + (length text + 1) = omega arith in (
+        line_of text (length text + 1),
+        lines r,
+        same,
+        refl,
+        within_limits number before text (length text + 1) inside (fault_none before rest text text _ _ same is),
+        ap (λ (k : ℕ). place_at k after) next_number ∙ ap (place_at (number + 1)) read,
+        refl,
+      )
 
   -- a last line without one
   last_reads : (rest : List ℕ) (n after : ℕ) → rest ≡ text → text ≢ [] → next_of before rest ≡ Ok (Some text) → n ≡ number + 1 → after ≡ before + length text →
-    Reads (place_at number before) (lines rest) (Ok (Some text)) (place_at n after) (Some [])
+      Reads (place_at number before) (lines rest) (Ok (Some text)) (place_at n after) (Some [])
   last_reads rest n after e some is next_number next_place =
-      let same : lines rest ≡ line_of text (length text) ∷ [] = ap lines e ∙ lines-last text plain some in
-      (line_of text (length text), [], same, refl,
-       within_limits number before text (length text) inside (fault_none before rest text text _ _ same is),
-       ap (λ (k : ℕ). place_at k after) next_number ∙ ap (place_at (number + 1)) next_place, refl)
+      let same : lines rest ≡ line_of text (length text) ∷ [] = ap lines e ∙ lines-last text plain some in (
+        line_of text (length text),
+        [],
+        same,
+        refl,
+        within_limits number before text (length text) inside (fault_none before rest text text _ _ same is),
+        ap (λ (k : ℕ). place_at k after) next_number ∙ ap (place_at (number + 1)) next_place,
+        refl,
+      )
 
 lines-nil : lines [] ≡ []
 unfolding lines
@@ -166,7 +188,7 @@ lines-nil = refl
 
 -- a line that was handed out is the next line of the script
 pub reads_some : (number before n after : ℕ) (old new : Option (List ℕ)) (text : List ℕ) → before ≤ MAX_INPUT → IfSome old (λ rest. next_of before rest ≡ Ok (Some text)) →
-  IsLine text old before new after → n ≡ number + 1 → IfSome (option_map lines old) (λ rest. Reads (place_at number before) rest (Ok (Some text)) (place_at n after) (option_map lines new))
+    IsLine text old before new after → n ≡ number + 1 → IfSome (option_map lines old) (λ rest. Reads (place_at number before) rest (Ok (Some text)) (place_at n after) (option_map lines new))
 reads_some number before n after None new text inside is line next_number = tt
 reads_some number before n after (Some rest) None text inside is line next_number =
     ⊎_elim (λ h. let e = h.0 in absurd cc) (λ h. let e = h.1 in absurd cc) line.1
@@ -174,10 +196,10 @@ reads_some number before n after (Some rest) (Some r) text inside is line next_n
     ⊎_elim
     (λ h. whole_reads number before text inside line.0 rest r n after (some_is _ _ h.0) is next_number h.1)
     (λ h.
-      let empty : r ≡ [] = h.2 in
-      let e : rest ≡ text = some_is _ _ h.1 ∙ ap (λ (t : List ℕ). text ++ t) empty ∙ append-nil text in
-      subst (λ (ls : List Line). Reads (place_at number before) (lines rest) (Ok (Some text)) (place_at n after) (Some ls)) (sym (ap lines empty ∙ lines-nil))
-        (last_reads number before text inside line.0 rest n after e h.0 is next_number h.3))
+    let empty : r ≡ [] = h.2 in
+    let e : rest ≡ text = some_is _ _ h.1 ∙ ap (λ (t : List ℕ). text ++ t) empty ∙ append-nil text in
+    subst (λ (ls : List Line). Reads (place_at number before) (lines rest) (Ok (Some text)) (place_at n after) (Some ls)) (sym (ap lines empty ∙ lines-nil))
+    (last_reads number before text inside line.0 rest n after e h.0 is next_number h.3))
     line.1
 
 no_end_at : (o : Option LineFault) (line : List ℕ) → or_fault o line ≡ Ok None → ⊥
@@ -189,7 +211,7 @@ no_end before b bs e = no_end_at _ _ e
 
 -- the end of the input is the end of the script
 pub reads_none : (number before n after : ℕ) (old new : Option (List ℕ)) → IfSome old (λ rest. next_of before rest ≡ Ok None) → new ≡ old → n ≡ number → after ≡ before →
-  IfSome (option_map lines old) (λ rest. Reads (place_at number before) rest (Ok None) (place_at n after) (option_map lines new))
+    IfSome (option_map lines old) (λ rest. Reads (place_at number before) rest (Ok None) (place_at n after) (option_map lines new))
 reads_none number before n after None new is same_rest same_number same_place = tt
 reads_none number before n after (Some []) new is same_rest same_number same_place =
     (lines-nil, ap (option_map lines) same_rest ∙ ap Some lines-nil, ap (λ (k : ℕ). place_at k after) same_number ∙ ap (place_at number) same_place)
@@ -197,7 +219,7 @@ reads_none number before n after (Some (b ∷ bs)) new is same_rest same_number 
 
 -- a line beyond the limits is refused where it stands
 pub reads_err : (number before : ℕ) (old : Option (List ℕ)) (fault : LineFault) (line : ℕ) (after : Place) (left : Option (List Line)) → before ≤ MAX_INPUT → line ≡ number + 1 →
-  IfSome old (λ rest. next_of before rest ≡ Err fault) → IfSome (option_map lines old) (λ rest. Reads (place_at number before) rest (Err (NotBuilt line)) after left)
+    IfSome old (λ rest. next_of before rest ≡ Err fault) → IfSome (option_map lines old) (λ rest. Reads (place_at number before) rest (Err (NotBuilt line)) after left)
 unfolding within
 reads_err number before None fault line after left inside here is = tt
 reads_err number before (Some []) fault line after left inside here is = absurd cc
@@ -216,14 +238,14 @@ or-false false b e = refl
 
 -- an answer that the reader of lines gives
 pub reads_ok : (number before n after : ℕ) (old new : Option (List ℕ)) (next : Option (List ℕ)) → before ≤ MAX_INPUT → IfSome old (λ rest. next_of before rest ≡ Ok next) →
-  IfSome next (λ text. IsLine text old before new after) → IfSome next (λ text. n ≡ number + 1) → IfNone next ((new ≡ old) × (after ≡ before) × (n ≡ number)) →
-  IfSome (option_map lines old) (λ rest. Reads (place_at number before) rest (Ok next) (place_at n after) (option_map lines new))
+    IfSome next (λ text. IsLine text old before new after) → IfSome next (λ text. n ≡ number + 1) → IfNone next ((new ≡ old) × (after ≡ before) × (n ≡ number)) →
+    IfSome (option_map lines old) (λ rest. Reads (place_at number before) rest (Ok next) (place_at n after) (option_map lines new))
 reads_ok number before n after old new None inside is line more stays = reads_none number before n after old new is stays.0 stays.2 stays.1
 reads_ok number before n after old new (Some text) inside is line more stays = reads_some number before n after old new text inside is line more
 
 -- a fault of the reader of lines
 pub reads_fault : (number before : ℕ) (old : Option (List ℕ)) (fault : LineFault) (line : ℕ) (after : Place) (left : Option (List Line)) → before ≤ MAX_INPUT → line ≡ number + 1 →
-  IfSome old (λ rest. Answers (next_of before rest) (Err fault)) → IfSome (option_map lines old) (λ rest. Reads (place_at number before) rest (Err (stop_of fault line)) after left)
+    IfSome old (λ rest. Answers (next_of before rest) (Err fault)) → IfSome (option_map lines old) (λ rest. Reads (place_at number before) rest (Err (stop_of fault line)) after left)
 reads_fault number before None fault line after left inside here is = tt
 reads_fault number before (Some rest) Read line after left inside here is = tt
 reads_fault number before (Some rest) LineTooLong line after left inside here is = reads_err number before (Some rest) LineTooLong line after left inside here is
@@ -243,7 +265,7 @@ stop_is_no_write InputTooLong line = λ e. absurd cc
 stop_is_no_write Memory line = λ e. absurd cc
 
 pub reads_stop : (number before : ℕ) (old : Option (List ℕ)) (fault : LineFault) (line : ℕ) (answer : Stop) (after : Place) (left : Option (List Line)) → before ≤ MAX_INPUT → line ≡ number + 1 → answer ≡ stop_of fault line →
-  IfSome old (λ rest. Answers (next_of before rest) (Err fault)) → IfSome (option_map lines old) (λ rest. Reads (place_at number before) rest (Err answer) after left)
+    IfSome old (λ rest. Answers (next_of before rest) (Err fault)) → IfSome (option_map lines old) (λ rest. Reads (place_at number before) rest (Err answer) after left)
 reads_stop number before old fault line answer after left inside here same is =
     subst (λ (s : Stop). IfSome (option_map lines old) (λ rest. Reads (place_at number before) rest (Err s) after left)) (sym same) (reads_fault number before old fault line after left inside here is)
 

@@ -23,7 +23,7 @@ so_far_start place (Some r) store empty = ([], r, empty, refl, refl)
 abbrev pub Acts : Place → Option (List Line) → ℕ → Result Bool Stop → Place → Option (List Line) → Type 0
 Acts place rest taken result after left =
     IfSome rest (λ r. (words : List (List ℕ)) → length words ≡ taken → Follows not_built (documents words place r) result
-      (λ is_action ls. if is_action then sources words after ls else Ok (record { keywords = words; place = after; rest = ls })) left)
+    (λ is_action ls. if is_action then sources words after ls else Ok (record { keywords = words; place = after; rest = ls })) left)
 
 -- what `index_next` says
 abbrev pub Puts : Place → Option (List Line) → List Document → Result ⊤ Stop → List Document → Place → Option (List Line) → Type 0
@@ -34,13 +34,13 @@ module _ (place : Place) where
   count store words taken same is = sym (length_documents_of words) ∙ sym (ap length same) ∙ sym is
 
   acts_at : (store : List Document) (words : List (List ℕ)) (ls : List Line) (p : Place) (l : Option (List Line)) (taken : ℕ) (result : Result Bool Stop) (after : Place) (left : Option (List Line)) →
-    store ≡ documents_of words → l ≡ Some ls → taken ≡ length store → Acts p l taken result after left →
-    Follows not_built (documents words p ls) result (λ is_action more. if is_action then sources words after more else Ok (record { keywords = words; place = after; rest = more })) left
+      store ≡ documents_of words → l ≡ Some ls → taken ≡ length store → Acts p l taken result after left →
+      Follows not_built (documents words p ls) result (λ is_action more. if is_action then sources words after more else Ok (record { keywords = words; place = after; rest = more })) left
   acts_at store words ls p l taken result after left same here is acts = (subst (λ (o : Option (List Line)). Acts p o taken result after left) here acts) words (count store words taken same is)
 
   -- the end of the documents
   pub so_far_done : (rest : Option (List Line)) (store : List Document) (p : Place) (l : Option (List Line)) (taken : ℕ) (after : Place) (left : Option (List Line)) →
-    (b : Bool) → b ≡ false → SoFar place rest store p l → taken ≡ length store → Acts p l taken (Ok b) after left → IfSome rest (λ r. Loads (documents [] place r) (Ok store) after left)
+      (b : Bool) → b ≡ false → SoFar place rest store p l → taken ≡ length store → Acts p l taken (Ok b) after left → IfSome rest (λ r. Loads (documents [] place r) (Ok store) after left)
   so_far_done None store p l taken after left b flag so is said = tt
   so_far_done (Some r) store p l taken after left b flag so is said =
       let words = so.0 in
@@ -50,7 +50,7 @@ module _ (place : Place) where
 
   -- one more document
   pub so_far_next : (rest : Option (List Line)) (store : List Document) (p : Place) (l : Option (List Line)) (taken : ℕ) (p2 : Place) (l2 : Option (List Line)) (new : List Document) (after : Place) (left : Option (List Line)) →
-    (b : Bool) → b ≡ true → SoFar place rest store p l → taken ≡ length store → Acts p l taken (Ok b) p2 l2 → Puts p2 l2 store (Ok tt) new after left → SoFar place rest new after left
+      (b : Bool) → b ≡ true → SoFar place rest store p l → taken ≡ length store → Acts p l taken (Ok b) p2 l2 → Puts p2 l2 store (Ok tt) new after left → SoFar place rest new after left
   so_far_next None store p l taken p2 l2 new after left b flag so is said puts = tt
   so_far_next (Some r) store p l taken p2 l2 new after left b flag so is said puts =
       let words = so.0 in
@@ -61,7 +61,7 @@ module _ (place : Place) where
 
   -- a stop at an action line
   pub so_far_no_action : (rest : Option (List Line)) (store : List Document) (p : Place) (l : Option (List Line)) (taken : ℕ) (stop : Stop) (after : Place) (left : Option (List Line)) →
-    SoFar place rest store p l → taken ≡ length store → Acts p l taken (Err stop) after left → IfSome rest (λ r. Loads (documents [] place r) (Err stop) after left)
+      SoFar place rest store p l → taken ≡ length store → Acts p l taken (Err stop) after left → IfSome rest (λ r. Loads (documents [] place r) (Err stop) after left)
   so_far_no_action None store p l taken stop after left so is acts = tt
   so_far_no_action (Some r) store p l taken Read after left so is acts = tt
   so_far_no_action (Some r) store p l taken Write after left so is acts = tt
@@ -71,7 +71,7 @@ module _ (place : Place) where
 
   -- a stop at a source line
   pub so_far_no_source : (rest : Option (List Line)) (store : List Document) (p : Place) (l : Option (List Line)) (taken : ℕ) (p2 : Place) (l2 : Option (List Line)) (stop : Stop) (new : List Document) (after : Place) (left : Option (List Line)) →
-    (b : Bool) → b ≡ true → SoFar place rest store p l → taken ≡ length store → Acts p l taken (Ok b) p2 l2 → Puts p2 l2 store (Err stop) new after left → IfSome rest (λ r. Loads (documents [] place r) (Err stop) after left)
+      (b : Bool) → b ≡ true → SoFar place rest store p l → taken ≡ length store → Acts p l taken (Ok b) p2 l2 → Puts p2 l2 store (Err stop) new after left → IfSome rest (λ r. Loads (documents [] place r) (Err stop) after left)
   so_far_no_source None store p l taken p2 l2 stop new after left b flag so is said puts = tt
   so_far_no_source (Some r) store p l taken p2 l2 Read new after left b flag so is said puts = tt
   so_far_no_source (Some r) store p l taken p2 l2 Write new after left b flag so is said puts = tt

@@ -21,8 +21,8 @@ continues_refused before written output line ends = (ends.1.0, ends.1.1, ends.0,
 
 -- the line of the refusal was written, in part or whole, or not made
 pub refused_at : (before mid new : Option (List ℕ)) (output : Output) (line : ℕ) (s : Status) → Ends before mid output (Err (stop.NotBuilt line)) →
-  (s ≡ Refused → new ≡ append_known mid (script_line 29 line [] ++ 10 ∷ [])) → (s ≡ WriteFault → Front mid new (script_line 29 line [])) → (s ≡ Memory → new ≡ mid) →
-  (s ≡ Refused ⊎ (s ≡ WriteFault ⊎ s ≡ Memory)) → Wrote before new output s
+    (s ≡ Refused → new ≡ append_known mid (script_line 29 line [] ++ 10 ∷ [])) → (s ≡ WriteFault → Front mid new (script_line 29 line [])) → (s ≡ Memory → new ≡ mid) →
+    (s ≡ Refused ⊎ (s ≡ WriteFault ⊎ s ≡ Memory)) → Wrote before new output s
 refused_at before mid new output line Refused ends all front nothing kinds =
     let so = continues_refused before mid output line ends in
     let last = continues_line before mid new output (record { lines = []; status = 5 }) (script_line 29 line []) so (all refl) in
@@ -37,8 +37,8 @@ refused_at before mid new output line ReadFault ends all front nothing kinds = �
 
 -- the line of the usage was written, in part or whole, or not made
 pub usage_at : (before new : Option (List ℕ)) (s : Status) →
-  (s ≡ Usage → new ≡ append_known before (usage_line (record { key = []; value = [] }) ++ 10 ∷ [])) → (s ≡ WriteFault → Front before new (usage_line (record { key = []; value = [] }))) → (s ≡ Memory → new ≡ before) →
-  (s ≡ Usage ⊎ (s ≡ WriteFault ⊎ s ≡ Memory)) → Wrote before new usage s
+    (s ≡ Usage → new ≡ append_known before (usage_line (record { key = []; value = [] }) ++ 10 ∷ [])) → (s ≡ WriteFault → Front before new (usage_line (record { key = []; value = [] }))) → (s ≡ Memory → new ≡ before) →
+    (s ≡ Usage ⊎ (s ≡ WriteFault ⊎ s ≡ Memory)) → Wrote before new usage s
 usage_at before new Usage all front nothing kinds =
     (refl, all refl ∙ ap (append_known before) (sym (append-nil (usage_line (record { key = []; value = [] }) ++ 10 ∷ []))))
 usage_at before new WriteFault all front nothing kinds =
@@ -51,7 +51,7 @@ usage_at before new ReadFault all front nothing kinds = ⊎_elim (λ e. absurd c
 
 -- what a stop leaves, wherever the output began
 pub stopped_some : (input before mid new : Option (List ℕ)) (answer : Stop) (s : Status) → IfSome input (λ i. Ends before mid (output_of [] i) (Err answer)) →
-  ((b : Option (List ℕ)) (output : Output) → Ends b mid output (Err answer) → Wrote b new output s) → IfSome input (λ i. Wrote before new (output_of [] i) s)
+    ((b : Option (List ℕ)) (output : Output) → Ends b mid output (Err answer) → Wrote b new output s) → IfSome input (λ i. Wrote before new (output_of [] i) s)
 stopped_some None before mid new answer s ends said = tt
 stopped_some (Some i) before mid new answer s ends said = said before (output_of [] i) ends
 
@@ -66,7 +66,7 @@ some_words [] test is no_one = λ e. let f = sym is ∙ no_one in absurd cc
 some_words (w ∷ ws) test is no_one = λ e. absurd cc
 
 pub refused_by : (before mid new : Option (List ℕ)) (output : Output) (answer : Stop) (line : ℕ) (s : Status) → answer ≡ stop.NotBuilt line → Ends before mid output (Err answer) →
-  (s ≡ Refused → new ≡ append_known mid (script_line 29 line [] ++ 10 ∷ [])) → (s ≡ WriteFault → Front mid new (script_line 29 line [])) → (s ≡ Memory → new ≡ mid) →
-  (s ≡ Refused ⊎ (s ≡ WriteFault ⊎ s ≡ Memory)) → Wrote before new output s
+    (s ≡ Refused → new ≡ append_known mid (script_line 29 line [] ++ 10 ∷ [])) → (s ≡ WriteFault → Front mid new (script_line 29 line [])) → (s ≡ Memory → new ≡ mid) →
+    (s ≡ Refused ⊎ (s ≡ WriteFault ⊎ s ≡ Memory)) → Wrote before new output s
 refused_by before mid new output answer line s is ends all front nothing kinds =
     refused_at before mid new output line s (subst (λ (t : Stop). Ends before mid output (Err t)) is ends) all front nothing kinds

@@ -23,9 +23,11 @@ no_answer stop = Err stop
 
 whole_lines : (before mid written : Option (List ℕ)) (line : List ℕ) (more : Output) → mid ≡ append_known before (line ++ 10 ∷ []) → (left : List (List ℕ)) → WroteLines mid written more.lines left → WroteLines before written (with_line line more).lines left
 whole_lines before mid written line more is left wrote =
-    let done = wrote.0 in
-    (line ∷ done, ap (λ (ls : List (List ℕ)). line ∷ ls) wrote.1,
-     wrote.2 ∙ ap (λ (o : Option (List ℕ)). append_known o (text_of done)) is ∙ append_known-append before (line ++ 10 ∷ []) (text_of done))
+    let done = wrote.0 in (
+      line ∷ done,
+      ap (λ (ls : List (List ℕ)). line ∷ ls) wrote.1,
+      wrote.2 ∙ ap (λ (o : Option (List ℕ)). append_known o (text_of done)) is ∙ append_known-append before (line ++ 10 ∷ []) (text_of done),
+    )
 
 refused_answer : (r : List Line) (line : ℕ) → loaded r ≡ not_built line → answers_of r ≡ refused (not_built_at line)
 unfolding answers_of
@@ -40,15 +42,16 @@ ends_behind before mid written line more (Err Read) is ends = (ends.0, whole_lin
 ends_behind before mid written line more (Err Memory) is ends = (ends.0, whole_lines before mid written line more is _ ends.1)
 ends_behind before mid written line more (Err Write) is ends =
     let n = ends.0 in
-    let lt = ends.1 in
-    (length (line ++ 10 ∷ []) + n,
-     let e = length-append (line ++ 10 ∷ []) (text_of more.lines) in omega arith,
-     ends.2 ∙ ap (λ (o : Option (List ℕ)). append_known o (take n (text_of more.lines))) is ∙ append_known-append before (line ++ 10 ∷ []) (take n (text_of more.lines))
-       ∙ ap (append_known before) (sym (take-append-add (line ++ 10 ∷ []) (text_of more.lines) n)))
+    let lt = ends.1 in (
+      length (line ++ 10 ∷ []) + n,
+      let e = length-append (line ++ 10 ∷ []) (text_of more.lines) in omega arith,
+      ends.2 ∙ ap (λ (o : Option (List ℕ)). append_known o (take n (text_of more.lines))) is ∙ append_known-append before (line ++ 10 ∷ []) (take n (text_of more.lines))
+          ∙ ap (append_known before) (sym (take-append-add (line ++ 10 ∷ []) (text_of more.lines) n)),
+    )
 
 -- no document was loaded
 pub loads_err : (before : Option (List ℕ)) (rest : Option (List Line)) (stop : Stop) (after : Place) (left : Option (List Line)) → no_store stop ≢ no_store Write →
-  IfSome rest (λ r. Loads (loaded r) (Err stop) after left) → IfSome rest (λ r. Ends before before (answers_of r) (Err stop))
+    IfSome rest (λ r. Loads (loaded r) (Err stop) after left) → IfSome rest (λ r. Ends before before (answers_of r) (Err stop))
 loads_err before None stop after left reads loads = tt
 loads_err before (Some r) Read after left reads loads = ends_read before before _ _ (continues_start before (answers_of r))
 loads_err before (Some r) Memory after left reads loads = ends_memory before before _ _ (continues_start before (answers_of r))
@@ -64,16 +67,18 @@ pub loads_ok : (rest : Option (List Line)) (store documents : List Document) (af
 unfolding answers_of
 loads_ok None store documents after left same loads = tt
 loads_ok (Some r) store documents after left same loads =
-    let taken = loads.0 in
-    (taken.rest, loads.4,
-     ap (λ (s : Script Taken). or_refused s answer_of_taken) loads.1
-       ∙ ap (λ (ds : List Document). with_line (loaded_line ds) (pairs ds taken.place taken.rest)) (sym (same ∙ loads.2))
-       ∙ ap (λ (p : Place). with_line (loaded_line documents) (pairs documents p taken.rest)) (sym loads.3))
+    let taken = loads.0 in (
+      taken.rest,
+      loads.4,
+      ap (λ (s : Script Taken). or_refused s answer_of_taken) loads.1
+          ∙ ap (λ (ds : List Document). with_line (loaded_line ds) (pairs ds taken.place taken.rest)) (sym (same ∙ loads.2))
+          ∙ ap (λ (p : Place). with_line (loaded_line documents) (pairs documents p taken.rest)) (sym loads.3),
+    )
 
 -- the line of the actions could not be written, or not made
 pub actions_err : (rest : Option (List Line)) (store : List Document) (after : Place) (left : Option (List Line)) (before new : Option (List ℕ)) (stop : Stop) → Loaded store after left rest → (stop ≡ Write ⊎ stop ≡ Memory) →
-  (no_answer stop ≡ no_answer Write → (n : ℕ) × (n < length (loaded_line store) + 1) × (new ≡ append_known before (take n (loaded_line store ++ 10 ∷ [])))) →
-  (no_answer stop ≡ no_answer Memory → new ≡ before) → IfSome rest (λ r. Ends before new (answers_of r) (Err stop))
+    (no_answer stop ≡ no_answer Write → (n : ℕ) × (n < length (loaded_line store) + 1) × (new ≡ append_known before (take n (loaded_line store ++ 10 ∷ [])))) →
+    (no_answer stop ≡ no_answer Memory → new ≡ before) → IfSome rest (λ r. Ends before new (answers_of r) (Err stop))
 actions_err None store after left before new stop loaded kinds front nothing = tt
 actions_err (Some r) store after left before new Write loaded kinds front nothing =
     ends_write before before new (answers_of r) _ (loaded_line store) (subst (λ (o : Output). Continues before before (answers_of r) o) loaded.2 (continues_start before (answers_of r))) (front refl)
@@ -84,11 +89,11 @@ actions_err (Some r) store after left before new (NotBuilt line) loaded kinds fr
 
 -- the searches were answered behind the line of the actions
 pub answers_all : (rest : Option (List Line)) (store : List Document) (after : Place) (left : Option (List Line)) (before mid new : Option (List ℕ)) (result : Result ⊤ Stop) → Loaded store after left rest →
-  mid ≡ append_known before (loaded_line store ++ 10 ∷ []) → IfSome left (λ ls. Ends mid new (pairs store after ls) result) → IfSome rest (λ r. Ends before new (answers_of r) result)
+    mid ≡ append_known before (loaded_line store ++ 10 ∷ []) → IfSome left (λ ls. Ends mid new (pairs store after ls) result) → IfSome rest (λ r. Ends before new (answers_of r) result)
 answers_all None store after left before mid new result loaded wrote ends = tt
 answers_all (Some r) store after left before mid new result loaded wrote ends =
     subst (λ (o : Output). Ends before new o result) (sym loaded.2)
-      (ends_behind before mid new (loaded_line store) _ result wrote (subst (λ (o : Option (List Line)). IfSome o (λ ls. Ends mid new (pairs store after ls) result)) loaded.1 ends))
+    (ends_behind before mid new (loaded_line store) _ result wrote (subst (λ (o : Option (List Line)). IfSome o (λ ls. Ends mid new (pairs store after ls) result)) loaded.1 ends))
 
 -- nothing was written
 pub nothing_written : (before input : Option (List ℕ)) → IfSome input (λ i. Ends before before (script_output i) (Err Memory))

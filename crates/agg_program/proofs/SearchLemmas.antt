@@ -19,7 +19,7 @@ moved (Ok line) a b e h = h ∙ e
 moved (Err fault) a b e h = tt
 
 pub line_of : {E : Type 0} (r : Result (List ℕ) E) (documents : List Document) (name : List ℕ) (search : Search) (answer : Answer) → search ≡ search_named name →
-  answer ≡ answer_of_rows search (shard_rows (map (λ d. (d.id, d.root)) documents)) → IfOk r (λ line. line ≡ response_line search 1 answer) → IfOk r (λ line. line ≡ search_line documents name)
+    answer ≡ answer_of_rows search (shard_rows (map (λ d. (d.id, d.root)) documents)) → IfOk r (λ line. line ≡ response_line search 1 answer) → IfOk r (λ line. line ≡ search_line documents name)
 line_of r documents name search answer same is said =
     let rows = shard_rows (map (λ d. (d.id, d.root)) documents) in
     moved r (response_line search 1 answer) (search_line documents name) (ap (response_line search 1) is ∙ ap (λ (s : Search). response_line s 1 (answer_of_rows s rows)) same) said

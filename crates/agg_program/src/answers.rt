@@ -46,10 +46,7 @@ fn are_lowercase(bytes: &[u8]) -> bool
 fn is_name(name: &[u8]) -> bool
     ensures { result ≡ is_name name.now }
 {
-    1 <= name.len()
-        && name.len() <= MAX_NAME
-        && are_lowercase(name)
-        && name != b"key".as_slice()
+    1 <= name.len() && name.len() <= MAX_NAME && are_lowercase(name) && name != b"key".as_slice()
 }
 
 /// The name of the aggregation of a body, where the body is of the form that is built.

@@ -22,7 +22,8 @@ use agg_model::text::Text;
 use std::alloc::{AllocError, Global};
 
 /// The one index that is built so far.
-const INDEX_LINE: &[u8] = b"{\"index\":\"i\",\"mappings\":{\"properties\":{\"b\":{\"type\":\"boolean\"},\"n\":{\"type\":\"long\"},\"t\":{\"type\":\"keyword\"}}},\"settings\":{\"number_of_shards\":1}}";
+const INDEX_LINE: &[u8] =
+    b"{\"index\":\"i\",\"mappings\":{\"properties\":{\"b\":{\"type\":\"boolean\"},\"n\":{\"type\":\"long\"},\"t\":{\"type\":\"keyword\"}}},\"settings\":{\"number_of_shards\":1}}";
 
 /// An index action whose id and routing are absent.
 const ACTION_LINE: &[u8] = b"{\"index\":{}}";

@@ -9,4 +9,6 @@ mod script;
 mod search;
 pub mod status;
 pub mod stop;
+#[cfg(test)]
+mod tests;
 mod writing;

@@ -113,12 +113,7 @@ fn status_of<S: Source, K: Sink>(
 /// - 4: the sink failed; a front of the output was written, and not all.
 /// - 5: the script was refused; its error line is the last that was written.
 /// - 7: memory ran out; whole lines of the output were written.
-pub fn run<S: Source, K: Sink>(
-    alloc: Global,
-    words: &[Text],
-    source: &mut S,
-    sink: &mut K,
-) -> u8
+pub fn run<S: Source, K: Sink>(alloc: Global, words: &[Text], source: &mut S, sink: &mut K) -> u8
     // What was written, by the status, where the source tells its bytes.
     ensures output { (s : AnyStatus) × (result ≡ code_of s) × IfSome (S.left source.old) (λ input. Wrote (K.written sink.old) (K.written sink.new) (output_of words.now input) s) }
     ensures words { words.now ≢ [] → (s : AnyStatus) × (result ≡ code_of s) × Wrote (K.written sink.old) (K.written sink.new) usage s × (source.new ≡ source.old) }

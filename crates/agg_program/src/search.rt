@@ -18,6 +18,7 @@ use document_terms::search::terms_search;
 use std::alloc::{AllocError, Global};
 
 pub(crate) const BODY_FRONT: &[u8] = b"{\"aggs\":{\"";
+
 pub(crate) const BODY_BACK: &[u8] = b"\":{\"terms\":{\"field\":\"t\"}}}}";
 
 /// The longest name of an aggregation.

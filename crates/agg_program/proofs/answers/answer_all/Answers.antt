@@ -5,13 +5,13 @@ use Rattle.agg_program.proofs.answers.answer_all.Goals as goal
 
 pub loop-lines-init : goal.loop-lines-init
 loop-lines-init g c = record {
-    kept = c.requires.kept;
-    reads_never_fall = search rules;
-    writes_never_fall = search rules;
-    same_source = refl;
-    within = omega (arith, c.args.lines.now.within);
-    answered = answered_start _ _ _ _;
-  }
+  kept = c.requires.kept;
+  reads_never_fall = search rules;
+  writes_never_fall = search rules;
+  same_source = refl;
+  within = omega (arith, c.args.lines.now.within);
+  answered = answered_start _ _ _ _;
+}
 
 pub header_line-requires : goal.header_line-requires
 header_line-requires g c = c.loop-lines.invariant.kept

@@ -14,8 +14,8 @@ returns-in-Ok-clause-script g c =
     let numbered : id ≡ document_id c.len.result = ap (λ (a : Action). a.id) made in
     let routed : routing ≡ document_id c.len.result = ap (λ (a : Action). a.routing) made in
     indexes_ok _ _ _ _ _ _ _ id routing c.in_ok-source.ensures.line
-      (numbered ∙ ap document_id c.len.ensures) (routed ∙ sym numbered)
-      (ap (λ (s : List ℕ). option_map (λ w. c.args.store.now ++ keyword_document id routing w ∷ []) (keyword_of s)) (sym (ap (λ (a : Action). a.source) made)) ∙ c.in-Ok.ensures.document)
+    (numbered ∙ ap document_id c.len.ensures) (routed ∙ sym numbered)
+    (ap (λ (s : List ℕ). option_map (λ w. c.args.store.now ++ keyword_document id routing w ∷ []) (keyword_of s)) (sym (ap (λ (a : Action). a.source) made)) ∙ c.in-Ok.ensures.document)
 
 pub returns-in-Ok-clause-numbered : goal.returns-in-Ok-clause-numbered
 returns-in-Ok-clause-numbered g c =

@@ -6,13 +6,13 @@ use Rattle.agg_program.proofs.documents.load_documents.Goals as goal
 
 pub loop-store-init : goal.loop-store-init
 loop-store-init g c = record {
-    kept = c.requires;
-    never_falls = search rules;
-    same_source = refl;
-    numbered = ([], c.new-store.ensures);
-    few = let none : length c.new-store.result ≡ 0 = ap length c.new-store.ensures in omega arith;
-    so_far = so_far_start _ _ _ c.new-store.ensures;
-  }
+  kept = c.requires;
+  never_falls = search rules;
+  same_source = refl;
+  numbered = ([], c.new-store.ensures);
+  few = let none : length c.new-store.result ≡ 0 = ap length c.new-store.ensures in omega arith;
+  so_far = so_far_start _ _ _ c.new-store.ensures;
+}
 
 pub next_action-requires : goal.next_action-requires
 next_action-requires g c = c.loop-store.invariant.kept

@@ -10,5 +10,5 @@ returns-clause-front g c =
     let mid = g.K.Sink.written c.write_all.new.sink in
     let new = g.K.Sink.written c.write_all-2.new.sink in
     on_err_weaker c.write_all-2.result
-      (front_of_both old mid new c.args.line.now (10 ∷ []) (c.in_ok-write_all.ensures.all ∙ ap (append_known old) (c.as_bytes.ensures.value ∙ c.as_str.ensures)))
-      c.write_all-2.ensures.front
+    (front_of_both old mid new c.args.line.now (10 ∷ []) (c.in_ok-write_all.ensures.all ∙ ap (append_known old) (c.as_bytes.ensures.value ∙ c.as_str.ensures)))
+    c.write_all-2.ensures.front
