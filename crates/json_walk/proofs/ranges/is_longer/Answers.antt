@@ -1,0 +1,7 @@
+use Rattle.std.proofs.Common.{nat_lt, ap}
+use Rattle.std.proofs.lemmas.Iterator.{YieldsList-from_chars}
+use Rattle.std.proofs.lemmas.Iterator.Consumers.{count_from_yields_List}
+use Rattle.json_walk.proofs.ranges.is_longer.Goals as goal
+
+pub returns : goal.returns
+returns c = ap (nat_lt c.args.most) (count_from_yields_List c.chars.result _ c.count.ensures.ran (YieldsList-from_chars c.args.text.now c.utf8.text cc))

@@ -1,0 +1,217 @@
+-- A shard from its rows: the words of each row are in the dictionaries, and entries with their values are the rows.
+use Rattle.std.proofs.Common.{Bool, true, false, cond, eqb, T, zero, suc, ◌≡◌, refl, ℕ, ◌+◌, ◌<◌, ◌≤◌, List, [], ◌∷◌, ◌++◌, map, length, get_or, take, sym, ◌∙◌, ap, subst, arith, length-append, append_assoc, Contains, filter, ◌==◌, inl, inr}
+use Rattle.std.proofs.lemmas.List.{append-nil, map-append, get_or_past, length-map, get_or-map, take_more, length-take}
+use Rattle.std.proofs.lemmas.Bool.{cases_lt}
+use Rattle.std.proofs.Math.Facts.{eqb_yes}
+use Rattle.std.proofs.Math.Seq.{get_or-append_seam}
+use Rattle.std.specs.List.{zip}
+use Rattle.agg_model.specs.declared.row.FieldValues.{FieldValues}
+use Rattle.agg_evaluation.specs.Rows.{PlacedRow}
+use Rattle.shard_columns.specs.declared.layout.Entry.{Entry}
+use Rattle.shard_columns.specs.declared.layout.Laid.{Laid}
+use Rattle.shard_columns.specs.declared.values.Values.{Values}
+use Rattle.shard_columns.specs.Layout.{placed, flat_rows, row_at, values_of_laid, entries_of_laid, context_of, no_row, row_of, root_numbers}
+use Rattle.shard_columns.specs.Values.{Words, words_in, words_for, FieldsBelow, HasAllWords, AllAscend, IsAscending, cut, fields_of, row_values, IsWithin, WithinReach, SpansWithin}
+use Rattle.shard_columns.specs.Words.{AllFieldsBelow, AreDictionaries, row_words}
+use Rattle.shard_columns.specs.Given.{RowsBelow}
+use Rattle.shard_columns.proofs.Storing.{Contains-flat_map}
+use Rattle.shard_columns.proofs.Noting.{AllFieldsBelow-at}
+use Rattle.shard_columns.proofs.Placing.{length-flat_rows}
+
+-- a field beyond the mapping has no words
+words_for-none : (n f : ℕ) (fs : List FieldValues) → FieldsBelow n fs → n ≤ f → words_for f fs ≡ []
+unfolding FieldsBelow
+words_for-none n f [] below beyond = refl
+words_for-none n f (x ∷ xs) below beyond =
+    let other : (b : Bool) → eqb x.field f ≡ b → cond b (words_in x.values) [] ≡ [] =
+    λ b. elim b as (λ b. eqb x.field f ≡ b → cond b (words_in x.values) [] ≡ []) [
+      | true ↦ (λ e. let same : x.field ≡ f = eqb_yes (subst T (sym e) tt) in absurd (omega (arith, below.0)))
+      | false ↦ (λ e. refl)
+    ] in
+    ap (λ (ws : Words). ws ++ words_for f xs) (other (eqb x.field f) refl) ∙ words_for-none n f xs below.1 beyond
+
+pub HasAllWords-row : (words : List Words) (rows : List Laid) (n : ℕ) (d : Laid) → AllFieldsBelow (length words) rows → AreDictionaries (length words) rows words → n < length rows →
+    HasAllWords words (get_or rows n d).values.now
+HasAllWords-row words rows n d below are n_below =
+    let row = get_or rows n d in
+    let row_below = AllFieldsBelow-at (length words) rows n d n_below below in
+    record {
+      below = row_below;
+      known = λ f w has. elim (cases_lt f (length words)) [
+        | inl f_below ↦ (are.same f f_below).kept w (Contains-flat_map (row_words f) rows n d w n_below has)
+        | inr beyond ↦ (let none : Contains [] w = subst (λ (ws : Words). Contains ws w) (words_for-none (length words) f row.values.now row_below beyond) has in absurd (omega (arith, none.1)))
+      ];
+    }
+
+pub AllAscend-dictionaries : (words : List Words) (rows : List Laid) → AreDictionaries (length words) rows words → AllAscend words
+AllAscend-dictionaries words rows are = record {
+  ascend = λ f. elim (cases_lt f (length words)) [
+    | inl below ↦ (are.same f below).ascend
+    | inr beyond ↦ subst IsAscending (sym (get_or_past words f [] beyond)) (λ k d from below. absurd (omega arith))
+  ];
+}
+
+pub AddsRowValues-first : (words : List Words) (v : Values) → v.rows.items ≡ [] → v.fields.items ≡ [] → (row_values words v ≡ []) × IsWithin v
+unfolding WithinReach SpansWithin
+AddsRowValues-first words v no_rows no_fields = (
+  ap (map (cut (fields_of words v))) no_rows,
+  record { fields = subst (WithinReach (length v.stored.items)) (sym no_fields) tt; rows = subst (SpansWithin (length v.fields.items)) (sym no_rows) tt },
+)
+
+pub zip-map : {X A B : Type 0} (f : X → A) (g : X → B) (xs : List X) → zip (map f xs) (map g xs) ≡ map (λ x. (f x, g x)) xs
+zip-map f g [] = refl
+zip-map f g (x ∷ xs) = ap (λ ys. (f x, g x) ∷ ys) (zip-map f g xs)
+
+-- the rows have the values of their entries, one for one
+values-placed : (ids : List (List ℕ)) (rows : List PlacedRow) (es : List (Entry × List FieldValues)) → map (λ r. r.values) (placed ids rows es) ≡ map (λ r. r.values) rows ++ map (λ e. e.1) es
+unfolding placed
+values-placed ids rows [] = sym (append-nil (map (λ r. r.values) rows))
+values-placed ids rows (e ∷ es) =
+    values-placed ids (rows ++ row_at ids rows e.0 e.1 ∷ []) es
+    ∙ (ap (λ (vs : List (List FieldValues)). vs ++ map (λ e. e.1) es) (map-append (λ (r : PlacedRow). r.values) rows (row_at ids rows e.0 e.1 ∷ []))
+    ∙ append_assoc (map (λ r. r.values) rows) (e.1 ∷ []) (map (λ e. e.1) es))
+
+abbrev pair : Laid → Entry × List FieldValues
+pair l = (l.entry, l.values.now)
+
+pairs-values : (laid : List Laid) → map (λ e. e.1) (map pair laid) ≡ values_of_laid laid
+pairs-values [] = refl
+pairs-values (l ∷ ls) = ap (λ (vs : List (List FieldValues)). l.values.now ∷ vs) (pairs-values ls)
+
+below-laid : (n : ℕ) (rs : List PlacedRow) (ls : List Laid) → map (λ r. r.values) rs ≡ values_of_laid ls → RowsBelow n rs → AllFieldsBelow n ls
+unfolding RowsBelow AllFieldsBelow
+below-laid n [] [] e below = tt
+below-laid n (r ∷ rs) [] e below = tt
+below-laid n [] (l ∷ ls) e below = absurd (cc e)
+below-laid n (r ∷ rs) (l ∷ ls) e below =
+    let first : r.values ≡ l.values.now = cc e in
+    let rest : map (λ (r : PlacedRow). r.values) rs ≡ values_of_laid ls = cc e in
+    (subst (FieldsBelow n) first below.0, below-laid n rs ls rest below.1)
+
+pub AllFieldsBelow-given : (n : ℕ) (ids : List (List ℕ)) (laid : List Laid) (rows : List PlacedRow) → flat_rows ids laid ≡ rows → RowsBelow n rows → AllFieldsBelow n laid
+AllFieldsBelow-given n ids laid rows is below =
+    below-laid n rows laid (ap (map (λ (r : PlacedRow). r.values)) (sym is) ∙ (values-placed ids [] (map pair laid) ∙ pairs-values laid)) below
+
+-- entries and values, one for one, are the rows
+pub rows-stored : (ids : List (List ℕ)) (laid : List Laid) (entries : List Entry) (values : List (List FieldValues)) → entries ≡ entries_of_laid laid → values ≡ values_of_laid laid →
+    placed ids [] (zip entries values) ≡ flat_rows ids laid
+rows-stored ids laid entries values entries_are values_are =
+    ap (λ (es : List Entry). placed ids [] (zip es values)) entries_are ∙ (ap (λ (vs : List (List FieldValues)). placed ids [] (zip (entries_of_laid laid) vs)) values_are
+    ∙ ap (placed ids []) (zip-map (λ (l : Laid). l.entry) (λ (l : Laid). l.values.now) laid))
+
+pub sizes-stored : (ids : List (List ℕ)) (laid : List Laid) (entries : List Entry) (rows : List PlacedRow) → entries ≡ entries_of_laid laid → flat_rows ids laid ≡ rows → length entries ≡ length rows
+sizes-stored ids laid entries rows entries_are rows_are = ap length entries_are ∙ (length-map laid (λ (l : Laid). l.entry) ∙ (sym (length-flat_rows ids laid) ∙ ap length rows_are))
+
+-- what each row has, from its entry and its values alone
+pub map-placed : {B : Type 0} (f : PlacedRow → B) (g : Entry × List FieldValues → B) (ids : List (List ℕ)) (rows : List PlacedRow) (es : List (Entry × List FieldValues)) →
+    ((rs : List PlacedRow) (e : Entry × List FieldValues) → f (row_at ids rs e.0 e.1) ≡ g e) → map f (placed ids rows es) ≡ map f rows ++ map g es
+unfolding placed
+map-placed f g ids rows [] same = sym (append-nil (map f rows))
+map-placed {B} f g ids rows (e ∷ es) same =
+    map-placed f g ids (rows ++ row_at ids rows e.0 e.1 ∷ []) es same
+    ∙ (ap (λ (bs : List B). bs ++ map g es) (map-append f rows (row_at ids rows e.0 e.1 ∷ []) ∙ ap (λ (b : B). map f rows ++ b ∷ []) (same rows e))
+    ∙ append_assoc (map f rows) (g e ∷ []) (map g es))
+
+zip-first : {K X B : Type 0} (h : K → B) (ks : List K) (vs : List X) → length vs ≡ length ks → map (λ e. h e.0) (zip ks vs) ≡ map h ks
+zip-first h [] vs same = refl
+zip-first h (k ∷ ks) [] same = absurd (omega arith)
+zip-first {K} {X} {B} h (k ∷ ks) (v ∷ vs) same = ap (λ (bs : List B). h k ∷ bs) (zip-first h ks vs (omega arith))
+
+zip-second : {K X : Type 0} (ks : List K) (vs : List X) → length vs ≡ length ks → map (λ e. e.1) (zip ks vs) ≡ vs
+zip-second [] [] same = refl
+zip-second [] (v ∷ vs) same = absurd (omega arith)
+zip-second (k ∷ ks) [] same = absurd (omega arith)
+zip-second {K} {X} (k ∷ ks) (v ∷ vs) same = ap (λ (xs : List X). v ∷ xs) (zip-second ks vs (omega arith))
+
+pub contexts-are : (ids : List (List ℕ)) (es : List Entry) (vs : List (List FieldValues)) → length vs ≡ length es → map (λ r. r.context) (placed ids [] (zip es vs)) ≡ map (λ e. context_of e.origin) es
+contexts-are ids es vs same = map-placed (λ (r : PlacedRow). r.context) (λ (e : Entry × List FieldValues). context_of e.0.origin) ids [] (zip es vs) (λ rs e. refl) ∙ zip-first (λ (e : Entry). context_of e.origin) es vs same
+
+pub ids-are : (ids : List (List ℕ)) (es : List Entry) (vs : List (List FieldValues)) → length vs ≡ length es → map (λ r. r.id) (placed ids [] (zip es vs)) ≡ map (λ e. get_or ids e.document []) es
+ids-are ids es vs same = map-placed (λ (r : PlacedRow). r.id) (λ (e : Entry × List FieldValues). get_or ids e.0.document []) ids [] (zip es vs) (λ rs e. refl) ∙ zip-first (λ (e : Entry). get_or ids e.document []) es vs same
+
+pub values-are : (ids : List (List ℕ)) (es : List Entry) (vs : List (List FieldValues)) → length vs ≡ length es → map (λ r. r.values) (placed ids [] (zip es vs)) ≡ vs
+values-are ids es vs same = map-placed (λ (r : PlacedRow). r.values) (λ (e : Entry × List FieldValues). e.1) ids [] (zip es vs) (λ rs e. refl) ∙ zip-second es vs same
+
+pub size-is : (ids : List (List ℕ)) (es : List Entry) (vs : List (List FieldValues)) → length vs ≡ length es → length (placed ids [] (zip es vs)) ≡ length es
+size-is ids es vs same = sym (length-map (placed ids [] (zip es vs)) (λ (r : PlacedRow). r.context)) ∙ (ap length (contexts-are ids es vs same) ∙ length-map es (λ (e : Entry). context_of e.origin))
+
+pub context-at : (ids : List (List ℕ)) (es : List Entry) (vs : List (List FieldValues)) (n : ℕ) (e : Entry) → length vs ≡ length es → n < length es → e ≡ get_or es n e →
+    (row_of (placed ids [] (zip es vs)) n).context ≡ context_of e.origin
+context-at ids es vs n e same below is =
+    sym (get_or-map (λ (r : PlacedRow). r.context) (placed ids [] (zip es vs)) n no_row 0 (subst (λ (k : ℕ). n < k) (sym (size-is ids es vs same)) below))
+    ∙ (ap (λ (xs : List ℕ). get_or xs n 0) (contexts-are ids es vs same) ∙ (get_or-map (λ (e : Entry). context_of e.origin) es n e 0 below ∙ ap (λ (e : Entry). context_of e.origin) (sym is)))
+
+pub id-at : (ids : List (List ℕ)) (es : List Entry) (vs : List (List FieldValues)) (n : ℕ) (e : Entry) → length vs ≡ length es → n < length es → e ≡ get_or es n e →
+    (row_of (placed ids [] (zip es vs)) n).id ≡ get_or ids e.document []
+id-at ids es vs n e same below is =
+    sym (get_or-map (λ (r : PlacedRow). r.id) (placed ids [] (zip es vs)) n no_row [] (subst (λ (k : ℕ). n < k) (sym (size-is ids es vs same)) below))
+    ∙ (ap (λ (xs : List (List ℕ)). get_or xs n []) (ids-are ids es vs same) ∙ (get_or-map (λ (e : Entry). get_or ids e.document []) es n e [] below ∙ ap (λ (e : Entry). get_or ids e.document []) (sym is)))
+
+-- the roots among rows, by their numbers
+choose : (all : List PlacedRow) (b : Bool) (n : ℕ) (ns : List ℕ) → map (row_of all) (cond b (n ∷ ns) ns) ≡ cond b (row_of all n ∷ map (row_of all) ns) (map (row_of all) ns)
+choose all true n ns = refl
+choose all false n ns = refl
+
+pub roots-numbered : (n : ℕ) (all front rows : List PlacedRow) (es : List Entry) → all ≡ front ++ rows → length front ≡ n → map (λ r. r.context) rows ≡ map (λ e. context_of e.origin) es →
+    map (row_of all) (root_numbers n es) ≡ filter (λ r. r.context == 0) rows
+unfolding root_numbers
+roots-numbered n all front [] [] is at same = refl
+roots-numbered n all front (r ∷ rs) [] is at same = absurd (cc same)
+roots-numbered n all front [] (e ∷ es) is at same = absurd (cc same)
+roots-numbered n all front (r ∷ rs) (e ∷ es) is at same =
+    let first : r.context ≡ context_of e.origin = cc same in
+    let rest : map (λ (r : PlacedRow). r.context) rs ≡ map (λ (e : Entry). context_of e.origin) es = cc same in
+    let after : length (front ++ r ∷ []) ≡ n + 1 = omega (arith, length-append front (r ∷ []), at) in
+    let below = roots-numbered (n + 1) all (front ++ r ∷ []) rs es (is ∙ sym (append_assoc front (r ∷ []) rs)) after rest in
+    let here : row_of all n ≡ r = ap (λ (xs : List PlacedRow). get_or xs n no_row) is ∙ (ap (λ (k : ℕ). get_or (front ++ r ∷ rs) k no_row) (sym at) ∙ get_or-append_seam front r rs no_row) in
+    choose all (eqb (context_of e.origin) 0) n (root_numbers (n + 1) es)
+    ∙ (ap (λ (b : Bool). cond b (row_of all n ∷ map (row_of all) (root_numbers (n + 1) es)) (map (row_of all) (root_numbers (n + 1) es))) (ap (λ (k : ℕ). eqb k 0) (sym first))
+    ∙ (ap (λ (x : PlacedRow). cond (eqb r.context 0) (x ∷ map (row_of all) (root_numbers (n + 1) es)) (map (row_of all) (root_numbers (n + 1) es))) here
+    ∙ ap (λ (xs : List PlacedRow). cond (eqb r.context 0) (r ∷ xs) xs) below))
+
+root-below : (n : ℕ) (es : List Entry) (b : Bool) (k d : ℕ) → k < length (cond b (n ∷ root_numbers (n + 1) es) (root_numbers (n + 1) es)) →
+    ((j : ℕ) → j < length (root_numbers (n + 1) es) → get_or (root_numbers (n + 1) es) j d < (n + 1) + length es) →
+    get_or (cond b (n ∷ root_numbers (n + 1) es) (root_numbers (n + 1) es)) k d < n + suc (length es)
+root-below n es true zero d below rest = omega arith
+root-below n es true (suc k) d below rest = omega (arith, rest k (omega arith))
+root-below n es false k d below rest = omega (arith, rest k below)
+
+pub root_numbers-below : (n : ℕ) (es : List Entry) (k : ℕ) (d : ℕ) → k < length (root_numbers n es) → get_or (root_numbers n es) k d < n + length es
+unfolding root_numbers
+root_numbers-below n [] k d below = absurd (omega arith)
+root_numbers-below n (e ∷ es) k d below = root-below n es (eqb (context_of e.origin) 0) k d below (λ j at. root_numbers-below (n + 1) es j d at)
+
+split : (b : Bool) (n : ℕ) (xs ys : List ℕ) → cond b (n ∷ (xs ++ ys)) (xs ++ ys) ≡ cond b (n ∷ xs) xs ++ ys
+split true n xs ys = refl
+split false n xs ys = refl
+
+pub root_numbers-push : (n : ℕ) (es : List Entry) (e : Entry) → root_numbers n (es ++ e ∷ []) ≡ root_numbers n es ++ cond (eqb (context_of e.origin) 0) ((n + length es) ∷ []) []
+unfolding root_numbers
+root_numbers-push n [] e = ap (λ (k : ℕ). cond (eqb (context_of e.origin) 0) (k ∷ []) []) (let at : n ≡ n + 0 = omega arith in at)
+root_numbers-push n (x ∷ xs) e =
+    let at : (n + 1) + length xs ≡ n + suc (length xs) = omega arith in
+    let more = root_numbers-push (n + 1) xs e ∙ ap (λ (k : ℕ). root_numbers (n + 1) xs ++ cond (eqb (context_of e.origin) 0) (k ∷ []) []) at in
+    ap (λ (ns : List ℕ). cond (eqb (context_of x.origin) 0) (n ∷ ns) ns) more
+    ∙ split (eqb (context_of x.origin) 0) n (root_numbers (n + 1) xs) (cond (eqb (context_of e.origin) 0) ((n + suc (length xs)) ∷ []) [])
+
+few-below : (b : Bool) (n : ℕ) (ns : List ℕ) (k : ℕ) → length ns ≤ k → length (cond b (n ∷ ns) ns) ≤ suc k
+few-below true n ns k few = omega arith
+few-below false n ns k few = omega arith
+
+pub root_numbers-few : (n : ℕ) (es : List Entry) → length (root_numbers n es) ≤ length es
+unfolding root_numbers
+root_numbers-few n [] = omega arith
+root_numbers-few n (e ∷ es) = few-below (eqb (context_of e.origin) 0) n (root_numbers (n + 1) es) (length es) (root_numbers-few (n + 1) es)
+
+numbers-more : (rows : List Entry) (n : ℕ) (d : Entry) (b : Bool) → n < length rows → eqb (context_of (get_or rows n d).origin) 0 ≡ b → root_numbers 0 (take (n + 1) rows) ≡ root_numbers 0 (take n rows) ++ cond b (n ∷ []) []
+numbers-more rows n d b below is =
+    let at : 0 + length (take n rows) ≡ n = omega (arith, length-take n rows) in
+    ap (root_numbers 0) (take_more rows n d below) ∙ (root_numbers-push 0 (take n rows) (get_or rows n d)
+    ∙ (ap (λ (b : Bool). root_numbers 0 (take n rows) ++ cond b ((0 + length (take n rows)) ∷ []) []) is
+    ∙ ap (λ (k : ℕ). root_numbers 0 (take n rows) ++ cond b (k ∷ []) []) at))
+
+pub numbers-root : (rows : List Entry) (n : ℕ) (d : Entry) (now new : List ℕ) → n < length rows → eqb (context_of (get_or rows n d).origin) 0 ≡ true → now ≡ root_numbers 0 (take n rows) → new ≡ now ++ n ∷ [] → new ≡ root_numbers 0 (take (n + 1) rows)
+numbers-root rows n d now new below is before pushed = pushed ∙ (ap (λ (ns : List ℕ). ns ++ n ∷ []) before ∙ sym (numbers-more rows n d true below is))
+
+pub numbers-other : (rows : List Entry) (n : ℕ) (d : Entry) (now new : List ℕ) → n < length rows → eqb (context_of (get_or rows n d).origin) 0 ≡ false → now ≡ root_numbers 0 (take n rows) → new ≡ now → new ≡ root_numbers 0 (take (n + 1) rows)
+numbers-other rows n d now new below is before same = same ∙ (before ∙ (sym (append-nil (root_numbers 0 (take n rows))) ∙ sym (numbers-more rows n d false below is)))

@@ -1,0 +1,18 @@
+use Rattle.std.proofs.Common.{take}
+use Rattle.agg_model.specs.declared.row.Children.{out-Children}
+use Rattle.shard_columns.proofs.Laying.{RowsLaid, ChildrenLaid}
+use Rattle.shard_columns.proofs.layout.+lay.Given as goal
+
+abbrev pub decreases-lay_children : goal.decreases-lay_children
+decreases-lay_children l = goal.size-lay_children l
+
+abbrev pub decreases-lay_row : goal.decreases-lay_row
+decreases-lay_row l = goal.size-lay_row l
+
+abbrev pub invariant-lay_children-loop-number : goal.invariant-lay_children-loop-number
+invariant-lay_children-loop-number l =
+    RowsLaid l.initial.layout.rows.items l.layout.rows.items l.initial.layout.ends.items l.layout.ends.items l.document l.parent (out-Children l.children).path (take l.number l.row-items)
+
+abbrev pub invariant-lay_row-loop-children : goal.invariant-lay_row-loop-children
+invariant-lay_row-loop-children l =
+    ChildrenLaid l.fn.layout.rows.items l.layout.rows.items l.fn.layout.ends.items l.layout.ends.items l.row l.entry (take l.children-index l.children-items)

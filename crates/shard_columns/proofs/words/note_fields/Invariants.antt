@@ -1,0 +1,6 @@
+use Rattle.std.proofs.Common.{take}
+use Rattle.shard_columns.specs.Words.{Notes}
+use Rattle.shard_columns.proofs.words.note_fields.Given as goal
+
+abbrev pub invariant-loop-field : goal.invariant-loop-field
+invariant-loop-field l = Notes l.fn.words.items l.words.items (take l.field-index l.field-items)

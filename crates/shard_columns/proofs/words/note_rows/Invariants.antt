@@ -1,0 +1,6 @@
+use Rattle.std.proofs.Common.{take}
+use Rattle.shard_columns.specs.Words.{NotesRows}
+use Rattle.shard_columns.proofs.words.note_rows.Given as goal
+
+abbrev pub invariant-loop-row : goal.invariant-loop-row
+invariant-loop-row l = NotesRows l.fn.words.items l.words.items (take l.row-index l.rows)

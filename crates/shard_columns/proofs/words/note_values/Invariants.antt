@@ -1,0 +1,6 @@
+use Rattle.std.proofs.Common.{◌≡◌, ◌++◌, take}
+use Rattle.shard_columns.specs.Values.{words_in}
+use Rattle.shard_columns.proofs.words.note_values.Given as goal
+
+abbrev pub invariant-loop-value : goal.invariant-loop-value
+invariant-loop-value l = l.words ≡ l.fn.words ++ words_in (take l.value-index l.value-items)

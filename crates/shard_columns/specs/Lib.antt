@@ -1,0 +1,9 @@
+pub mod Layout
+pub mod Ends
+pub mod Values
+pub mod Words
+pub mod Columns
+pub mod Shard
+pub mod Given
+pub mod Cell
+pub mod Index

@@ -1,0 +1,109 @@
+-- What flat arrays of values stand for: the values of each row, by field.
+use Rattle.std.specs.Prelude.{◌≡◌, ℕ, ◌<◌, ◌≤◌, List, [], ◌∷◌, ◌++◌, map, length, slice_index_or, slice_range, Contains, IsSorted, find, Option, flat_map, if◌then◌else◌, ◌==◌}
+use Rattle.std.specs.Ordering.{nat_cmp}
+use Rattle.std.specs.Cmp.Lexicographic.{slice_cmp}
+use Rattle.agg_model.specs.declared.row.Scalar.{Scalar}
+use Rattle.agg_model.specs.declared.row.Scalar.TheVariants as scalar
+use Rattle.agg_model.specs.declared.row.FieldValues.{FieldValues}
+use Rattle.shard_columns.specs.declared.values.Stored.{Stored}
+use Rattle.shard_columns.specs.declared.values.Stored.TheVariants as stored
+use Rattle.shard_columns.specs.declared.values.Span.{Span}
+use Rattle.shard_columns.specs.declared.values.Held.{Held}
+use Rattle.shard_columns.specs.declared.values.Values.{Values}
+
+-- the words of a field, ascending
+abbrev pub Words : Type 0
+Words = List (List ℕ)
+
+abbrev pub shown : Words → Stored → Scalar
+shown words (stored.Whole n) = scalar.Whole n
+shown words (stored.Word place) = scalar.Word (slice_index_or words place [])
+shown words (stored.Flag b) = scalar.Flag b
+
+abbrev pub cut : {X : Type 0} → List X → Span → List X
+cut xs span = slice_range xs span.start span.end
+
+-- the values of one field of one row; `words` has the words of each field
+abbrev pub field_at : List Words → List Stored → Held → FieldValues
+field_at words stored h = record { field = h.field; values = map (shown (slice_index_or words h.field [])) (cut stored h.span) }
+
+abbrev pub fields_of : List Words → Values → List FieldValues
+fields_of words v = map (field_at words v.stored.items) v.fields.items
+
+-- the fields of each row
+abbrev pub row_values : List Words → Values → List (List FieldValues)
+row_values words v = map (cut (fields_of words v)) v.rows.items
+
+abbrev pub word_in : Scalar → Words
+word_in (scalar.Whole n) = []
+word_in (scalar.Word w) = w ∷ []
+word_in (scalar.Flag b) = []
+
+abbrev pub words_in : List Scalar → Words
+words_in = flat_map word_in
+
+-- the words of one field, in the order of the values
+abbrev pub words_at : ℕ → FieldValues → Words
+words_at field f = if f.field == field then words_in f.values else []
+
+abbrev pub words_for : ℕ → List FieldValues → Words
+words_for field = flat_map (words_at field)
+
+abbrev pub AllAmong : Words → Words → Type 0
+AllAmong xs ys = (w : List ℕ) → Contains xs w → Contains ys w
+
+abbrev pub IsAscending : Words → Type 0
+IsAscending = IsSorted (slice_cmp nat_cmp)
+
+abbrev pub HasWords : Words → List Scalar → Type 0
+HasWords words values = AllAmong (words_in values) words
+
+-- these fields are among the first n
+unfoldable pub FieldsBelow : ℕ → List FieldValues → Type 0
+FieldsBelow n [] = Unit {0}
+FieldsBelow n (f ∷ fs) = (f.field < n) × FieldsBelow n fs
+
+-- each word is among the words of its field
+pub record HasAllWords (words : List Words) (fields : List FieldValues) : Type 0 where
+  pub below : FieldsBelow (length words) fields
+  pub known : (f : ℕ) → AllAmong (words_for f fields) (slice_index_or words f [])
+
+pub record AllAscend (words : List Words) : Type 0 where
+  pub ascend : (f : ℕ) → IsAscending (slice_index_or words f [])
+
+-- a part of a list of this length
+abbrev pub IsPart : ℕ → Span → Type 0
+IsPart n span = (span.start ≤ span.end) × (span.end ≤ n)
+
+-- the values of each field lie within the flat array of this length
+unfoldable pub WithinReach : ℕ → List Held → Type 0
+WithinReach n [] = Unit {0}
+WithinReach n (h ∷ hs) = IsPart n h.span × WithinReach n hs
+
+unfoldable pub SpansWithin : ℕ → List Span → Type 0
+SpansWithin n [] = Unit {0}
+SpansWithin n (s ∷ ss) = IsPart n s × SpansWithin n ss
+
+pub record IsWithin (v : Values) : Type 0 where
+  pub fields : WithinReach (length v.stored.items) v.fields.items
+  pub rows : SpansWithin (length v.fields.items) v.rows.items
+
+pub record AddsValues (words : Words) (old new : List Stored) (values : List Scalar) : Type 0 where
+  pub added : List Stored
+  pub new_is : new ≡ old ++ added
+  pub shown_is : map (shown words) added ≡ values
+
+pub record AddsFields (words : List Words) (old new : Values) (fields : List FieldValues) : Type 0 where
+  pub fields_are : fields_of words new ≡ fields_of words old ++ fields
+  pub within : WithinReach (length new.stored.items) new.fields.items
+
+pub record AddsRowValues (words : List Words) (old new : Values) (fields : List FieldValues) : Type 0 where
+  pub rows_are : row_values words new ≡ row_values words old ++ fields ∷ []
+  pub within : IsWithin new
+
+abbrev pub no_span : Span
+no_span = record { start = 0; end = 0 }
+
+-- where the values of a field in a row are
+abbrev pub held_in : Values → ℕ → ℕ → Option Held
+held_in v row field = find (λ h. h.field == field) (cut v.fields.items (slice_index_or v.rows.items row no_span))

@@ -1,0 +1,263 @@
+ghost use Rattle.std.specs.Prelude.{◌≡◌, ◌<◌, ◌+◌, ◌^◌, ◌==◌, IfOk, length, map, [], Some, slice_get, slice_index_or};
+ghost use Rattle.shard_columns.specs.Values.{shown, row_values, IsWithin};
+ghost use Rattle.shard_columns.specs.Words.{AllFieldsBelow, AreDictionaries};
+ghost use Rattle.shard_columns.specs.Layout.{ids_of, values_of_laid, entries_of_laid, root_numbers as numbers_of_roots, row_of, context_of};
+ghost use Rattle.agg_evaluation.specs.Rows.{roots, values_of};
+ghost use Rattle.shard_columns.specs.Cell.{scalar_of};
+
+use crate::layout::{Entry, Laid, Layout, Origin, lay};
+use crate::values::{Stored, Values, held_at, push_row};
+use crate::words::dictionaries;
+use agg_model::copying::Copying;
+use agg_model::list::List;
+use agg_model::mapping::{Field, FieldKind, Mapping, NestedPath};
+use agg_model::row::Document;
+use agg_model::text::Text;
+use std::alloc::{AllocError, Global};
+use std::marker::Model;
+
+/// The documents of one shard as columns, which nothing changes. Its rows are numbered in the order of the documents, each
+/// before those that it encloses. Contracts see it as the kinds and contexts of the fields and the parents of the nested
+/// paths of its mapping, and its rows with their places.
+#[derive(Drop)]
+pub struct Shard {
+    kinds: Vec<FieldKind>,
+    contexts: Vec<u32>,
+    parents: Vec<u32>,
+    ids: Vec<Text>,
+    rows: Vec<Entry>,
+    ends: Vec<usize>,
+    roots: Vec<usize>,
+    words: Vec<List<Text>>,
+    values: Values,
+}
+
+impl Model for Shard {
+    ghost use Rattle.shard_columns.specs.Columns.{Columns};
+
+    ghost Value = { Columns };
+
+    ghost use Rattle.shard_columns.specs.Shard.{columns_of, IsSound};
+
+    ghost view = { columns_of };
+
+    ghost invariant = { IsSound };
+}
+
+// The values of all rows, whose words are in these dictionaries.
+fn store(alloc: Global, words: &[List<Text>], rows: &[Laid]) -> Result<Values, AllocError>
+    requires below { AllFieldsBelow (length words.now) rows.now }
+    requires dictionaries { AreDictionaries (length words.now) rows.now words.now }
+    ensures rows { IfOk result (λ v. row_values words.now v ≡ values_of_laid rows.now) }
+    ensures within { IfOk result (λ v. IsWithin v) }
+{
+    let mut values = Values {
+        rows: Vec::new(alloc),
+        fields: Vec::new(alloc),
+        stored: Vec::new(alloc),
+    };
+    for row in rows {
+        push_row(&mut values, words, row.values)?;
+    }
+    Ok(values)
+}
+
+fn copied_ids(alloc: Global, documents: &List<Document>) -> Result<Vec<Text>, AllocError>
+    ensures { IfOk result (λ ids. ids.items ≡ ids_of documents.now) }
+{
+    let mut ids = Vec::new(alloc);
+    for document in documents.as_slice() {
+        ids.push(document.id.copy(alloc)?)?;
+    }
+    Ok(ids)
+}
+
+fn entries(alloc: Global, rows: &[Laid]) -> Result<Vec<Entry>, AllocError>
+    ensures { IfOk result (λ v. v.items ≡ entries_of_laid rows.now) }
+{
+    rows.iter().map(|row| row.entry).collect(alloc)
+}
+
+// The bytes of the text at this place; none where the list is shorter.
+fn text_at(texts: &[Text], place: usize) -> &[u8]
+    ensures { result.now ≡ slice_index_or texts.now place [] }
+{
+    if place < texts.len() {
+        texts[place].as_str().as_bytes()
+    } else {
+        &[]
+    }
+}
+
+fn words_at(words: &[List<Text>], field: u32) -> &[Text]
+    ensures { result.now ≡ slice_index_or words.now field [] }
+{
+    let field = field as usize;
+    if field < words.len() {
+        words[field].as_slice()
+    } else {
+        &[]
+    }
+}
+
+fn cell_of(words: &[Text], stored: Stored) -> Cell<'_>
+    ensures { scalar_of result ≡ shown words.now stored }
+{
+    match stored {
+        Stored::Whole(n) => Cell::Whole(n),
+        Stored::Word(place) => Cell::Word(text_at(words, place)),
+        Stored::Flag(b) => Cell::Flag(b),
+    }
+}
+
+fn is_root(row: &Entry) -> bool
+    ensures { result ≡ (context_of row.now.origin == 0) }
+{
+    match row.origin {
+        Origin::Root => true,
+        Origin::Nested { .. } => false,
+    }
+}
+
+fn root_numbers(alloc: Global, rows: &[Entry]) -> Result<Vec<usize>, AllocError>
+    ensures { IfOk result (λ v. v.items ≡ numbers_of_roots 0 rows.now) }
+{
+    let mut roots = Vec::new(alloc);
+    for (number, row) in rows.iter().enumerate() {
+        if is_root(row) {
+            roots.push(number)?;
+        }
+    }
+    Ok(roots)
+}
+
+fn kinds(alloc: Global, fields: &[Field]) -> Result<Vec<FieldKind>, AllocError>
+    ensures { IfOk result (λ v. v.items ≡ map (λ f. f.kind) fields.now) }
+{
+    fields.iter().map(|field| field.kind).collect(alloc)
+}
+
+fn contexts(alloc: Global, fields: &[Field]) -> Result<Vec<u32>, AllocError>
+    ensures { IfOk result (λ v. v.items ≡ map (λ f. f.context) fields.now) }
+{
+    fields.iter().map(|field| field.context).collect(alloc)
+}
+
+fn parents(alloc: Global, nested: &[NestedPath]) -> Result<Vec<u32>, AllocError>
+    ensures { IfOk result (λ v. v.items ≡ map (λ p. p.parent) nested.now) }
+{
+    nested.iter().map(|path| path.parent).collect(alloc)
+}
+
+impl Shard {
+    ghost use Rattle.shard_columns.specs.Given.{IsGiven, columns_from};
+
+    /// The documents of a shard under their mapping.
+    pub fn build(
+        alloc: Global,
+        documents: &List<Document>,
+        mapping: &Mapping,
+    ) -> Result<Shard, AllocError>
+        requires { IsGiven mapping.now documents.now }
+        ensures { IfOk result (λ s. s ≡ columns_from mapping.now documents.now) }
+    {
+        let layout = lay(alloc, documents)?;
+        let fields = mapping.fields.as_slice();
+        let laid = layout.rows.as_slice();
+        let words = dictionaries(alloc, fields.len(), laid)?;
+        let values = store(alloc, words.as_slice(), laid)?;
+        let rows = entries(alloc, laid)?;
+        let roots = root_numbers(alloc, rows.as_slice())?;
+        let Layout { rows: _, ends } = layout;
+        let kinds = kinds(alloc, fields)?;
+        let contexts = contexts(alloc, fields)?;
+        let parents = parents(alloc, mapping.nested.as_slice())?;
+        let ids = copied_ids(alloc, documents)?;
+        Ok(Shard {
+            kinds,
+            contexts,
+            parents,
+            ids,
+            rows,
+            ends,
+            roots,
+            words,
+            values,
+        })
+    }
+
+    /// The number of rows.
+    pub fn len(&self) -> u32
+        ensures { result ≡ length self.now.rows }
+    {
+        self.rows.len() as u32
+    }
+
+    /// The number of documents.
+    pub fn roots(&self) -> u32
+        ensures { result ≡ length (roots self.now.rows) }
+    {
+        self.roots.len() as u32
+    }
+
+    /// The row of the document at this place.
+    pub fn root(&self, place: u32) -> u32
+        requires { place < length (roots self.now.rows) }
+        ensures number { result < length self.now.rows }
+        ensures row { slice_get (roots self.now.rows) place ≡ Some (row_of self.now.rows result) }
+    {
+        self.roots[place as usize] as u32
+    }
+
+    /// The context of a row: 0 at a root, i + 1 at the i-th nested path.
+    pub fn context(&self, row: u32) -> u32
+        requires { row < length self.now.rows }
+        ensures { result ≡ (row_of self.now.rows row).context }
+    {
+        match self.rows[row as usize].origin {
+            Origin::Root => 0,
+            Origin::Nested { path, .. } => path + 1,
+        }
+    }
+
+    /// The id of a row's document, in UTF-8.
+    pub fn id(&self, row: u32) -> &[u8]
+        requires { row < length self.now.rows }
+        ensures { result.now ≡ (row_of self.now.rows row).id }
+    {
+        text_at(self.ids.as_slice(), self.rows[row as usize].document)
+    }
+
+    /// The number of values that a row has of a field; none of a field of another context.
+    pub fn value_count(&self, row: u32, field: u32) -> u32
+        requires { row < length self.now.rows }
+        ensures { result ≡ length (values_of field (row_of self.now.rows row)) }
+    {
+        match held_at(&self.values, row as usize, field) {
+            Some(held) => (held.span.end - held.span.start) as u32,
+            None => 0,
+        }
+    }
+
+    /// The value of a field at this place of its ascending values in a row.
+    pub fn value(&self, row: u32, field: u32, place: u32) -> Cell<'_>
+        requires in_range { row < length self.now.rows }
+        requires there { place < length (values_of field (row_of self.now.rows row)) }
+        ensures { slice_get (values_of field (row_of self.now.rows row)) place ≡ Some (scalar_of result) }
+    {
+        match held_at(&self.values, row as usize, field) {
+            Some(held) => {
+                let words = words_at(self.words.as_slice(), held.field);
+                cell_of(words, self.values.stored[held.span.start + place as usize])
+            }
+            None => unreachable!(),
+        }
+    }
+}
+
+/// A value, with a word lent by the shard.
+pub enum Cell<'a> {
+    Whole(i64),
+    Word(&'a [u8]),
+    Flag(bool),
+}

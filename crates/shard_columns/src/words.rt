@@ -1,0 +1,114 @@
+// The words of each field of a shard: distinct, and in ascending order.
+ghost use Rattle.std.specs.Prelude.{◌≡◌, ◌++◌, ◌∷◌, ◌<◌, [], OnOk, IfOk, length};
+ghost use Rattle.shard_columns.specs.Values.{IsAscending, AllAmong, words_in, word_in, FieldsBelow};
+ghost use Rattle.shard_columns.specs.Words.{Notes, AllFieldsBelow, NotesRows, SameWords, AllSame, AreEmpty, AreDictionaries};
+
+use crate::layout::Laid;
+use agg_model::copying::Copying;
+use agg_model::list::List;
+use agg_model::row::{FieldValues, Scalar};
+use agg_model::text::Text;
+use std::alloc::{AllocError, Global};
+
+fn note_value(alloc: Global, words: &mut List<Text>, value: &Scalar) -> Result<(), AllocError>
+    ensures { OnOk result (words.new ≡ words.old ++ word_in value.now) }
+{
+    if let Scalar::Word(word) = value {
+        words.push(word.copy(alloc)?)?;
+    }
+    Ok(())
+}
+
+fn note_values(
+    alloc: Global,
+    words: &mut List<Text>,
+    values: &List<Scalar>,
+) -> Result<(), AllocError>
+    ensures { OnOk result (words.new ≡ words.old ++ words_in values.now) }
+{
+    for value in values.as_slice() {
+        note_value(alloc, words, value)?;
+    }
+    Ok(())
+}
+
+fn note_field(
+    alloc: Global,
+    words: &mut Vec<List<Text>>,
+    field: &FieldValues,
+) -> Result<(), AllocError>
+    requires { field.now.field < length words.old.items }
+    ensures { OnOk result (Notes words.old.items words.new.items (field.now ∷ [])) }
+{
+    note_values(alloc, &mut words[field.field as usize], &field.values)?;
+    Ok(())
+}
+
+fn note_fields(
+    alloc: Global,
+    words: &mut Vec<List<Text>>,
+    fields: &List<FieldValues>,
+) -> Result<(), AllocError>
+    requires { FieldsBelow (length words.old.items) fields.now }
+    ensures { OnOk result (Notes words.old.items words.new.items fields.now) }
+{
+    for field in fields.as_slice() {
+        note_field(alloc, words, field)?;
+    }
+    Ok(())
+}
+
+/// The distinct words of a list in ascending order.
+fn dictionary(words: List<Text>) -> Result<List<Text>, AllocError>
+    ensures { IfOk result (λ d. SameWords words d) }
+{
+    let mut words = words.into_vec();
+    words.sort()?;
+    words.dedup();
+    Ok(List::from_vec(words))
+}
+
+fn note_rows(alloc: Global, words: &mut Vec<List<Text>>, rows: &[Laid]) -> Result<(), AllocError>
+    requires { AllFieldsBelow (length words.old.items) rows.now }
+    ensures { OnOk result (NotesRows words.old.items words.new.items rows.now) }
+{
+    for row in rows {
+        note_fields(alloc, words, row.values)?;
+    }
+    Ok(())
+}
+
+fn empty_lists(alloc: Global, count: usize) -> Result<Vec<List<Text>>, AllocError>
+    ensures { IfOk result (λ words. AreEmpty count words.items) }
+{
+    let mut words = Vec::new(alloc);
+    for _place in 0..count {
+        words.push(List::new(alloc))?;
+    }
+    Ok(words)
+}
+
+fn sort_all(alloc: Global, words: Vec<List<Text>>) -> Result<Vec<List<Text>>, AllocError>
+    ensures { IfOk result (λ distinct. AllSame words.items distinct.items) }
+{
+    let mut distinct = Vec::new(alloc);
+    for list in words {
+        distinct.push(dictionary(list)?)?;
+    }
+    Ok(distinct)
+}
+
+/// For each of the first `count` fields its distinct words in ascending order.
+pub fn dictionaries(
+    alloc: Global,
+    count: usize,
+    rows: &[Laid],
+) -> Result<Vec<List<Text>>, AllocError>
+    requires { AllFieldsBelow count rows.now }
+    ensures { IfOk result (λ words. AreDictionaries count rows.now words.items) }
+{
+    let mut words = empty_lists(alloc, count)?;
+    note_rows(alloc, &mut words, rows)?;
+    let distinct = sort_all(alloc, words)?;
+    Ok(distinct)
+}
