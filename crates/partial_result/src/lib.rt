@@ -5,8 +5,6 @@ mod beginning;
 mod costing;
 pub mod laws;
 mod merging;
-#[cfg(test)]
-mod tests;
 
 pub use beginning::empty;
 pub use costing::cost;
