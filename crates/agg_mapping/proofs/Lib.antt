@@ -1,0 +1,4 @@
+pub mod CollectedLemmas
+pub mod Finding
+pub mod Placing
+pub mod Steps

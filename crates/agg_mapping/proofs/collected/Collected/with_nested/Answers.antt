@@ -1,0 +1,16 @@
+use Rattle.std.proofs.Common.{◌≡◌, ◌+◌, [], length, ap, ◌∙◌, arith}
+use Rattle.std.proofs.lemmas.List.{length_push}
+use Rattle.agg_reading.specs.declared.parts.FoundPath.{FoundPath}
+use Rattle.agg_mapping.specs.Arranged.{arranged}
+use Rattle.agg_mapping.proofs.CollectedLemmas.{room}
+use Rattle.agg_mapping.proofs.Placing.{placed-push}
+use Rattle.agg_mapping.proofs.collected.Collected.with_nested.Goals as goal
+
+pub invariant_of-result : goal.invariant_of-result
+invariant_of-result c =
+    let longer : length c.push.new.self ≡ length c.args.self.nested + 1 = ap length c.in_ok-push.ensures.ok ∙ length_push c.args.self.nested _ in
+    record { few = omega (arith, longer, room c.args.self c.requires) }
+
+pub returns : goal.returns
+unfolding arranged
+returns c = rw (c.in_ok-push.ensures.ok, placed-push (λ (p : FoundPath). p.path) [] c.args.self.nested, c.in_ok-of.ensures, c.in_ok-of-2.ensures)

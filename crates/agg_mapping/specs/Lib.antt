@@ -1,0 +1,4 @@
+pub mod Arranged
+pub mod Faults
+pub mod Paths
+pub mod Shards
