@@ -6,7 +6,7 @@ use Rattle.std.specs.Prelude.{codes, All, IfSome, option_map, ⊤}
 use Rattle.std.proofs.lemmas.Fmt.{decimal_injective}
 use Rattle.std.proofs.lemmas.List.{append_cancel_left}
 use Rattle.agg_model.specs.declared.row.Document.{Document}
-use Rattle.agg_documents.specs.SmallForm.{keyword_document, keyword_of}
+use Rattle.keyword_documents.specs.SmallForm.{keyword_document, keyword_of}
 use Rattle.document_terms.specs.SmallSearch.{HaveKeywords}
 use Rattle.agg_program.specs.Documents.{document_id, documents_of, documents, sources, with_keyword, IsNumbered}
 use Rattle.agg_program.specs.Reading.{Takes, Indexes}

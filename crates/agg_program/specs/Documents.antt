@@ -7,7 +7,7 @@ use Rattle.std.specs.Fmt.{decimal}
 use Rattle.agg_model.specs.declared.row.Document.{Document}
 use Rattle.agg_reading.specs.Outcome.{◌>>◌}
 use Rattle.agg_reading.specs.Lines.{Script, Line, Place, start, past, is_empty_line}
-use Rattle.agg_documents.specs.SmallForm.{keyword_of, keyword_document}
+use Rattle.keyword_documents.specs.SmallForm.{keyword_of, keyword_document}
 use Rattle.agg_program.specs.SmallForm.{not_built, within, index_text, action_text}
 
 abbrev pub max_actions : ℕ

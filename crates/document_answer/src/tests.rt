@@ -1,5 +1,5 @@
 ghost use Rattle.std.specs.Prelude.{◌≡◌, ◌≤◌, IfOk, length};
-ghost use Rattle.agg_documents.specs.SmallForm.{keyword_document};
+ghost use Rattle.keyword_documents.specs.SmallForm.{keyword_document};
 ghost use Rattle.document_terms.specs.SmallSearch.{HaveKeywords};
 
 use crate::answer::answer_of;

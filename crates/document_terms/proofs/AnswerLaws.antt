@@ -27,7 +27,7 @@ use Rattle.agg_evaluation.proofs.SearchLaws.{whole-alone}
 use Rattle.agg_evaluation.proofs.TreeLaws.{shard_answer-is_result}
 use Rattle.terms_agg.specs.Trim.{trimmed, node_buckets}
 use Rattle.terms_agg.proofs.TrimLaws.{trimmed-Terms}
-use Rattle.agg_documents.specs.SmallForm.{keyword_field}
+use Rattle.keyword_documents.specs.SmallForm.{keyword_field}
 use Rattle.document_terms.specs.Terms.{words_of, times, counted_bucket, term_node}
 use Rattle.document_terms.specs.SmallSearch.{terms_kind, terms_aggregation, IsTermsSearch, HaveKeywords}
 use Rattle.document_terms.proofs.CountLaws.{raised_by-sum, raised-times, length-map}

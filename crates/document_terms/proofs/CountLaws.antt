@@ -25,7 +25,7 @@ use Rattle.agg_evaluation.proofs.CounterLaws.{counters-groups}
 use Rattle.agg_evaluation.proofs.ListLaws.{map-append, filter_map-append}
 use Rattle.document_terms.specs.Terms.{word_of, words_of, times}
 use Rattle.document_terms.specs.SmallSearch.{terms_kind}
-use Rattle.agg_documents.specs.SmallForm.{keyword_field}
+use Rattle.keyword_documents.specs.SmallForm.{keyword_field}
 
 abbrev pub number : Key × ℕ → ℕ
 number c = c.1

@@ -13,7 +13,7 @@ use Rattle.agg_evaluation.specs.Rows.{PlacedRow, rows_of, shard_rows, roots}
 use Rattle.agg_evaluation.specs.Matching.{matched_roots}
 use Rattle.agg_evaluation.specs.Keys.{keys}
 use Rattle.agg_evaluation.proofs.Computing.{computing}
-use Rattle.agg_documents.specs.SmallForm.{keyword_field, keyword_row, keyword_document}
+use Rattle.keyword_documents.specs.SmallForm.{keyword_field, keyword_row, keyword_document}
 use Rattle.document_terms.specs.Terms.{as_word, word_of, words_of}
 use Rattle.document_terms.specs.SmallSearch.{terms_kind, HaveKeywords}
 

@@ -9,7 +9,7 @@ use Rattle.agg_model.specs.declared.aggregation.OrderBy.TheVariants as by
 use Rattle.agg_model.specs.declared.aggregation.Search.{Search}
 use Rattle.agg_model.specs.declared.query.Query.TheVariants.{All}
 use Rattle.agg_model.specs.declared.row.Document.{Document}
-use Rattle.agg_documents.specs.SmallForm.{keyword_field, keyword_row}
+use Rattle.keyword_documents.specs.SmallForm.{keyword_field, keyword_row}
 
 -- `terms` of the field `t` with its defaults: by descending count, 10 terms, of which a shard answers 25
 abbrev pub terms_kind : Kind

@@ -2,7 +2,7 @@
 ghost use Rattle.std.specs.Prelude.{◌≡◌, IfOk, map};
 ghost use Rattle.agg_evaluation.specs.Rows.{shard_rows};
 ghost use Rattle.agg_evaluation.specs.Shard.{shard_answer};
-ghost use Rattle.agg_documents.specs.SmallForm.{keyword_field};
+ghost use Rattle.keyword_documents.specs.SmallForm.{keyword_field};
 ghost use Rattle.terms_agg.specs.Trim.{trimmed};
 ghost use Rattle.document_terms.specs.Terms.{words_of, term_node};
 ghost use Rattle.document_terms.specs.SmallSearch.{IsTermsSearch, HaveKeywords};

@@ -1,7 +1,7 @@
 use Rattle.std.proofs.Common.{◌≡◌, ◌∙◌, ◌++◌, ◌∷◌, [], ℕ, List, sym, ap}
 use Rattle.std.specs.Prelude.{option_map}
 use Rattle.agg_model.specs.declared.bulk.Action.{Action}
-use Rattle.agg_documents.specs.SmallForm.{keyword_of, keyword_document}
+use Rattle.keyword_documents.specs.SmallForm.{keyword_of, keyword_document}
 use Rattle.agg_program.specs.Documents.{document_id}
 use Rattle.agg_program.proofs.DocumentLemmas.{indexes_ok, numbered_ok}
 use Rattle.agg_program.proofs.documents.index_next.Goals as goal

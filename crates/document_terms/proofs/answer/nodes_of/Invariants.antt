@@ -1,5 +1,5 @@
 use Rattle.std.proofs.Common.{◌≡◌, map, take}
-use Rattle.agg_documents.specs.SmallForm.{keyword_field}
+use Rattle.keyword_documents.specs.SmallForm.{keyword_field}
 use Rattle.terms_agg.specs.Trim.{trimmed}
 use Rattle.document_terms.specs.Terms.{words_of, term_node}
 use Rattle.document_terms.proofs.answer.nodes_of.Given as goal

@@ -2,8 +2,8 @@ ghost use Rattle.std.specs.Prelude.{◌≡◌, ◌⊎◌, [], None, Some, IfOk, 
 ghost use Rattle.serde_json.specs.View.{view, members_view};
 ghost use Rattle.agg_reading.specs.Json.{reading};
 ghost use Rattle.agg_model.specs.declared.bulk.ItemRefusal.{ItemRefusal};
-ghost use Rattle.agg_documents.specs.SmallForm.{keyword_of, keyword_in, keyword_row, keyword_document};
-ghost use Rattle.agg_documents.specs.declared.document.ItemFault.TheVariants.{Refused, Memory};
+ghost use Rattle.keyword_documents.specs.SmallForm.{keyword_of, keyword_in, keyword_row, keyword_document};
+ghost use Rattle.keyword_documents.specs.declared.document.ItemFault.TheVariants.{Refused, Memory};
 
 use agg_model::bulk::ItemRefusal;
 use agg_model::copying::Copying;

@@ -2,8 +2,8 @@ use Rattle.std.proofs.Common.{arith, sym}
 use Rattle.std.proofs.lemmas.Str.{is_utf8-from_IsUtf8}
 use Rattle.serde_json.specs.Errors.{IsMemory}
 use Rattle.agg_reading.specs.Json.{reading}
-use Rattle.agg_documents.proofs.Bytes.{no_reading}
-use Rattle.agg_documents.proofs.document.reading.Goals as goal
+use Rattle.keyword_documents.proofs.Bytes.{no_reading}
+use Rattle.keyword_documents.proofs.document.reading.Goals as goal
 
 pub returns-in-Ok : goal.returns-in-Ok
 unfolding reading

@@ -1,8 +1,8 @@
 ghost use Rattle.std.specs.Prelude.{◌≡◌, ◌≢◌, ◌⊎◌, ◌++◌, ◌∷◌, [], Some, None, All, IfOk, IfErr, OnErr, length, option_map, option_copied, slice_get};
 ghost use Rattle.agg_model.specs.declared.bulk.ActionKind.TheVariants.{Index};
 ghost use Rattle.agg_model.specs.declared.bulk.Applied.TheVariants.{Created};
-ghost use Rattle.agg_documents.specs.SmallForm.{keyword_of, keyword_document};
-ghost use Rattle.agg_documents.specs.declared.document.ItemFault.TheVariants.{Refused, Memory};
+ghost use Rattle.keyword_documents.specs.SmallForm.{keyword_of, keyword_document};
+ghost use Rattle.keyword_documents.specs.declared.document.ItemFault.TheVariants.{Refused, Memory};
 
 use crate::document::{ItemFault, document_of};
 use agg_model::bulk::{Action, Applied};
