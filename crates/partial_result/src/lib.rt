@@ -5,6 +5,8 @@ mod beginning;
 mod costing;
 pub mod laws;
 mod merging;
+#[cfg(test)]
+mod tests;
 
 pub use beginning::empty;
 pub use costing::cost;
