@@ -50,12 +50,12 @@ fn failing(alloc: Global, call: Option<u64>) -> Result<List<u64>, AllocError> {
 
 /// The read and the write of a run that fail, counted from 0.
 #[derive(Clone, Copy)]
-struct Faults {
+struct FailedCalls {
     read: Option<u64>,
     write: Option<u64>,
 }
 
-const NO_FAULT: Faults = Faults {
+const NO_FAULT: FailedCalls = FailedCalls {
     read: None,
     write: None,
 };
@@ -65,7 +65,7 @@ fn answered(
     alloc: Global,
     input: Bytes,
     piece: usize,
-    faults: Faults,
+    faults: FailedCalls,
 ) -> Result<(u8, Bytes), AllocError>
     requires { 1 ≤ piece }
 {

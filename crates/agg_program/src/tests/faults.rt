@@ -1,6 +1,6 @@
 //! Each read and each write of a run fails, one after another.
 
-use super::{Faults, INDEX, ONE_ANSWER, ONE_BODY, answered, are_first_lines, is_front, joined};
+use super::{FailedCalls, INDEX, ONE_ANSWER, ONE_BODY, answered, are_first_lines, is_front, joined};
 use std::alloc::Global;
 use std::process::Abort;
 use std::test::Fail;
@@ -34,7 +34,7 @@ const CASES: [Case; 2] = [
 fn failed_reads(rt: &impl Abort, alloc: Global, case: Case, piece: usize) -> Result<u64, Fail> {
     let all = case.output.as_bytes();
     for call in 0..MANY {
-        let faults = Faults {
+        let faults = FailedCalls {
             read: Some(call),
             write: None,
         };
@@ -54,7 +54,7 @@ fn failed_reads(rt: &impl Abort, alloc: Global, case: Case, piece: usize) -> Res
 fn failed_writes(rt: &impl Abort, alloc: Global, case: Case, piece: usize) -> Result<u64, Fail> {
     let all = case.output.as_bytes();
     for call in 0..MANY {
-        let faults = Faults {
+        let faults = FailedCalls {
             read: None,
             write: Some(call),
         };

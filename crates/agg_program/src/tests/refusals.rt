@@ -3,6 +3,7 @@
 use super::{INDEX, NO_FAULT, answered, is_front, joined};
 use agg_model::bytes::Bytes;
 use std::alloc::{AllocError, Global};
+use std::process::Abort;
 use std::test::Fail;
 
 /// The line of no actions.
@@ -18,103 +19,113 @@ fn refused_after(alloc: Global, before: &str, line: u64) -> Result<Bytes, AllocE
     joined(alloc, before, refusal.as_str())
 }
 
+/// Asserts that an input is refused at a line, and that these lines are written before.
+fn refuses(
+    rt: &impl Abort,
+    alloc: Global,
+    input: Bytes,
+    before: &str,
+    line: u64,
+) -> Result<(), Fail> {
+    let (status, written) = answered(alloc, input, 100, NO_FAULT)?;
+    let wanted = refused_after(alloc, before, line)?;
+    assert_eq!(rt; status, 5);
+    assert!(rt; written.as_slice() == wanted.as_slice(), "not refused at {line}");
+    Ok(())
+}
+
+#[test]
+fn no_line_and_another_index_are_refused(rt: HostRuntime) -> Result<(), Fail> {
+    let nothing = joined(rt.alloc(), "", "")?;
+    refuses(&rt, rt.alloc(), nothing, "", 0)?;
+    let another = joined(rt.alloc(), "{\"index\":\"j\"}", "\n\n\n")?;
+    refuses(&rt, rt.alloc(), another, "", 1)?;
+    Ok(())
+}
+
 #[test]
 fn the_first_line_of_another_form_is_refused(rt: HostRuntime) -> Result<(), Fail> {
-    // The index line, what is behind it, the lines before the refusal, and the line that is refused.
+    // What is behind the text of the index line, the lines before the refusal, and the line that is refused.
     let rows = [
         // The index line.
-        ("", "", "", 0u64),
-        ("{\"index\":\"j\"}", "\n\n\n", "", 1),
-        (INDEX, " \n\n\n", "", 1),
-        (INDEX, "\r\n\n\n", "", 1),
+        (" \n\n\n", "", 1u64),
+        ("\r\n\n\n", "", 1),
         // The second line.
-        (INDEX, "\nx\n\n", "", 2),
-        (INDEX, "\n{\"index\":{}}\n{\"t\":\"a\"}\n\n", "", 2),
+        ("\nx\n\n", "", 2),
+        ("\n{\"index\":{}}\n{\"t\":\"a\"}\n\n", "", 2),
         // An action line.
-        (INDEX, "\n\n{\"delete\":{\"_id\":\"9\"}}\n", "", 3),
-        (INDEX, "\n\n{\"index\":{\"_id\":\"9\"}}\n{\"t\":\"a\"}\n\n", "", 3),
-        (INDEX, "\n\n{\"index\": {}}\n{\"t\":\"a\"}\n\n", "", 3),
+        ("\n\n{\"delete\":{\"_id\":\"9\"}}\n", "", 3),
+        ("\n\n{\"index\":{\"_id\":\"9\"}}\n{\"t\":\"a\"}\n\n", "", 3),
+        ("\n\n{\"index\": {}}\n{\"t\":\"a\"}\n\n", "", 3),
         // A source line.
-        (INDEX, "\n\n{\"index\":{}}\n\n\n", "", 4),
-        (INDEX, "\n\n{\"index\":{}}\n{\"t\":\"a\"\n\n", "", 4),
-        (INDEX, "\n\n{\"index\":{}}\n{\"t\":1}\n\n", "", 4),
-        (INDEX, "\n\n{\"index\":{}}\n{\"t\":null}\n\n", "", 4),
-        (INDEX, "\n\n{\"index\":{}}\n{\"t\":[\"a\"]}\n\n", "", 4),
-        (INDEX, "\n\n{\"index\":{}}\n{\"n\":1}\n\n", "", 4),
-        (INDEX, "\n\n{\"index\":{}}\n{\"t\":\"a\",\"n\":1}\n\n", "", 4),
-        (INDEX, "\n\n{\"index\":{}}\n{}\n\n", "", 4),
-        (INDEX, "\n\n{\"index\":{}}\n[]\n\n", "", 4),
+        ("\n\n{\"index\":{}}\n\n\n", "", 4),
+        ("\n\n{\"index\":{}}\n{\"t\":\"a\"\n\n", "", 4),
+        ("\n\n{\"index\":{}}\n{\"t\":1}\n\n", "", 4),
+        ("\n\n{\"index\":{}}\n{\"t\":null}\n\n", "", 4),
+        ("\n\n{\"index\":{}}\n{\"t\":[\"a\"]}\n\n", "", 4),
+        ("\n\n{\"index\":{}}\n{\"n\":1}\n\n", "", 4),
+        ("\n\n{\"index\":{}}\n{\"t\":\"a\",\"n\":1}\n\n", "", 4),
+        ("\n\n{\"index\":{}}\n{}\n\n", "", 4),
+        ("\n\n{\"index\":{}}\n[]\n\n", "", 4),
         (
-            INDEX,
             "\n\n{\"index\":{}}\n{\"t\":\"a\"}\n{\"index\":{}}\n{\"t\":2}\n\n",
             "",
             6,
         ),
         // No empty line behind the actions.
-        (INDEX, "", "", 1),
-        (INDEX, "\n", "", 1),
-        (INDEX, "\n\n", "", 2),
-        (INDEX, "\n\n{\"index\":{}}\n", "", 3),
-        (INDEX, "\n\n{\"index\":{}}\n{\"t\":\"a\"}\n", "", 4),
-        (INDEX, "\n\n{\"index\":{}}\n{\"t\":\"a\"}", "", 4),
+        ("", "", 1),
+        ("\n", "", 1),
+        ("\n\n", "", 2),
+        ("\n\n{\"index\":{}}\n", "", 3),
+        ("\n\n{\"index\":{}}\n{\"t\":\"a\"}\n", "", 4),
+        ("\n\n{\"index\":{}}\n{\"t\":\"a\"}", "", 4),
         // A header.
-        (INDEX, "\n\n\n{\"index\":\"i\"}\n", NO_ITEM, 4),
-        (INDEX, "\n\n\n{}\r\n", NO_ITEM, 4),
+        ("\n\n\n{\"index\":\"i\"}\n", NO_ITEM, 4),
+        ("\n\n\n{}\r\n", NO_ITEM, 4),
         // A header without a body.
-        (INDEX, "\n\n\n{}\n", NO_ITEM, 4),
-        (INDEX, "\n\n\n\n{}", NO_ITEM, 5),
+        ("\n\n\n{}\n", NO_ITEM, 4),
+        ("\n\n\n\n{}", NO_ITEM, 5),
         // A body.
-        (INDEX, "\n\n\n{}\n\n", NO_ITEM, 5),
+        ("\n\n\n{}\n\n", NO_ITEM, 5),
         (
-            INDEX,
             "\n\n\n{}\n{\"aggs\":{\"t\":{\"terms\":{\"field\":\"n\"}}}}\n",
             NO_ITEM,
             5,
         ),
         (
-            INDEX,
             "\n\n\n{}\n{\"aggs\":{\"t\":{\"terms\":{\"field\":\"t\",\"size\":5}}}}\n",
             NO_ITEM,
             5,
         ),
         (
-            INDEX,
             "\n\n\n{}\n{\"aggs\":{\"t\":{\"terms\":{\"field\":\"t\"}}}}\r\n",
             NO_ITEM,
             5,
         ),
         (
-            INDEX,
             "\n\n\n{}\n{\"aggs\":{\"\":{\"terms\":{\"field\":\"t\"}}}}\n",
             NO_ITEM,
             5,
         ),
         (
-            INDEX,
             "\n\n\n{}\n{\"aggs\":{\"key\":{\"terms\":{\"field\":\"t\"}}}}\n",
             NO_ITEM,
             5,
         ),
         (
-            INDEX,
             "\n\n\n{}\n{\"aggs\":{\"T\":{\"terms\":{\"field\":\"t\"}}}}\n",
             NO_ITEM,
             5,
         ),
         // Behind an answer.
         (
-            INDEX,
             "\n\n\n{}\n{\"aggs\":{\"t\":{\"terms\":{\"field\":\"t\"}}}}\n{}",
             EMPTY_ANSWER,
             6,
         ),
     ];
-    for (index, rest, before, line) in rows {
-        let input = joined(rt.alloc(), index, rest)?;
-        let (status, written) = answered(rt.alloc(), input, 100, NO_FAULT)?;
-        let wanted = refused_after(rt.alloc(), before, line)?;
-        assert_eq!(rt; status, 5, "{rest}");
-        assert!(rt; written.as_slice() == wanted.as_slice(), "{rest}");
+    for (rest, before, line) in rows {
+        refuses(&rt, rt.alloc(), joined(rt.alloc(), INDEX, rest)?, before, line)?;
     }
     Ok(())
 }
