@@ -114,9 +114,11 @@ fn where_memory_runs_out_whole_lines_are_written(rt: HostRuntime) -> Result<(), 
     let input = joined(rt.alloc(), INDEX, ONE_BODY)?;
     let mut source = MemorySource::new(input, 65_536, List::new(rt.alloc()));
     let mut sink = MemorySink::new(rt.alloc(), 1_000, 65_536, List::new(rt.alloc()))?;
-    if run(rt.alloc(), &[], &mut source, &mut sink) == 7 {
+    let status = run(rt.alloc(), &[], &mut source, &mut sink);
+    if status == 7 {
         assert!(rt; are_first_lines(sink.written(), ONE_ANSWER.as_bytes()));
     } else {
+        assert_eq!(rt; status, 0);
         assert!(rt; sink.written() == ONE_ANSWER.as_bytes());
     }
     Ok(())
