@@ -7,3 +7,6 @@ pub mod Shard
 pub mod Given
 pub mod Cell
 pub mod Index
+pub mod Dictionary
+pub mod Kinds
+pub mod Beneath
