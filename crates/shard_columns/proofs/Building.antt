@@ -116,7 +116,7 @@ map-placed {B} f g ids rows (e ∷ es) same =
     ∙ (ap (λ (bs : List B). bs ++ map g es) (map-append f rows (row_at ids rows e.0 e.1 ∷ []) ∙ ap (λ (b : B). map f rows ++ b ∷ []) (same rows e))
     ∙ append_assoc (map f rows) (g e ∷ []) (map g es))
 
-zip-first : {K X B : Type 0} (h : K → B) (ks : List K) (vs : List X) → length vs ≡ length ks → map (λ e. h e.0) (zip ks vs) ≡ map h ks
+pub zip-first : {K X B : Type 0} (h : K → B) (ks : List K) (vs : List X) → length vs ≡ length ks → map (λ e. h e.0) (zip ks vs) ≡ map h ks
 zip-first h [] vs same = refl
 zip-first h (k ∷ ks) [] same = absurd (omega arith)
 zip-first {K} {X} {B} h (k ∷ ks) (v ∷ vs) same = ap (λ (bs : List B). h k ∷ bs) (zip-first h ks vs (omega arith))

@@ -7,7 +7,8 @@ use Rattle.std.specs.declared.cmp.Ordering.TheVariants.{Less, Equal, Greater}
 use Rattle.std.specs.Ordering.{nat_cmp, is_lt, is_eq, match_ordering}
 use Rattle.std.specs.Cmp.Lexicographic.{slice_cmp}
 use Rattle.std.specs.List.Sorted.{IsStrictlySortedBy, IsStrictlyIncreasing}
-use Rattle.std.proofs.lemmas.List.{append-nil, length-map}
+use Rattle.std.proofs.lemmas.List.{append-nil, get_or_past}
+use Rattle.std.proofs.lemmas.Bool.{cases_lt}
 use Rattle.std.proofs.lemmas.List.Folds.{flat_map-map}
 use Rattle.std.proofs.lemmas.List.Sums.{sum-map, sum_by-cons}
 use Rattle.std.proofs.lemmas.Grind.{flat_map-append}
@@ -26,9 +27,10 @@ use Rattle.agg_evaluation.proofs.Computing.{computing}
 use Rattle.agg_evaluation.proofs.KeyLists.{and_left, and_right, both, key_eq-self, key_eq-exact, less_is, same_keys, ascending-distinct_keys, has_key-distinct_keys, true_is}
 use Rattle.shard_columns.specs.declared.layout.Laid.{Laid}
 use Rattle.shard_columns.specs.Dictionary.{all_words, words_of, word_bytes, dictionary_bytes}
-use Rattle.shard_columns.specs.Layout.{values_of_laid, row_of}
+use Rattle.shard_columns.specs.Layout.{values_of_laid, row_of, no_row}
 use Rattle.shard_columns.specs.Values.{Words, word_in, words_in, words_at, words_for, AllAmong}
 use Rattle.shard_columns.specs.Words.{SameWords, AreDictionaries, row_words}
+use Rattle.shard_columns.proofs.Storing.{Contains-flat_map}
 use Rattle.shard_columns.proofs.Searching.{rises-far, rises-by, map-same}
 
 word_cmp : (v w : List ℕ) → key_cmp (key.Word v) (key.Word w) ≡ slice_cmp nat_cmp v w
@@ -104,7 +106,7 @@ has-among q vs ws among h =
     let there = among found.0 found.1.0 in
     subst (λ (k : Key). T (has_key k (as_keys ws))) (sym found.1.1) (has-word found.0 ws there.0 there.1 there.2)
 
-same-test : (a b : Bool) → (T a → T b) → (T b → T a) → a ≡ b
+pub same-test : (a b : Bool) → (T a → T b) → (T b → T a) → a ≡ b
 same-test true true f g = refl
 same-test true false f g = absurd (f tt)
 same-test false true f g = absurd (g tt)
@@ -171,6 +173,22 @@ row_words-all f laid rows d same rise =
     ∙ (ap (flat_map (words_for f)) (sym same)
     ∙ (flat_map-map (words_for f) (λ (r : PlacedRow). r.values) rows
     ∙ (rows-once f rows d rise ∙ flat-words (values_of f) rows)))
+
+-- what a row has is in the dictionary
+pub words_of-has : (f : ℕ) (rows : List PlacedRow) (n : ℕ) (w : List ℕ) → Contains (values_of f (row_of rows n)) (scalar.Word w) → Contains (words_of f rows) w
+words_of-has f rows n w has =
+    let vs = values_of f (row_of rows n) in
+    let here : Contains (words_in vs) w = Contains-flat_map word_in vs has.0 (scalar.Word w) w has.1 (subst (λ (v : Scalar). Contains (word_in v) w) (sym has.2) (0, omega arith, refl)) in
+    let all : Contains (all_words f rows) w =
+    elim (cases_lt n (length rows)) [
+      | inl below ↦ subst (λ (ws : Words). Contains ws w) (flat-words (values_of f) rows) (Contains-flat_map (λ (r : PlacedRow). words_in (values_of f r)) rows n no_row w below here)
+      | inr past ↦ (let none : Contains [] w = subst (λ (r : PlacedRow). Contains (words_in (values_of f r)) w) (get_or_past rows n no_row past) here in absurd (omega (arith, none.1)))
+    ] in
+    let kept : T (has_key (key.Word w) (as_keys (words_of f rows))) =
+    subst (λ (ks : List Key). T (has_key (key.Word w) ks)) (distinct-words (all_words f rows)) (subst T (sym (has_key-distinct_keys (key.Word w) (as_keys (all_words f rows)))) (has-word w (all_words f rows) all.0 all.1 all.2)) in
+    let found = in-words (key.Word w) (words_of f rows) kept in
+    let same : w ≡ found.0 = cc (found.1.1) in
+    subst (λ (u : List ℕ). Contains (words_of f rows) u) (sym same) found.1.0
 
 -- the bytes of distinct words are those of distinct keys
 

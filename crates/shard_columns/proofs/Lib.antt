@@ -11,3 +11,4 @@ pub mod Dictionaries
 pub mod Numbering
 pub mod Weighing
 pub mod Making
+pub mod Parents

@@ -190,3 +190,8 @@ pub taken : {X : Type 0} (xs : List X) (i : ℕ) (x : X) → i < length xs → x
 taken [] i x below is = absurd (omega (arith, below))
 taken (y ∷ ys) zero x below is = ap Some (sym is)
 taken (y ∷ ys) (suc i) x below is = taken ys i x (omega arith) is
+
+pub within-list : {X : Type 0} (xs : List X) (i : ℕ) (x : X) → slice_get xs i ≡ Some x → i < length xs
+within-list [] i x is = absurd (cc is)
+within-list (y ∷ ys) zero x is = omega arith
+within-list (y ∷ ys) (suc i) x is = let rest = within-list ys i x is in omega (arith, rest)

@@ -1,9 +1,11 @@
 -- What the weight of rows bounds.
-use Rattle.std.proofs.Common.{◌≡◌, refl, ℕ, ◌+◌, ◌<◌, ◌≤◌, zero, suc, true, false, Bool, cond, eqb, List, [], ◌∷◌, ◌++◌, Option, Some, None, length, get_or, map, find, flat_map, unwrap_or, option_map, sym, ◌∙◌, ap, subst, arith, length-append}
+use Rattle.std.proofs.Common.{◌≡◌, refl, ℕ, ◌+◌, ◌<◌, ◌≤◌, zero, suc, true, false, Bool, cond, eqb, List, [], ◌∷◌, ◌++◌, Option, Some, None, length, get_or, take, map, find, flat_map, unwrap_or, option_map, sym, ◌∙◌, ap, subst, arith, length-append}
 use Rattle.std.specs.Prelude.{nat_lt, sum, sum_by}
 use Rattle.std.specs.declared.cmp.Ordering.{Ordering}
 use Rattle.std.specs.declared.cmp.Ordering.TheVariants.{Less, Equal, Greater}
-use Rattle.std.specs.Ordering.{nat_cmp, match_ordering}
+use Rattle.std.specs.Ordering.{nat_cmp, match_ordering, ord_max}
+use Rattle.std.specs.List.{range_with_len}
+use Rattle.std.proofs.lemmas.List.{map-append}
 use Rattle.std.specs.Cmp.Lexicographic.{slice_cmp}
 use Rattle.std.proofs.lemmas.Grind.{flat_map-append}
 use Rattle.std.proofs.lemmas.Bool.Decides.{nat_tests}
@@ -15,11 +17,12 @@ use Rattle.agg_model.specs.declared.row.FieldValues.{FieldValues}
 use Rattle.agg_evaluation.specs.Ceiling.{greatest_of}
 use Rattle.agg_evaluation.specs.Rows.{PlacedRow, values_of}
 use Rattle.agg_evaluation.specs.Sorting.{ascending, insert_once}
-use Rattle.shard_columns.specs.Dictionary.{all_words, words_of, longest_word, value_count}
+use Rattle.shard_columns.specs.Dictionary.{all_words, words_of, longest_word, value_count, dictionary_bytes}
 use Rattle.shard_columns.specs.Layout.{row_of, no_row}
 use Rattle.shard_columns.specs.Values.{Words, word_in, words_in}
 use Rattle.shard_columns.specs.Weight.{scalar_weight, field_weight, row_weight, rows_weight}
-use Rattle.shard_columns.proofs.Dictionaries.{found_values, sum-cons}
+use Rattle.shard_columns.proofs.Dictionaries.{found_values, sum-cons, dictionary_bytes-words}
+use Rattle.shard_columns.proofs.Laying.{take-next}
 
 abbrev one_more : List ℕ → ℕ
 one_more w = 1 + length w
@@ -132,3 +135,43 @@ ascending-longest (w ∷ ws) = insert-longest w (ascending (slice_cmp nat_cmp) w
 
 pub longest-words : (f : ℕ) (rows : List PlacedRow) → greatest_of (map length (words_of f rows)) ≡ longest_word f rows
 longest-words f rows = ascending-longest (all_words f rows)
+
+greatest-push : (ns : List ℕ) (n : ℕ) → greatest_of (ns ++ n ∷ []) ≡ more (greatest_of ns) n
+greatest-push [] n = only n
+  where
+    only : (n : ℕ) → more n 0 ≡ more 0 n
+    only n = grind (arith, nat_tests)
+greatest-push (m ∷ ms) n = ap (more m) (greatest-push ms n) ∙ regroup m (greatest_of ms) n
+  where
+    regroup : (a b c : ℕ) → more a (more b c) ≡ more (more a b) c
+    regroup a b c = grind (arith, nat_tests)
+
+max-more : (a b : ℕ) → ord_max nat_cmp a b ≡ more a b
+max-more a b = grind (arith, nat_tests)
+
+-- the longest of one more word
+pub longest-more : (words : Words) (i : ℕ) (word : List ℕ) (longest bytes new : ℕ) → i < length words → word ≡ get_or words i word → bytes ≡ length word → longest ≡ greatest_of (map length (take i words)) →
+    new ≡ ord_max nat_cmp longest bytes → new ≡ greatest_of (map length (take (i + 1) words))
+longest-more words i word longest bytes new below is bytes_are before max =
+    let next : map length (take (i + 1) words) ≡ map length (take i words) ++ length word ∷ [] = ap (map length) (take-next words i word below is) ∙ map-append length (take i words) (word ∷ []) in
+    max ∙ (max-more longest bytes ∙ ((λ j. more (before j) (bytes_are j)) ∙ sym (ap greatest_of next ∙ greatest-push (map length (take i words)) (length word))))
+
+-- the bytes of all dictionaries, by the fields
+by-place : (g : ℕ → Words) (xs : List Words) (a : ℕ) → ((k : ℕ) → k < length xs → get_or xs k [] ≡ g (a + k)) → sum_by (λ ws. sum_by length ws) xs ≡ sum_by (λ f. sum_by length (g f)) (range_with_len a (length xs))
+by-place g [] a same = refl
+by-place g (x ∷ xs) a same =
+    let here : x ≡ g a = same 0 (omega arith) ∙ ap g (let e : a + 0 ≡ a = omega arith in e) in
+    let rest = by-place g xs (a + 1) (λ k below. same (suc k) (omega arith) ∙ ap g (let e : a + suc k ≡ a + 1 + k = omega arith in e)) in
+    sum_by-cons (λ (ws : Words). sum_by length ws) x xs ∙ ((λ i. sum_by length (here i) + rest i) ∙ sym (sum_by-cons (λ (f : ℕ). sum_by length (g f)) a (range_with_len (a + 1) (length xs))))
+
+same-sums : (f g : ℕ → ℕ) (xs : List ℕ) → ((x : ℕ) → f x ≡ g x) → sum_by f xs ≡ sum_by g xs
+same-sums f g [] same = refl
+same-sums f g (x ∷ xs) same = sum_by-cons f x xs ∙ ((λ i. same x i + same-sums f g xs same i) ∙ sym (sum_by-cons g x xs))
+
+pub dictionaries-bytes : (rows : List PlacedRow) (words : List Words) (fields : ℕ) → length words ≡ fields → ((f : ℕ) → get_or words f [] ≡ words_of f rows) →
+    sum_by (λ ws. sum_by length ws) words ≡ sum (map (dictionary_bytes rows) (range_with_len 0 fields))
+dictionaries-bytes rows words fields size same =
+    by-place (λ f. words_of f rows) words 0 (λ k below. same k ∙ ap (λ (f : ℕ). words_of f rows) (let e : k ≡ 0 + k = omega arith in e))
+    ∙ (ap (λ (n : ℕ). sum_by (λ f. sum_by length (words_of f rows)) (range_with_len 0 n)) size
+    ∙ (same-sums (λ f. sum_by length (words_of f rows)) (dictionary_bytes rows) (range_with_len 0 fields) (λ f. sym (dictionary_bytes-words f rows ∙ sum-map length (words_of f rows)))
+    ∙ sym (sum-map (dictionary_bytes rows) (range_with_len 0 fields))))

@@ -1,5 +1,5 @@
 // The words of each field of a shard: distinct, and in ascending order.
-ghost use Rattle.std.specs.Prelude.{◌≡◌, ◌++◌, ◌∷◌, ◌<◌, ◌≤◌, ◌^◌, ℕ, [], OnOk, IfOk, length, map, sum_by, slice_index_or};
+ghost use Rattle.std.specs.Prelude.{◌≡◌, ◌++◌, ◌∷◌, ◌<◌, ◌≤◌, ◌*◌, ◌^◌, ℕ, [], OnOk, IfOk, length, map, sum_by, slice_index_or};
 ghost use Rattle.agg_evaluation.specs.Ceiling.{greatest_of};
 ghost use Rattle.shard_columns.specs.Values.{IsAscending, AllAmong, words_in, word_in, FieldsBelow};
 ghost use Rattle.shard_columns.specs.Words.{Notes, AllFieldsBelow, NotesRows, SameWords, AllSame, AreEmpty, AreDictionaries};
@@ -120,9 +120,7 @@ pub fn longest_of(words: &[Text]) -> usize
 {
     let mut longest = 0;
     for word in words {
-        if longest < word.len() {
-            longest = word.len();
-        }
+        longest = longest.max(word.len());
     }
     longest
 }
@@ -142,7 +140,8 @@ fn bytes_of(words: &[Text]) -> u64
 pub fn all_bytes(words: &[List<Text>]) -> u64
     requires few { length words.now ≤ 1000 }
     requires light { (f : ℕ) → sum_by length (slice_index_or words.now f []) < 2 ^ 32 }
-    ensures { result ≡ sum_by (λ ws. sum_by length ws) words.now }
+    ensures sum { result ≡ sum_by (λ ws. sum_by length ws) words.now }
+    ensures bound { result ≤ 1000 * 2 ^ 32 }
 {
     let mut bytes = 0;
     for list in words {
