@@ -12,4 +12,5 @@ pub mod Kinds
 pub mod Beneath
 pub mod Rising
 pub mod Weight
+pub mod Example
 pub mod Contexts

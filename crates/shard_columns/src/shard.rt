@@ -349,6 +349,7 @@ impl Shard {
 }
 
 /// A value, with a word lent by the shard.
+#[derive(Clone, Copy)]
 pub enum Cell<'a> {
     Whole(i64),
     Word(&'a [u8]),
