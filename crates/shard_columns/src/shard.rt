@@ -1,4 +1,4 @@
-ghost use Rattle.std.specs.Prelude.{◌≡◌, ◌↔◌, ◌<◌, ◌+◌, IfOk, IfSome, IfNone, IsNone, length, map, sum_by, [], Some, slice_get, slice_index_or};
+ghost use Rattle.std.specs.Prelude.{◌≡◌, ◌↔◌, ◌<◌, ◌+◌, ◌^◌, ℕ, slice_index, IfOk, IfSome, IfNone, IsNone, length, map, sum_by, [], Some, slice_get, slice_index_or};
 ghost use Rattle.shard_columns.specs.Values.{shown, row_values, IsWithin, total_count};
 ghost use Rattle.shard_columns.specs.Words.{AllFieldsBelow, AreDictionaries};
 ghost use Rattle.shard_columns.specs.Layout.{ids_of, values_of_laid, entries_of_laid, row_of};
@@ -230,14 +230,24 @@ impl Shard {
         }
     }
 
+    // The numbers of the rows at a nested path within a row, ascending.
+    fn children(&self, row: u32, path: u32) -> &[usize]
+        requires { row < length self.now.rows }
+        ensures rows { map (row_of self.now.rows) result.now ≡ beneath self.now.rows (path + 1) (row_of self.now.rows row) }
+        ensures numbers { (k : ℕ) → k < length result.now → slice_index result.now k < length self.now.rows }
+        ensures few { length self.now.rows < 2 ^ 32 }
+    {
+        let numbers = numbers_of(self.numbers.as_slice(), path as usize + 1);
+        let span = span_between(numbers, row as usize, self.ends[row as usize]);
+        &numbers[span.start..span.end]
+    }
+
     /// The number of rows at a nested path within a row, on all levels; a row at that path counts within itself.
     pub fn child_count(&self, row: u32, path: u32) -> u32
         requires { row < length self.now.rows }
         ensures { result ≡ length (beneath self.now.rows (path + 1) (row_of self.now.rows row)) }
     {
-        let numbers = numbers_of(self.numbers.as_slice(), path as usize + 1);
-        let span = span_between(numbers, row as usize, self.ends[row as usize]);
-        (span.end - span.start) as u32
+        self.children(row, path).len() as u32
     }
 
     /// The row at this place among those that `child_count` counts, in their order.
@@ -247,9 +257,7 @@ impl Shard {
         ensures number { result < length self.now.rows }
         ensures row { slice_get (beneath self.now.rows (path + 1) (row_of self.now.rows row)) place ≡ Some (row_of self.now.rows result) }
     {
-        let numbers = numbers_of(self.numbers.as_slice(), path as usize + 1);
-        let span = span_between(numbers, row as usize, self.ends[row as usize]);
-        numbers[span.start + place as usize] as u32
+        self.children(row, path)[place as usize] as u32
     }
 
     /// The id of a row's document, in UTF-8.
