@@ -65,9 +65,11 @@ beneath-few rows context outer = filter-few (λ r. (r.context == context) && is_
 pub child-row : (rows : List PlacedRow) (context : ℕ) (outer : PlacedRow) (place : ℕ) (ns : List ℕ) → map (row_of rows) ns ≡ beneath rows context outer → place < length (beneath rows context outer) →
     (place < length ns) × (slice_get (beneath rows context outer) place ≡ Some (row_of rows (get_or ns place 0)))
 child-row rows context outer place ns are there =
-    let within : place < length ns = omega (arith, ap length are, length-map ns (row_of rows)) in
-    (within, slice_get-get_or (beneath rows context outer) place no_row there
-    ∙ ap Some (ap (λ (rs : List PlacedRow). get_or rs place no_row) (sym are) ∙ get_or-map (row_of rows) ns place 0 no_row within))
+    let within : place < length ns = omega (arith, ap length are, length-map ns (row_of rows)) in (
+      within,
+      slice_get-get_or (beneath rows context outer) place no_row there
+          ∙ ap Some (ap (λ (rs : List PlacedRow). get_or rs place no_row) (sym are) ∙ get_or-map (row_of rows) ns place 0 no_row within),
+    )
 
 heads-map : (words : List Words) (stored : List Stored) (hs : List Held) → map (λ (f : FieldValues). f.field) (map (field_at words stored) hs) ≡ map (λ (h : Held). h.field) hs
 heads-map words stored [] = refl

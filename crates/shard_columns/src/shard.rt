@@ -306,10 +306,7 @@ impl Shard {
         requires { ordinal < length (words_of field self.now.rows) }
         ensures { slice_get (words_of field self.now.rows) ordinal ≡ Some result.now }
     {
-        text_at(
-            words_at(self.words.as_slice(), field),
-            ordinal as usize,
-        )
+        text_at(words_at(self.words.as_slice(), field), ordinal as usize)
     }
 
     /// The place of a word in a field's dictionary, by binary search; none where no row has the word.
