@@ -7,3 +7,10 @@ pub mod Shard
 pub mod Given
 pub mod Cell
 pub mod Index
+pub mod Dictionary
+pub mod Kinds
+pub mod Beneath
+pub mod Rising
+pub mod Weight
+pub mod Example
+pub mod Contexts
