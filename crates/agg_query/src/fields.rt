@@ -57,7 +57,7 @@ pub fn field_in<'m>(
 fn is_beneath(outer: &[u8], path: &[u8]) -> bool
     ensures { result ≡ starts_with nat_eq path.now (outer.now ++ 46 ∷ []) }
 {
-    path.starts_with(outer) && outer.len() < path.len() && path[outer.len()] == b'.'
+    path.starts_with(outer) && path[outer.len()..].starts_with(b".")
 }
 
 /// Whether a path lies strictly beneath a context: 0 is the root, i + 1 the i-th nested path.

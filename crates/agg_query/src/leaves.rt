@@ -193,14 +193,14 @@ pub fn range(
     ensures { Gives (λ q. q) result (range_at mapping.now (pointer at.now) (view value.now)) }
 {
     let (path, said) = subject(alloc, at, value)?;
-    let at = At::Member(at, path);
-    let (place, field) = field(alloc, mapping, &at, path)?;
+    let field_at = At::Member(at, path);
+    let (place, field) = field(alloc, mapping, &field_at, path)?;
     if let FieldKind::Boolean = field.kind {
-        return at.refuse(alloc, 108);
+        return field_at.refuse(alloc, 108);
     }
     Ok(Query::Range {
         field: place,
-        tests: tests(alloc, field.kind, &at, said)?,
+        tests: tests(alloc, field.kind, &field_at, said)?,
     })
 }
 

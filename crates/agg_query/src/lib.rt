@@ -8,3 +8,5 @@ pub mod fields;
 pub mod leaves;
 pub mod probes;
 pub mod query;
+#[cfg(test)]
+mod tests;

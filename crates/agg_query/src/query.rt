@@ -4,7 +4,7 @@ ghost use Rattle.std.specs.Prelude.{◌≡◌, ◌≤◌, [], IfOk, codes};
 ghost use Rattle.serde_json.specs.View.{view, items_view, members_view};
 ghost use Rattle.json_walk.specs.Places.{pointer};
 ghost use Rattle.agg_reading.specs.Outcome.{Gives};
-ghost use Rattle.agg_reading.specs.Json.{optional};
+ghost use Rattle.agg_reading.specs.Json.{optional, sole_at};
 ghost use Rattle.agg_reading.specs.Numbers.{whole_at};
 ghost use Rattle.agg_reading.specs.Query.{query_name, minimum, queries_from, clause_at, all_at, clauses_at, bool_at, within_at, named_at, query_at, top_query_at, query_from};
 ghost use Rattle.agg_mapping.specs.Paths.{IsOrdered};
@@ -46,6 +46,21 @@ fn query_name(name: &str) -> Option<QueryName>
         "nested" => Some(QueryName::Nested),
         _ => None,
     }
+}
+
+/// The name and value of the only member; the object is refused with 107 where there is no member or more than one.
+#[tactic(auto, unfolding(agg_reading::specs::Json::sole_at))]
+fn sole_name<'v>(
+    alloc: Global,
+    at: &At<'_>,
+    members: &'v Map<String, Value>,
+) -> Result<(&'v str, &'v Value), RequestFault>
+    ensures { Gives (λ m. (m.0.now, view m.1.now)) result (sole_at 107 (pointer at.now) (members_view members.now.entries)) }
+{
+    let Some((name, value)) = sole_member(members) else {
+        return at.refuse(alloc, 107);
+    };
+    Ok((name, value))
 }
 
 /// The number in the member `minimum_should_match`, at most 1,024; none where it is absent.
@@ -321,9 +336,7 @@ impl Reader<'_> {
             return at.refuse(self.alloc, 111);
         }
         let members = object(self.alloc, 103, at, value)?;
-        let Some((name, value)) = sole_member(members) else {
-            return at.refuse(self.alloc, 107);
-        };
+        let (name, value) = sole_name(self.alloc, at, members)?;
         self.named(left - 1, context, at, before + 1, name, value)
     }
 }
