@@ -24,8 +24,8 @@ unfolding query_at
 no_level zero m context before at d h = refl
 no_level (suc left) m context before at d h = absurd (omega (arith, h))
 
-pub stopped : (left : ℕ) (m : Mapping) (context before : ℕ) (at : List ℕ) (d : Data) → (left ≡ 0) ⊎ (1024 ≤ before) → query_at left m context before at d ≡ refuse 111 at
-stopped left m context before at d h = ⊎_elim (no_level left m context before at d) (no_more left m context before at d) h
+pub stopped : (left : ℕ) (m : Mapping) (context before : ℕ) (at : List ℕ) (d : Data) → (left ≡ 0) ⊎ ((left ≡ 0 → ⊥) × (1024 ≤ before)) → query_at left m context before at d ≡ refuse 111 at
+stopped left m context before at d h = ⊎_elim (no_level left m context before at d) (λ both. no_more left m context before at d both.1) h
 
 one_less : (rest : ℕ) (m : Mapping) (context before : ℕ) (at : List ℕ) (d : Data) → before < 1024 → query_at (suc rest) m context before at d ≡ (object_at 103 at d >>= λ ms. sole_at 107 at ms >>= λ said. named_at (query_at rest m) m context at (before + 1) said.0 said.1)
 unfolding query_at
