@@ -223,11 +223,7 @@ pub fn exists(
 
 /// The ids of the items. The first item that is no text is refused with 103, the 65,537th with 111, each at its place.
 #[tactic(auto, unfolding(agg_reading::specs::Leaves::ids_from))]
-fn id_list(
-    alloc: Global,
-    at: &At<'_>,
-    items: &Vec<Value>,
-) -> Result<List<Text>, RequestFault>
+fn id_list(alloc: Global, at: &At<'_>, items: &Vec<Value>) -> Result<List<Text>, RequestFault>
     ensures { Gives (λ ids. ids) result (ids_from (pointer at.now) 0 [] (items_view items.now.items)) }
 {
     let mut ids = List::new(alloc);

@@ -89,12 +89,7 @@ pub fn probe_list_in(
 {
     match member(members, name) {
         None => Ok(None),
-        Some(value) => Ok(Some(probe_list(
-            alloc,
-            kind,
-            &At::Member(at, name),
-            value,
-        )?)),
+        Some(value) => Ok(Some(probe_list(alloc, kind, &At::Member(at, name), value)?)),
     }
 }
 
@@ -127,11 +122,6 @@ pub fn missing_in(
 {
     match member(members, "missing") {
         None => Ok(None),
-        Some(value) => Ok(Some(missing(
-            alloc,
-            kind,
-            &At::Member(at, "missing"),
-            value,
-        )?)),
+        Some(value) => Ok(Some(missing(alloc, kind, &At::Member(at, "missing"), value)?)),
     }
 }

@@ -201,8 +201,7 @@ impl Reader<'_> {
     {
         let (must, said, count) = self.all(left, context, at, before, members)?;
         let none = List::new(self.alloc);
-        let (must_not, count) =
-            self.clause(left, context, "must_not", at, none, count, members)?;
+        let (must_not, count) = self.clause(left, context, "must_not", at, none, count, members)?;
         let none = List::new(self.alloc);
         let (should, count) = self.clause(left, context, "should", at, none, count, members)?;
         let minimum = minimum(&must, &should, said);
