@@ -1,0 +1,5 @@
+//! The walk of one document's JSON source into its root row.
+#![tactic(auto)]
+
+mod draft;
+mod roles;
