@@ -1,2 +1,4 @@
 pub mod Fronts
+pub mod Items
+pub mod Order
 pub mod Places

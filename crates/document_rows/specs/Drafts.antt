@@ -3,15 +3,13 @@ use Rattle.std.specs.Prelude.{ℕ, List, [], ◌∷◌, ◌++◌, map, Bool, tru
 use Rattle.std.specs.List.{list_all}
 use Rattle.std.specs.Ordering.{nat_cmp, match_ordering}
 use Rattle.agg_model.specs.declared.mapping.Field.{Field}
-use Rattle.agg_model.specs.declared.mapping.FieldKind.{FieldKind}
-use Rattle.agg_model.specs.declared.mapping.FieldKind.TheVariants.{Long, Integer, Short, Byte, Keyword, Boolean}
 use Rattle.agg_model.specs.declared.row.Scalar.{Scalar}
-use Rattle.agg_model.specs.declared.row.Scalar.TheVariants.{Whole, Word, Flag}
 use Rattle.agg_model.specs.declared.row.FieldValues.{FieldValues}
 use Rattle.agg_model.specs.declared.row.Row.{Row}
 use Rattle.agg_model.specs.declared.row.Children.{Children, roll-Children}
 use Rattle.agg_reading.specs.declared.parts.Draft.{Draft}
 use Rattle.document_rows.specs.Roles.{kind_in}
+use Rattle.document_rows.specs.Scalars.{is_of_kind}
 
 -- one more item at a place, behind those before; the places stay ascending
 abbrev pub with_item : {A : Type 0} → ℕ → A → List (ℕ × List A) → List (ℕ × List A)
@@ -26,16 +24,6 @@ child_rows e = roll-Children (record { path = e.0; rows = e.1 })
 
 abbrev pub draft_of : List (ℕ × List Scalar) → List (ℕ × List Row) → Draft
 draft_of values children = record { values = map field_values values; children = map child_rows children }
-
--- a field of this kind may have the value
-abbrev pub is_of_kind : FieldKind → Scalar → Bool
-is_of_kind Keyword (Word w) = true
-is_of_kind Boolean (Flag b) = true
-is_of_kind Long (Whole z) = true
-is_of_kind Integer (Whole z) = true
-is_of_kind Short (Whole z) = true
-is_of_kind Byte (Whole z) = true
-is_of_kind _ _ = false
 
 -- each value is of the kind of its field
 abbrev pub is_typed : List Field → List FieldValues → Bool

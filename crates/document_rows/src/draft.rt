@@ -1,18 +1,27 @@
 //! A row while its object is walked.
 
-ghost use Rattle.std.specs.Prelude.{◌≡◌, OnOk, IfOk, length, unwrap_or, option_map, true};
-ghost use Rattle.std.specs.List.{list_all};
+ghost use Rattle.std.specs.Prelude.{◌≡◌, OnOk, length, unwrap_or, option_map};
 ghost use Rattle.std.specs.Map.{lookup};
 ghost use Rattle.std.specs.BTreeMap.{is_at};
 ghost use Rattle.std.specs.Ordering.{nat_cmp};
 ghost use Rattle.document_rows.specs.Drafts.{with_item};
 
+use crate::values::in_order;
 use agg_model::list::List;
-use agg_model::mapping::FieldKind;
 use agg_model::row::{Children, FieldValues, Row, Scalar};
 use std::alloc::{AllocError, Global};
 use std::collections::BTreeMap;
 use std::marker::Model;
+
+/// The number of items at a place.
+fn count<T>(lists: &BTreeMap<u32, List<T>>, place: u32) -> usize
+    ensures { result ≡ unwrap_or (option_map length (lookup (is_at (nat_cmp place)) lists.now.entries)) 0 }
+{
+    match lists.get(&place) {
+        Some(found) => found.len(),
+        None => 0,
+    }
+}
 
 /// Puts an item behind those that stand at its place.
 fn append<T: Drop>(
@@ -31,4 +40,77 @@ fn append<T: Drop>(
     first.push(item)?;
     lists.insert(place, first)?;
     Ok(())
+}
+
+/// A row while its object is walked: the values of each field and the rows at each nested path, in the order of the
+/// walk. A value is put in its place in time in the logarithm of the fields that have one.
+#[derive(Drop)]
+pub(crate) struct RowDraft {
+    values: BTreeMap<u32, List<Scalar>>,
+    children: BTreeMap<u32, List<Row>>,
+}
+
+impl Model for RowDraft {
+    ghost use Rattle.agg_reading.specs.declared.parts.Draft.{Draft};
+    ghost use Rattle.agg_model.specs.contracts.row.Children as child;
+    ghost use Rattle.std.specs.Coded.{codes};
+    ghost use Rattle.document_rows.specs.Drafts.{draft_of};
+
+    ghost Value = { Draft };
+
+    ghost coded = { Prim.hlevel (codes, child.the_row.coded) };
+
+    ghost view = { λ d. draft_of d.values.entries d.children.entries };
+}
+
+impl RowDraft {
+    ghost use Rattle.std.specs.Prelude.{IfOk, map, true};
+    ghost use Rattle.agg_reading.specs.Rows.{empty_draft, count_in, with_value, with_row, finished};
+    ghost use Rattle.document_rows.specs.Drafts.{is_typed};
+
+    /// A row without values; it takes no memory.
+    pub(crate) fn new(alloc: Global) -> Self
+        ensures { result ≡ empty_draft }
+    {
+        RowDraft {
+            values: BTreeMap::new(alloc),
+            children: BTreeMap::new(alloc),
+        }
+    }
+
+    /// The number of values of a field.
+    pub(crate) fn count(&self, field: u32) -> usize
+        ensures { result ≡ count_in field self.now.values }
+    {
+        count(&self.values, field)
+    }
+
+    /// One more value of a field, behind those before.
+    pub(crate) fn with_value(
+        self,
+        alloc: Global,
+        field: u32,
+        value: Scalar,
+    ) -> Result<Self, AllocError>
+        ensures { IfOk result (λ d. d ≡ record { values = with_value field value self.values; children = self.children }) }
+    {
+        let RowDraft {
+            mut values,
+            children,
+        } = self;
+        append(alloc, &mut values, field, value)?;
+        Ok(RowDraft { values, children })
+    }
+
+    /// One more row beneath at a nested path, behind those before.
+    pub(crate) fn with_row(self, alloc: Global, path: u32, row: Row) -> Result<Self, AllocError>
+        ensures { IfOk result (λ d. d ≡ record { values = self.values; children = with_row path row self.children }) }
+    {
+        let RowDraft {
+            values,
+            mut children,
+        } = self;
+        append(alloc, &mut children, path, row)?;
+        Ok(RowDraft { values, children })
+    }
 }

@@ -3,3 +3,4 @@
 
 mod draft;
 mod roles;
+mod values;
