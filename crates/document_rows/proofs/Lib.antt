@@ -1,3 +1,4 @@
+pub mod Added
 pub mod Fronts
 pub mod Items
 pub mod Order

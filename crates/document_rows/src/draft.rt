@@ -1,10 +1,12 @@
 //! A row while its object is walked.
 
-ghost use Rattle.std.specs.Prelude.{◌≡◌, OnOk, length, unwrap_or, option_map};
+ghost use Rattle.std.specs.Prelude.{◌≡◌, List as Items, true, map, IfOk, OnOk, length, unwrap_or, option_map};
 ghost use Rattle.std.specs.Map.{lookup};
 ghost use Rattle.std.specs.BTreeMap.{is_at};
 ghost use Rattle.std.specs.Ordering.{nat_cmp};
-ghost use Rattle.document_rows.specs.Drafts.{with_item};
+ghost use Rattle.agg_model.specs.declared.mapping.Field.{Field};
+ghost use Rattle.agg_reading.specs.Rows.{finished_field};
+ghost use Rattle.document_rows.specs.Drafts.{with_item, field_values, child_rows, is_typed};
 
 use crate::values::in_order;
 use agg_model::list::List;
@@ -42,6 +44,39 @@ fn append<T: Drop>(
     Ok(())
 }
 
+/// The values of each field, walked to the end.
+#[tactic(auto, unfolding(agg_reading::specs::Rows::finished_field))]
+fn finished_fields(
+    alloc: Global,
+    fields: BTreeMap<u32, List<Scalar>>,
+) -> Result<List<FieldValues>, AllocError>
+    requires { (all : Items Field) × (is_typed all (map field_values fields.entries) ≡ true) }
+    ensures { IfOk result (λ fs. fs ≡ map finished_field (map field_values fields.entries)) }
+{
+    let mut finished = List::new(alloc);
+    for (field, values) in fields {
+        finished.push(FieldValues {
+            field,
+            values: in_order(values)?,
+        })?;
+    }
+    Ok(finished)
+}
+
+/// The rows at each nested path.
+fn all_children(
+    alloc: Global,
+    children: BTreeMap<u32, List<Row>>,
+) -> Result<List<Children>, AllocError>
+    ensures { IfOk result (λ cs. cs ≡ map child_rows children.entries) }
+{
+    let mut all = List::new(alloc);
+    for (path, rows) in children {
+        all.push(Children { path, rows })?;
+    }
+    Ok(all)
+}
+
 /// A row while its object is walked: the values of each field and the rows at each nested path, in the order of the
 /// walk. A value is put in its place in time in the logarithm of the fields that have one.
 #[derive(Drop)]
@@ -64,9 +99,7 @@ impl Model for RowDraft {
 }
 
 impl RowDraft {
-    ghost use Rattle.std.specs.Prelude.{IfOk, map, true};
     ghost use Rattle.agg_reading.specs.Rows.{empty_draft, count_in, with_value, with_row, finished};
-    ghost use Rattle.document_rows.specs.Drafts.{is_typed};
 
     /// A row without values; it takes no memory.
     pub(crate) fn new(alloc: Global) -> Self
@@ -112,5 +145,18 @@ impl RowDraft {
         } = self;
         append(alloc, &mut children, path, row)?;
         Ok(RowDraft { values, children })
+    }
+
+    /// The row, walked to its end: the values of each field ascending, and each word once.
+    #[tactic(auto, unfolding(agg_reading::specs::Rows::finished, agg_reading::specs::Rows::finished_field))]
+    pub(crate) fn finish(self, alloc: Global) -> Result<Row, AllocError>
+        requires { (fields : Items Field) × (is_typed fields self.values ≡ true) }
+        ensures { IfOk result (λ row. row ≡ finished self) }
+    {
+        let RowDraft { values, children } = self;
+        Ok(Row {
+            values: finished_fields(alloc, values)?,
+            children: all_children(alloc, children)?,
+        })
     }
 }
