@@ -4,3 +4,4 @@
 mod draft;
 mod roles;
 mod values;
+mod walk;
