@@ -3,3 +3,4 @@ pub mod Fronts
 pub mod Items
 pub mod Order
 pub mod Places
+pub mod Typed

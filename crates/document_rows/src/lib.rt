@@ -1,6 +1,7 @@
 //! The walk of one document's JSON source into its root row.
 #![tactic(auto)]
 
+pub mod document;
 mod draft;
 mod roles;
 mod values;
