@@ -1,10 +1,10 @@
 //! Documents as rows.
 
-ghost use Rattle.std.specs.Prelude.{◌≡◌};
-ghost use Rattle.serde_json.specs.View.{view};
-ghost use Rattle.agg_reading.specs.Document.{document_at, document_value_at};
+ghost use Rattle.serde_json.specs.View.{view, members_view};
+ghost use Rattle.agg_reading.specs.Document.{document_value_at, document_at};
 ghost use Rattle.agg_mapping.specs.Paths.{IsOrdered};
 ghost use Rattle.document_values.specs.Faults.{Gives};
+ghost use Rattle.document_rows.specs.States.{root_at};
 
 use crate::draft::RowDraft;
 use crate::walk::{Walked, members, refuse};
@@ -12,18 +12,18 @@ use agg_model::mapping::Mapping;
 use agg_model::row::Row;
 use document_values::fault::ItemFault;
 use json_walk::bytes::reading;
-use serde_json::Value;
+use serde_json::{Map, Value};
 use std::alloc::Global;
 
-/// The root row that a value gives: 20 where it is no object.
-#[tactic(auto, unfolding(agg_reading::specs::Document::document_value_at))]
-fn row_of(alloc: Global, mapping: &Mapping, value: &Value) -> Result<Row, ItemFault>
+/// The root row that the members of an object give.
+fn row_of_members(
+    alloc: Global,
+    mapping: &Mapping,
+    found: &Map<String, Value>,
+) -> Result<Row, ItemFault>
     requires { IsOrdered mapping.now }
-    ensures row { Gives (λ r. r) result (document_value_at mapping.now (view value.now)) }
+    ensures { Gives (λ r. r) result (root_at mapping.now (members_view found.now.entries)) }
 {
-    let Value::Object(found) = value else {
-        return refuse(alloc, 20, "");
-    };
     let begun = Walked {
         row: RowDraft::new(alloc),
         met: 0,
@@ -31,6 +31,18 @@ fn row_of(alloc: Global, mapping: &Mapping, value: &Value) -> Result<Row, ItemFa
     };
     let ended = members(alloc, mapping, 0, begun, found)?;
     Ok(ended.row.finish(alloc)?)
+}
+
+/// The root row that a value gives: 20 where it is no object.
+#[tactic(auto, unfolding(agg_reading::specs::Document::document_value_at, agg_reading::specs::Json::object_at))]
+fn row_of(alloc: Global, mapping: &Mapping, value: &Value) -> Result<Row, ItemFault>
+    requires { IsOrdered mapping.now }
+    ensures { Gives (λ r. r) result (document_value_at mapping.now (view value.now)) }
+{
+    match value {
+        Value::Object(found) => row_of_members(alloc, mapping, found),
+        _ => refuse(alloc, 20, ""),
+    }
 }
 
 /// The root row that a source gives by a mapping (Elasticsearch Reference 8, 'Mapping', 'Nested field type'). Members

@@ -4,5 +4,7 @@
 pub mod document;
 mod draft;
 mod roles;
+#[cfg(test)]
+mod tests;
 mod values;
 mod walk;

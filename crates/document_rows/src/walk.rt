@@ -81,12 +81,7 @@ fn with_scalar(
 
 /// A value that is neither null nor a list nor an object: 21 where the path is no field.
 #[tactic(auto, unfolding(agg_reading::specs::Document::leaf_at))]
-fn leaf(
-    alloc: Global,
-    role: Role,
-    walked: Walked,
-    value: &Value,
-) -> Result<Walked, ItemFault>
+fn leaf(alloc: Global, role: Role, walked: Walked, value: &Value) -> Result<Walked, ItemFault>
     ensures value { Gives state_of result (leaf_at role (string_bytes walked.path) (state_of walked) (view value.now)) }
     ensures path { IfOk result (λ w. string_bytes w.path ≡ string_bytes walked.path) }
 {
@@ -127,12 +122,7 @@ fn back(walked: Walked, end: usize) -> Walked
 
 /// The row around a nested object, after that was walked.
 #[tactic(auto, unfolding(agg_reading::specs::Document::around))]
-fn around(
-    alloc: Global,
-    place: u32,
-    row: RowDraft,
-    ended: Walked,
-) -> Result<Walked, ItemFault>
+fn around(alloc: Global, place: u32, row: RowDraft, ended: Walked) -> Result<Walked, ItemFault>
     requires { (fields : List Field) × (is_typed fields ended.row.values ≡ true) }
     ensures value { (met : ℕ) → Gives state_of result (around place (row, met) (state_of ended)) }
     ensures path { IfOk result (λ w. string_bytes w.path ≡ string_bytes ended.path) }
