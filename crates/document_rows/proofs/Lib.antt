@@ -1,0 +1,6 @@
+pub mod Added
+pub mod Fronts
+pub mod Items
+pub mod Order
+pub mod Places
+pub mod Typed

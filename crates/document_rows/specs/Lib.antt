@@ -1,0 +1,4 @@
+pub mod Drafts
+pub mod Roles
+pub mod Scalars
+pub mod States

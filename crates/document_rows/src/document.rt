@@ -1,0 +1,67 @@
+//! Documents as rows.
+
+ghost use Rattle.serde_json.specs.View.{view, members_view};
+ghost use Rattle.agg_reading.specs.Document.{document_value_at, document_at};
+ghost use Rattle.agg_mapping.specs.Paths.{IsOrdered};
+ghost use Rattle.document_values.specs.Faults.{Gives};
+ghost use Rattle.document_rows.specs.States.{root_at};
+
+use crate::draft::RowDraft;
+use crate::walk::{Walked, members, refuse};
+use agg_model::mapping::Mapping;
+use agg_model::row::Row;
+use document_values::fault::ItemFault;
+use json_walk::bytes::reading;
+use serde_json::{Map, Value};
+use std::alloc::Global;
+
+/// The root row that the members of an object give.
+fn row_of_members(
+    alloc: Global,
+    mapping: &Mapping,
+    found: &Map<String, Value>,
+) -> Result<Row, ItemFault>
+    requires { IsOrdered mapping.now }
+    ensures { Gives (λ r. r) result (root_at mapping.now (members_view found.now.entries)) }
+{
+    let begun = Walked {
+        row: RowDraft::new(alloc),
+        met: 0,
+        path: String::new(alloc),
+    };
+    let ended = members(alloc, mapping, 0, begun, found)?;
+    Ok(ended.row.finish(alloc)?)
+}
+
+/// The root row that a value gives: 20 where it is no object.
+#[tactic(auto, unfolding(agg_reading::specs::Document::document_value_at, agg_reading::specs::Json::object_at))]
+fn row_of(alloc: Global, mapping: &Mapping, value: &Value) -> Result<Row, ItemFault>
+    requires { IsOrdered mapping.now }
+    ensures { Gives (λ r. r) result (document_value_at mapping.now (view value.now)) }
+{
+    match value {
+        Value::Object(found) => row_of_members(alloc, mapping, found),
+        _ => refuse(alloc, 20, ""),
+    }
+}
+
+/// The root row that a source gives by a mapping (Elasticsearch Reference 8, 'Mapping', 'Nested field type'). Members
+/// are walked in byte order of their names; null and, unless the mapping is strict, an unmapped member stand for nothing,
+/// and a list for its elements.
+///
+/// The first refusal of the walk has the path of the member, its names joined by dots: 21 a value of the wrong type, 22 a
+/// number out of its type's range, 23 a keyword above 32,766 bytes, 24 the 10,001st nested object, 25 the 1,025th value of
+/// a field in a row, 27 an unmapped member where the mapping is strict. 20, with no path, is a source that is no JSON
+/// object (RFC 8259) or nests deeper than 127. Want of memory may come in the place of any answer.
+///
+/// It takes time in proportion to the bytes of the source times the logarithm of the size of the mapping.
+#[tactic(auto, unfolding(agg_reading::specs::Document::document_at))]
+pub fn root_row_of(alloc: Global, mapping: &Mapping, source: &[u8]) -> Result<Row, ItemFault>
+    requires { IsOrdered mapping.now }
+    ensures row { Gives (λ r. r) result (document_at mapping.now source.now) }
+{
+    match reading(alloc, source)? {
+        Some(value) => row_of(alloc, mapping, &value),
+        None => refuse(alloc, 20, ""),
+    }
+}

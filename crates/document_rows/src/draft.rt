@@ -1,0 +1,162 @@
+//! A row while its object is walked.
+
+ghost use Rattle.std.specs.Prelude.{◌≡◌, List as Items, true, map, IfOk, OnOk, length, unwrap_or, option_map};
+ghost use Rattle.std.specs.Map.{lookup};
+ghost use Rattle.std.specs.BTreeMap.{is_at};
+ghost use Rattle.std.specs.Ordering.{nat_cmp};
+ghost use Rattle.agg_model.specs.declared.mapping.Field.{Field};
+ghost use Rattle.agg_reading.specs.Rows.{finished_field};
+ghost use Rattle.document_rows.specs.Drafts.{with_item, field_values, child_rows, is_typed};
+
+use crate::values::in_order;
+use agg_model::list::List;
+use agg_model::row::{Children, FieldValues, Row, Scalar};
+use std::alloc::{AllocError, Global};
+use std::collections::BTreeMap;
+use std::marker::Model;
+
+/// The number of items at a place.
+fn count<T>(lists: &BTreeMap<u32, List<T>>, place: u32) -> usize
+    ensures { result ≡ unwrap_or (option_map length (lookup (is_at (nat_cmp place)) lists.now.entries)) 0 }
+{
+    match lists.get(&place) {
+        Some(found) => found.len(),
+        None => 0,
+    }
+}
+
+/// Puts an item behind those that stand at its place.
+fn append<T: Drop>(
+    alloc: Global,
+    lists: &mut BTreeMap<u32, List<T>>,
+    place: u32,
+    item: T,
+) -> Result<(), AllocError>
+    ensures { OnOk result (lists.new.entries ≡ with_item place item lists.old.entries) }
+{
+    if let Some(found) = lists.get_mut(&place) {
+        found.push(item)?;
+        return Ok(());
+    }
+    let mut first = List::new(alloc);
+    first.push(item)?;
+    lists.insert(place, first)?;
+    Ok(())
+}
+
+/// The values of each field, walked to the end.
+#[tactic(auto, unfolding(agg_reading::specs::Rows::finished_field))]
+fn finished_fields(
+    alloc: Global,
+    fields: BTreeMap<u32, List<Scalar>>,
+) -> Result<List<FieldValues>, AllocError>
+    requires { (all : Items Field) × (is_typed all (map field_values fields.entries) ≡ true) }
+    ensures { IfOk result (λ fs. fs ≡ map finished_field (map field_values fields.entries)) }
+{
+    let mut finished = List::new(alloc);
+    for (field, values) in fields {
+        finished.push(FieldValues {
+            field,
+            values: in_order(values)?,
+        })?;
+    }
+    Ok(finished)
+}
+
+/// The rows at each nested path.
+fn all_children(
+    alloc: Global,
+    children: BTreeMap<u32, List<Row>>,
+) -> Result<List<Children>, AllocError>
+    ensures { IfOk result (λ cs. cs ≡ map child_rows children.entries) }
+{
+    let mut all = List::new(alloc);
+    for (path, rows) in children {
+        all.push(Children { path, rows })?;
+    }
+    Ok(all)
+}
+
+/// A row while its object is walked: the values of each field and the rows at each nested path, in the order of the
+/// walk. A value is put in its place in time in the logarithm of the fields that have one.
+#[derive(Drop)]
+pub(crate) struct RowDraft {
+    values: BTreeMap<u32, List<Scalar>>,
+    children: BTreeMap<u32, List<Row>>,
+}
+
+impl Model for RowDraft {
+    ghost use Rattle.agg_reading.specs.declared.parts.Draft.{Draft};
+    ghost use Rattle.agg_model.specs.contracts.row.Children as child;
+    ghost use Rattle.std.specs.Coded.{codes};
+    ghost use Rattle.document_rows.specs.Drafts.{draft_of};
+
+    ghost Value = { Draft };
+
+    ghost coded = { Prim.hlevel (codes, child.the_row.coded) };
+
+    ghost view = { λ d. draft_of d.values.entries d.children.entries };
+}
+
+impl RowDraft {
+    ghost use Rattle.agg_reading.specs.Rows.{empty_draft, count_in, with_value, with_row, finished};
+
+    /// A row without values; it takes no memory.
+    pub(crate) fn new(alloc: Global) -> Self
+        ensures { result ≡ empty_draft }
+    {
+        RowDraft {
+            values: BTreeMap::new(alloc),
+            children: BTreeMap::new(alloc),
+        }
+    }
+
+    /// The number of values of a field.
+    pub(crate) fn count(&self, field: u32) -> usize
+        ensures { result ≡ count_in field self.now.values }
+    {
+        count(&self.values, field)
+    }
+
+    /// One more value of a field, behind those before.
+    pub(crate) fn with_value(
+        self,
+        alloc: Global,
+        field: u32,
+        value: Scalar,
+    ) -> Result<Self, AllocError>
+        ensures { IfOk result (λ d. d ≡ record { values = with_value field value self.values; children = self.children }) }
+    {
+        let RowDraft {
+            mut values,
+            children,
+        } = self;
+        append(alloc, &mut values, field, value)?;
+        Ok(RowDraft { values, children })
+    }
+
+    /// One more row beneath at a nested path, behind those before.
+    pub(crate) fn with_row(self, alloc: Global, path: u32, row: Row) -> Result<Self, AllocError>
+        ensures { IfOk result (λ d. d ≡ record { values = self.values; children = with_row path row self.children }) }
+    {
+        let RowDraft {
+            values,
+            mut children,
+        } = self;
+        append(alloc, &mut children, path, row)?;
+        Ok(RowDraft { values, children })
+    }
+
+    /// The row, walked to its end: the values of each field ascending, and each word once.
+    #[tactic(auto, unfolding(agg_reading::specs::Rows::finished, agg_reading::specs::Rows::finished_field))]
+    pub(crate) fn finish(self, alloc: Global) -> Result<Row, AllocError>
+        requires { (fields : Items Field) × (is_typed fields self.values ≡ true) }
+        ensures { IfOk result (λ row. row ≡ finished self) }
+    {
+        let RowDraft { values, children } = self;
+        Ok(Row {
+            values: finished_fields(alloc, values)?,
+            children: all_children(alloc, children)?,
+        })
+    }
+}
