@@ -1,0 +1,11 @@
+-- What a store keeps beside its entries.
+use Rattle.std.specs.Prelude.{◌≡◌, ◌^◌, ◌<◌, length}
+use Rattle.agg_reading.specs.Store.{live_documents, store_weight}
+use Rattle.agg_documents.specs.Slots.{entries_of}
+use Rattle.agg_documents.specs.declared.store.Store.TheInside.{Inside}
+
+-- the number of live documents, and their weight, which is below 2^32
+pub record IsKept (s : Inside) : Type 0 where
+  pub live : s.live ≡ length (live_documents (entries_of s.slots.keys))
+  pub weight : s.weight ≡ store_weight (entries_of s.slots.keys)
+  pub light : s.weight < 2 ^ 32

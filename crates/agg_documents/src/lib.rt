@@ -1,0 +1,6 @@
+//! Documents, the store that keeps the live ones, and the lists of documents that its shards get.
+#![tactic(auto)]
+
+mod slot;
+pub mod store;
+mod weight;
