@@ -94,7 +94,7 @@ module _ (f : Document → ℕ) where
 
 -- ---- the weight and the number of live documents
 
-abbrev one : Document → ℕ
+abbrev pub one : Document → ℕ
 one d = 1
 
 pub weight-measure : (es : Store) → store_weight es ≡ measure weight es

@@ -1,2 +1,3 @@
 pub mod Kept
+pub mod Shards
 pub mod Slots

@@ -1,16 +1,54 @@
-ghost use Rattle.std.specs.Prelude.{◌≡◌, ◌^◌, ◌<◌, [], length, map, option_copied, slice_get, OnOk, OnErr};
+ghost use Rattle.std.specs.Prelude.{◌≡◌, ◌&&◌, ◌^◌, ◌<◌, ◌≤◌, [], length, map, option_copied, slice_get, IfOk, OnOk, OnErr};
 ghost use Rattle.std.specs.List.{IsDistinct};
 ghost use Rattle.std.specs.Option.{option_map};
 ghost use Rattle.std.specs.Str.{bytes_eq};
-ghost use Rattle.agg_reading.specs.Store.{live_at, live_documents, store_weight, weight, with_document};
+ghost use Rattle.agg_mapping.specs.Paths.{IsOrdered};
+ghost use Rattle.agg_reading.specs.Store.{applied, deleted, is_create, live_at, live_documents, put_row, shards_of, store_weight, weight, with_document};
+ghost use Rattle.document_values.specs.Faults.{Gives};
+ghost use Rattle.document_values.specs.declared.fault.ItemFault.TheVariants.{Refused};
 ghost use Rattle.agg_documents.specs.Slots.{id_of, document_in};
 
+use crate::shards::{deal, empty_lists};
 use crate::slot::Slot;
 use crate::weight::weight_of;
-use agg_model::row::Document;
+use agg_model::bulk::{Action, ActionKind, Applied, ItemRefusal};
+use agg_model::list::List;
+use agg_model::mapping::Mapping;
+use agg_model::row::{Document, Row};
+use agg_model::text::Text;
+use document_rows::document::root_row_of;
+use document_values::fault::ItemFault;
 use indexmap::IndexSet;
 use std::alloc::{AllocError, Global};
 use std::marker::Model;
+
+/// The number of the refusal of a `create` whose id has a live document.
+const VERSION_CONFLICT: u8 = 26;
+
+/// The number of the refusal of a document that would fill the store.
+const INDEX_FULL: u8 = 28;
+
+/// The documents of a store weigh less than this, so that row numbers fit 32 bits.
+const WEIGHT_LIMIT: u64 = 4_294_967_296;
+
+fn refused(alloc: Global, number: u8) -> ItemFault
+    ensures { result ≡ Refused (record { number = number; path = [] }) }
+{
+    ItemFault::Refused(ItemRefusal {
+        number,
+        path: Text::from_string(String::new(alloc)),
+    })
+}
+
+/// Whether an action of this kind is refused where its id has a live document, or has none.
+fn conflicts(kind: ActionKind, live: bool) -> bool
+    ensures { result ≡ (is_create kind && live) }
+{
+    match kind {
+        ActionKind::Create => live,
+        ActionKind::Index | ActionKind::Delete => false,
+    }
+}
 
 /// The documents that bulk actions leave (Elasticsearch Reference 8, 'Bulk API').
 ///
@@ -101,5 +139,104 @@ impl Store {
         self.live = live;
         self.weight = weight;
         Ok(())
+    }
+
+    /// Takes the document of an id out. The id keeps its place.
+    #[tactic(auto, unfolding(agg_reading::specs::Store::deleted))]
+    fn delete(&mut self, id: Text) -> Result<Applied, AllocError>
+        ensures deleted { IfOk result (λ what. (what, self.new) ≡ deleted id self.old) }
+        ensures as_before { OnErr result (self.new ≡ self.old) }
+    {
+        let slot = Slot::Gone(id);
+        match self.live_weight(&slot) {
+            None => Ok(Applied::NotFound),
+            Some(weight) => {
+                let live = self.live - 1;
+                let weight = self.weight - weight;
+                self.place(slot, live, weight)?;
+                Ok(Applied::Deleted)
+            }
+        }
+    }
+
+    /// Puts the document of an `index` or `create` with this root row.
+    #[tactic(auto, unfolding(agg_reading::specs::Store::put_row))]
+    fn put(&mut self, action: Action, root: Row) -> Result<Applied, ItemFault>
+        ensures put { Gives (λ what. (what, self.new)) result (put_row action root self.old) }
+        ensures as_before { OnErr result (self.new ≡ self.old) }
+    {
+        let Action {
+            kind,
+            id,
+            routing,
+            source: _,
+        } = action;
+        let document = Document { id, routing, root };
+        let added = weight_of(&document);
+        let slot = Slot::Live(document);
+        let replaced = self.live_weight(&slot);
+        if conflicts(kind, replaced.is_some()) {
+            return Err(refused(*self.slots.allocator(), VERSION_CONFLICT));
+        }
+        let beside = self.weight - replaced.unwrap_or(0);
+        let weight = beside.saturating_add(added);
+        if weight >= WEIGHT_LIMIT {
+            return Err(refused(*self.slots.allocator(), INDEX_FULL));
+        }
+        match replaced {
+            Some(_) => {
+                let live = self.live;
+                self.place(slot, live, weight)?;
+                Ok(Applied::Updated)
+            }
+            None => {
+                let live = self.live + 1;
+                self.place(slot, live, weight)?;
+                Ok(Applied::Created)
+            }
+        }
+    }
+
+    /// Does one bulk action on documents of this mapping, in time in proportion to the bytes of the action and of the
+    /// document that it replaces.
+    ///
+    /// A document's own refusals come first, 20 to 25 and 27. Then comes 26, exactly where a `create` names an id with a
+    /// live document, and then 28, exactly where the weights of the live documents would add up to 2^32 or more. A
+    /// document weighs one for each of its rows, one for each of its values, and the bytes of its words. After a refusal,
+    /// and after want of memory, the store is as before.
+    #[tactic(auto, unfolding(agg_reading::specs::Store::applied))]
+    pub fn apply(&mut self, mapping: &Mapping, action: Action) -> Result<Applied, ItemFault>
+        requires { IsOrdered mapping.now }
+        ensures applied { Gives (λ what. (what, self.new)) result (applied mapping.now action self.old) }
+        ensures as_before { OnErr result (self.new ≡ self.old) }
+    {
+        match action.kind {
+            ActionKind::Delete => Ok(self.delete(action.id)?),
+            ActionKind::Index | ActionKind::Create => {
+                let alloc = *self.slots.allocator();
+                let root = root_row_of(alloc, mapping, action.source.as_slice())?;
+                self.put(action, root)
+            }
+        }
+    }
+
+    /// One list for each shard with the live documents that its routing chooses ('_routing field' of Elasticsearch
+    /// Reference 8), in the order of the store. Each document is moved once; after want of memory the store is spent.
+    pub fn into_shards(self, shards: u32) -> Result<List<List<Document>>, AllocError>
+        requires { 1 ≤ shards }
+        ensures { IfOk result (λ lists. lists ≡ shards_of self shards) }
+    {
+        let Store {
+            slots,
+            live: _,
+            weight: _,
+        } = self;
+        let mut lists = empty_lists(*slots.allocator(), shards)?;
+        for slot in slots {
+            if let Slot::Live(document) = slot {
+                deal(&mut lists, document, shards)?;
+            }
+        }
+        Ok(List::from_vec(lists))
     }
 }
