@@ -1,3 +1,4 @@
+pub mod Dealing
 pub mod Entries
 pub mod Putting
 pub mod Weighing

@@ -39,6 +39,16 @@ impl Slot {
             Slot::Gone(_) => None,
         }
     }
+
+    /// The live document itself, moved.
+    pub fn into_document(self) -> Option<Document>
+        ensures { result ≡ document_in self }
+    {
+        match self {
+            Slot::Live(document) => Some(document),
+            Slot::Gone(_) => None,
+        }
+    }
 }
 
 impl PartialEq for Slot {

@@ -233,7 +233,7 @@ impl Store {
         } = self;
         let mut lists = empty_lists(*slots.allocator(), shards)?;
         for slot in slots {
-            if let Slot::Live(document) = slot {
+            if let Some(document) = slot.into_document() {
                 deal(&mut lists, document, shards)?;
             }
         }
