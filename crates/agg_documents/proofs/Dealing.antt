@@ -47,10 +47,13 @@ cut-push ds d n some = fill_by_all (of_shard n (ds ++ d ∷ [])) new n [] (lengt
   where
     k : ℕ
     k = shard_of d.routing n
+
     more : List Document
     more = get_or (cut ds n) k [] ++ d ∷ []
+
     new : List (List Document)
     new = set (cut ds n) k more
+
     by : (j : ℕ) → j < n → (b : Bool) → (k == j) ≡ b → get_or new j [] ≡ of_shard n (ds ++ d ∷ []) j
     by j below true is =
         let same : j ≡ k = sym (eqb-true k j is) in

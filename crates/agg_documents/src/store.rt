@@ -97,7 +97,6 @@ impl Store {
         ensures light { store_weight self.now < 2 ^ 32 }
         ensures distinct { IsDistinct bytes_eq (map (λ e. e.0) self.now) }
     {
-        let _ids = self.slots.len();
         self.live
     }
     /// The live document at a place counted from 0, in the order of the ids; none where there are fewer. It goes through

@@ -15,12 +15,12 @@ pub loop-slot-preserved : goal.loop-slot-preserved
 loop-slot-preserved c =
     let later = live_documents (entries_of (drop (c.loop-slot.slot-index + 1) c.as_slice-slot-items.result.now)) in
     elim c.match-document.branch [
-      in-Some+else-left-eq0 w ↦ ap (slice_get later) w.left-is
-      ∙ (get-some c.as_slice-slot-items.result.now c.loop-slot.slot-index c.slot-item.result w.in-Some.document.now c.loop-slot.left c.loop-slot-test.true c.slot-item.is (sym w.in-Some.ensures) w.if-left-eq0.false
-      ∙ c.loop-slot.invariant)
-    | in_default w ↦ ap (slice_get later) w.left-is
-      ∙ (get-none c.as_slice-slot-items.result.now c.loop-slot.slot-index c.slot-item.result c.loop-slot.left c.loop-slot-test.true c.slot-item.is (sym w.in_default.ensures)
-      ∙ c.loop-slot.invariant)
+      | in-Some+else-left-eq0 w ↦ ap (slice_get later) w.left-is
+          ∙ (get-some c.as_slice-slot-items.result.now c.loop-slot.slot-index c.slot-item.result w.in-Some.document.now c.loop-slot.left c.loop-slot-test.true c.slot-item.is (sym w.in-Some.ensures) w.if-left-eq0.false
+          ∙ c.loop-slot.invariant)
+      | in_default w ↦ ap (slice_get later) w.left-is
+          ∙ (get-none c.as_slice-slot-items.result.now c.loop-slot.slot-index c.slot-item.result c.loop-slot.left c.loop-slot-test.true c.slot-item.is (sym w.in_default.ensures)
+          ∙ c.loop-slot.invariant)
     ]
 
 pub returns : goal.returns

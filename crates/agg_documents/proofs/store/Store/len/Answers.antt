@@ -6,4 +6,4 @@ use Rattle.agg_documents.proofs.Entries.{ids-distinct}
 use Rattle.agg_documents.proofs.store.Store.len.Goals as goal
 
 pub returns-clause-distinct : goal.returns-clause-distinct
-returns-clause-distinct c = subst (λ (es : Store). IsDistinct bytes_eq (map (λ e. e.0) es)) c.self.view_is (ids-distinct c.self.inside.slots.keys c.len-ids.ensures.unique)
+returns-clause-distinct c = subst (λ (es : Store). IsDistinct bytes_eq (map (λ e. e.0) es)) c.self.view_is (ids-distinct c.self.inside.slots.keys c.self.invariant.distinct)
