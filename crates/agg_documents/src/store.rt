@@ -100,7 +100,7 @@ impl Store {
         self.live
     }
     /// The live document at a place counted from 0, in the order of the ids; none where there are fewer. It goes through
-    /// the ids before it.
+    /// the ids before it, so that whoever wants all documents takes `into_shards`.
     pub fn get(&self, place: usize) -> Option<&Document>
         ensures { option_copied result ≡ slice_get (live_documents self.now) place }
     {
@@ -196,8 +196,8 @@ impl Store {
         }
     }
 
-    /// Does one bulk action on documents of this mapping, in time in proportion to the bytes of the action and of the
-    /// document that it replaces.
+    /// Does one bulk action on documents of this mapping. The time is that of reading its source and of going through the
+    /// new document and the one that it replaces, whatever the number of documents.
     ///
     /// A document's own refusals come first, 20 to 25 and 27. Then comes 26, exactly where a `create` names an id with a
     /// live document, and then 28, exactly where the weights of the live documents would add up to 2^32 or more. A
@@ -232,9 +232,10 @@ impl Store {
         } = self;
         let mut lists = empty_lists(*slots.allocator(), shards)?;
         for slot in slots {
-            if let Some(document) = slot.into_document() {
-                deal(&mut lists, document, shards)?;
-            }
+            let Some(document) = slot.into_document() else {
+                continue;
+            };
+            deal(&mut lists, document, shards)?;
         }
         Ok(List::from_vec(lists))
     }

@@ -12,13 +12,13 @@ loop-slot-init c = dealt-none c.in_ok-lists.lists.items c.into_iter-slot-iterato
 pub deal-requires-clause-sizes : goal.deal-requires-clause-sizes
 deal-requires-clause-sizes c = length-dealt c.loop-slot.lists.items c.loop-slot.slot-iterator c.into_iter-slot-iterator.result c.args.shards c.loop-slot.invariant
 
-pub loop-slot-preserved-in-Continue-branch-2 : goal.loop-slot-preserved-in-Continue-branch-2
-loop-slot-preserved-in-Continue-branch-2 c =
+pub loop-slot-preserved : goal.loop-slot-preserved
+loop-slot-preserved c =
     dealt-live c.loop-slot.lists.items c.deal.new.lists.items c.in-Some.slot c.in-Some-into_document.document c.loop-slot.slot-iterator c.next.new.self c.into_iter-slot-iterator.result c.args.shards c.requires c.loop-slot.invariant
     c.in-Some.ensures.steps (sym c.in-Some-into_document.ensures) c.in_ok-deal.ensures
 
-pub loop-slot-preserved : goal.loop-slot-preserved
-loop-slot-preserved c =
+pub loop-slot-preserved-in_default : goal.loop-slot-preserved-in_default
+loop-slot-preserved-in_default c =
     dealt-gone c.loop-slot.lists.items c.in-Some.slot c.loop-slot.slot-iterator c.next.new.self c.into_iter-slot-iterator.result c.args.shards c.loop-slot.invariant
     c.in-Some.ensures.steps (sym c.in_default.ensures)
 
