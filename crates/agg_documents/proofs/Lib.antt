@@ -1,0 +1,4 @@
+pub mod Dealing
+pub mod Entries
+pub mod Putting
+pub mod Weighing

@@ -1,0 +1,30 @@
+use Rattle.std.proofs.Common.{List, ◌∷◌, sym, ◌∙◌, ap}
+use Rattle.agg_model.specs.declared.row.Document.{Document}
+use Rattle.agg_reading.specs.Store.{Store, shards_of}
+use Rattle.agg_documents.specs.declared.slot.Slot.{Slot}
+use Rattle.agg_documents.specs.Slots.{entries_of}
+use Rattle.agg_documents.proofs.Dealing.{dealt-none, length-dealt, dealt-live, dealt-gone, dealt-all}
+use Rattle.agg_documents.proofs.store.Store.into_shards.Goals as goal
+
+pub loop-slot-init : goal.loop-slot-init
+loop-slot-init c = dealt-none c.in_ok-lists.lists.items c.into_iter-slot-iterator.result c.args.shards c.in_ok-lists.ensures
+
+pub deal-requires-clause-sizes : goal.deal-requires-clause-sizes
+deal-requires-clause-sizes c = length-dealt c.loop-slot.lists.items c.loop-slot.slot-iterator c.into_iter-slot-iterator.result c.args.shards c.loop-slot.invariant
+
+pub loop-slot-preserved : goal.loop-slot-preserved
+loop-slot-preserved c =
+    dealt-live c.loop-slot.lists.items c.deal.new.lists.items c.in-Some.slot c.in-Some-into_document.document c.loop-slot.slot-iterator c.next.new.self c.into_iter-slot-iterator.result c.args.shards c.requires c.loop-slot.invariant
+    c.in-Some.ensures.steps (sym c.in-Some-into_document.ensures) c.in_ok-deal.ensures
+
+pub loop-slot-preserved-in_default : goal.loop-slot-preserved-in_default
+loop-slot-preserved-in_default c =
+    dealt-gone c.loop-slot.lists.items c.in-Some.slot c.loop-slot.slot-iterator c.next.new.self c.into_iter-slot-iterator.result c.args.shards c.loop-slot.invariant
+    c.in-Some.ensures.steps (sym c.in_default.ensures)
+
+pub returns : goal.returns
+returns c =
+    c.from_vec.ensures
+    ∙ (dealt-all c.loop-slot.lists.items c.loop-slot.slot-iterator c.into_iter-slot-iterator.result c.args.shards c.loop-slot.invariant c.in-None.ensures.steps.0
+    ∙ (ap (λ (ss : List Slot). shards_of (entries_of ss) c.args.shards) c.into_iter-slot-iterator.ensures.into_iter_gives.0
+    ∙ ap (λ (es : Store). shards_of es c.args.shards) c.self.view_is))

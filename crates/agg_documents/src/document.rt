@@ -1,0 +1,39 @@
+//! One document.
+
+ghost use Rattle.std.specs.Prelude.{◌≡◌, IfOk};
+ghost use Rattle.agg_mapping.specs.Paths.{IsOrdered};
+ghost use Rattle.agg_reading.specs.Document.{document_at};
+ghost use Rattle.document_values.specs.Faults.{Gives};
+
+use agg_model::copying::Copying;
+use agg_model::mapping::Mapping;
+use agg_model::row::Document;
+use agg_model::text::Text;
+use document_rows::document::root_row_of;
+use document_values::fault::ItemFault;
+use std::alloc::Global;
+
+/// The document of a source line with this id and this routing ('Bulk API', 'Mapping' of Elasticsearch Reference 8).
+///
+/// The first refusal in the walk of the source counts: 20 for what is no JSON object, 21 for a wrong type, 22 for a number
+/// out of range, 23 for a keyword above 32,766 bytes, 24 for more than 10,000 nested objects, 25 for more than 1,024 values
+/// of a field in a row, 27 for a name that a strict mapping lacks.
+pub fn document_of(
+    alloc: Global,
+    mapping: &Mapping,
+    id: &Text,
+    routing: &Text,
+    source: &[u8],
+) -> Result<Document, ItemFault>
+    requires { IsOrdered mapping.now }
+    ensures root { Gives (λ document. document.root) result (document_at mapping.now source.now) }
+    ensures id { IfOk result (λ document. document.id ≡ id.now) }
+    ensures routing { IfOk result (λ document. document.routing ≡ routing.now) }
+{
+    let root = root_row_of(alloc, mapping, source)?;
+    Ok(Document {
+        id: id.copy(alloc)?,
+        routing: routing.copy(alloc)?,
+        root,
+    })
+}
