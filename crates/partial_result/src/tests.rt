@@ -38,6 +38,7 @@ fn search(alloc: Global) -> Result<Search, AllocError> {
 }
 
 /// What a shard answers that returns this term of three documents and leaves `cut` others out.
+#[tactic(auto, using(crate::proofs::CostLevels::cost_levels))]
 fn returned(alloc: Global, word: &str, cut: u32) -> Result<Partial, AllocError>
     requires { length word.now < 100 }
     ensures { IfOk result (λ p. cost_of p < 2 ^ 64) }
