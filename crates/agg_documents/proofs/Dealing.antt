@@ -1,6 +1,6 @@
 -- Documents put into the lists of their shards one by one.
-use Rattle.std.proofs.Common.{◌≡◌, refl, append_assoc, Option, None, Some, ℕ, ◌+◌, ◌<◌, ◌≤◌, ◌==◌, Bool, true, false, cond, length, get_or, set, filter, List, [], ◌∷◌, ◌++◌, map, sym, ◌∙◌, ap, subst, arith}
-use Rattle.std.specs.List.{range_with_len, flat_map}
+use Rattle.std.proofs.Common.{◌≡◌, refl, append_assoc, Option, None, Some, ℕ, ◌+◌, ◌<◌, ◌≤◌, ◌==◌, Bool, true, false, cond, length, get_or, set, filter, List, [], ◌∷◌, ◌++◌, sym, ◌∙◌, ap, subst, arith}
+use Rattle.std.specs.List.{flat_map}
 use Rattle.std.specs.Option.{option_to_list}
 use Rattle.std.proofs.lemmas.List.{get_or-set_same, get_or-set_other, length-set, append-nil, map-append}
 use Rattle.std.proofs.lemmas.List.Elements.{filter-append}
@@ -8,7 +8,7 @@ use Rattle.std.proofs.lemmas.List.FromFn.{length-map-range_with_len, get_or-map-
 use Rattle.std.proofs.lemmas.Grind.{flat_map-append}
 use Rattle.std.proofs.lemmas.Bool.{eqb-true, eqb-false}
 use Rattle.agg_model.specs.declared.row.Document.{Document}
-use Rattle.agg_reading.specs.Routing.{shard_of, hash_of}
+use Rattle.agg_reading.specs.Routing.{shard_of}
 use Rattle.agg_reading.specs.Store.{Store, live_documents, shards_of}
 use Rattle.agg_documents.specs.declared.slot.Slot.{Slot}
 use Rattle.agg_documents.specs.Shards.{cut}

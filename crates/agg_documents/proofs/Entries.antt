@@ -1,7 +1,7 @@
 -- The places of a store as its entries: a look-up, a put, and what the live documents weigh after it.
 use Rattle.std.proofs.Common.{add-one, ◌≡◌, ◌≢◌, refl, zero, suc, get_or, drop, slice_get, ℕ, ◌+◌, ◌-◌, ◌^◌, ◌<◌, ◌≤◌, Bool, true, false, ◌||◌, cond, if◌then◌else◌, min, length, List, [], ◌∷◌, ◌++◌, map, Option, None, Some, sym, ◌∙◌, ap, subst, arith}
 use Rattle.std.specs.List.{sum_by, find, list_any, IsDistinct, AllByRecursion}
-use Rattle.std.specs.Option.{option_map, option_map_or, option_and_then, option_to_list, is_some}
+use Rattle.std.specs.Option.{option_map, option_map_or, option_and_then, option_to_list}
 use Rattle.std.specs.Str.{bytes_eq}
 use Rattle.std.specs.Cmp.Lexicographic.{nat_list_eq_equiv}
 use Rattle.std.proofs.Math.Seq.{drop-cons}

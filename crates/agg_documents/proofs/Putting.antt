@@ -9,7 +9,7 @@ use Rattle.agg_model.specs.declared.bulk.Applied.{Applied}
 use Rattle.agg_model.specs.declared.bulk.Applied.TheVariants.{Created, Updated}
 use Rattle.agg_reading.specs.Outcome.{Outcome, refuse}
 use Rattle.agg_reading.specs.Store.{Store, live_at, with_document, live_documents, weight, store_weight, is_create, kept, put_row}
-use Rattle.agg_documents.proofs.Entries.{one, weight-put, count-put, weight-within, count-weight}
+use Rattle.agg_documents.proofs.Entries.{one, weight-put, count-put, weight-within}
 
 -- ---- what is known of the document that is replaced, by its weight
 

@@ -1,4 +1,4 @@
-use Rattle.std.proofs.Common.{◌≡◌, length, ◌∙◌, ap}
+use Rattle.std.proofs.Common.{length, ◌∙◌, ap}
 use Rattle.agg_reading.specs.Store.{Store, live_documents, store_weight}
 use Rattle.agg_documents.proofs.Putting.{gone-live, gone-weight}
 use Rattle.agg_documents.proofs.store.Store.delete.Goals as goal

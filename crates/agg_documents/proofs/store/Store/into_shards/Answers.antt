@@ -1,5 +1,4 @@
-use Rattle.std.proofs.Common.{List, ◌∷◌, sym, ◌∙◌, ap}
-use Rattle.agg_model.specs.declared.row.Document.{Document}
+use Rattle.std.proofs.Common.{List, sym, ◌∙◌, ap}
 use Rattle.agg_reading.specs.Store.{Store, shards_of}
 use Rattle.agg_documents.specs.declared.slot.Slot.{Slot}
 use Rattle.agg_documents.specs.Slots.{entries_of}

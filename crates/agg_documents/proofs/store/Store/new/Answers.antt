@@ -1,4 +1,4 @@
-use Rattle.std.proofs.Common.{refl, sym, ◌∙◌, ap, length, arith}
+use Rattle.std.proofs.Common.{sym, ap, length, arith}
 use Rattle.agg_reading.specs.Store.{live_documents, store_weight}
 use Rattle.agg_documents.specs.Slots.{entries_of}
 use Rattle.agg_documents.proofs.store.Store.new.Goals as goal
