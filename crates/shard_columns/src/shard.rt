@@ -12,7 +12,7 @@ ghost use Rattle.shard_columns.specs.Cell.{scalar_of};
 use crate::contexts::{context, numbers_by_context, numbers_of};
 use crate::layout::{Entry, Laid, Layout, Origin, lay};
 use crate::search::{find_word, span_between};
-use crate::values::{Span, Stored, Values, held_at, push_row};
+use crate::values::{Stored, Values, held_at, push_row};
 use crate::words::{all_bytes, dictionaries, longest_of};
 use agg_model::copying::Copying;
 use agg_model::list::List;
@@ -107,6 +107,7 @@ fn words_at(words: &[List<Text>], field: u32) -> &[Text]
     }
 }
 
+// A place behind the words, which no value has, stands for 0.
 fn cell_of(words: &[Text], stored: Stored) -> Cell<'_>
     ensures { scalar_of result ≡ shown words.now stored }
 {
@@ -141,7 +142,8 @@ fn parents(alloc: Global, nested: &[NestedPath]) -> Result<Vec<u32>, AllocError>
 impl Shard {
     ghost use Rattle.shard_columns.specs.Given.{IsGiven, columns_from};
 
-    /// The documents of a shard under their mapping.
+    /// The documents of a shard under their mapping, in time n log n and memory in proportion to rows and values. It takes up
+    /// to 1,000 fields and nested paths, and documents whose rows, values and bytes of words are fewer than 2 ^ 32 together.
     pub fn build(
         alloc: Global,
         documents: &List<Document>,
