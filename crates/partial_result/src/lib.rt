@@ -6,6 +6,6 @@ mod costing;
 pub mod laws;
 mod merging;
 
-pub use beginning::empty;
+pub use beginning::{empty, empty_nodes};
 pub use costing::cost;
 pub use merging::merge;
