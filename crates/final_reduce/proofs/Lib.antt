@@ -5,3 +5,13 @@ pub mod FinishableLaws
 pub mod CountLaws
 pub mod RangeLaws
 pub mod SampleLaws
+pub mod Intervals
+pub mod KeySteps
+pub mod Filled
+pub mod PlannedLaws
+pub mod FillSteps
+pub mod WholesOfNothing
+pub mod FilledPasses
+pub mod AggSizes
+pub mod PlanAgrees
+pub mod SpanLaws

@@ -1,5 +1,5 @@
 -- Selections and the answers that are made of them.
-use Rattle.std.specs.Prelude.{◌≡◌, refl, ℕ, ◌<◌, ◌==◌, ◌&&◌, Bool, true, List, [], ◌∷◌, map, take, filter}
+use Rattle.std.specs.Prelude.{◌≡◌, refl, ℕ, ◌<◌, ◌==◌, ◌&&◌, Bool, true, false, length, List, [], ◌∷◌, map, take, filter}
 use Rattle.std.specs.List.{list_all}
 use Rattle.std.proofs.Common.{sym, ◌∙◌, ap, subst, cond, ⊎_elim, zero, suc, arith}
 use Rattle.std.proofs.lemmas.Bool.{cases_Bool, and_parts, and_from, cond-false, ne_eqb}
@@ -8,7 +8,9 @@ use Rattle.agg_model.specs.declared.partial.Bucket.{Bucket}
 use Rattle.agg_model.specs.declared.aggregation.Bounds.{Bounds}
 use Rattle.agg_model.specs.declared.aggregation.Order.{Order}
 use Rattle.agg_model.specs.declared.aggregation.Agg.{Agg}
-use Rattle.agg_evaluation.specs.Sorting.{sorted}
+use Rattle.std.specs.declared.cmp.Ordering.{Ordering}
+use Rattle.std.specs.Ordering.{is_le}
+use Rattle.agg_evaluation.specs.Sorting.{sorted, insert_sorted}
 use Rattle.agg_evaluation.specs.Orders.{bucket_cmp}
 use Rattle.agg_spec.specs.Filling.{frequent, filled}
 use Rattle.agg_spec.specs.Final.{Finisher, finisher, finisher_of}
@@ -45,11 +47,29 @@ pub kinds_of_finishers : (aggs : List Agg) → map (λ (f : Finisher). f.kind) (
 kinds_of_finishers [] = refl
 kinds_of_finishers (a ∷ rest) = λ i. finisher-kind a i ∷ kinds_of_finishers rest i
 
--- a histogram with a minimum count above 0 has no gaps
-pub unfilled_is : (empty : Key → Bucket) (interval offset min_doc_count : ℕ) (extended hard : Bounds) (order : List Order) (children : List Agg) (buckets : List Bucket) → 0 < min_doc_count
-    → sorted (bucket_cmp (child_kinds children) order) (frequent min_doc_count buckets)
-    ≡ sorted (bucket_cmp (map (λ (f : Finisher). f.kind) (map finisher children)) order) (filled empty interval offset min_doc_count extended hard buckets)
-unfilled_is empty interval offset min_doc_count extended hard order children buckets positive =
-    ap (λ kinds. sorted (bucket_cmp kinds order) (frequent min_doc_count buckets)) (sym (kinds_of_finishers children))
-    ∙ ap (sorted (bucket_cmp (map (λ (f : Finisher). f.kind) (map finisher children)) order))
-    (sym (cond-false (min_doc_count == 0) _ (frequent min_doc_count buckets) (ne_eqb min_doc_count 0 (λ e. absurd (omega arith)))))
+-- sorting the items as they are seen
+insert-map : {A B : Type 0} (f : A → B) (cmp : B → B → Ordering) (x : A) (ys : List A) → map f (insert_sorted (λ a b. cmp (f a) (f b)) x ys) ≡ insert_sorted cmp (f x) (map f ys)
+insert-map f cmp x [] = refl
+insert-map f cmp x (y ∷ ys) =
+    elim (is_le (cmp (f x) (f y))) as (λ b. map f (cond b (x ∷ y ∷ ys) (y ∷ insert_sorted (λ a b. cmp (f a) (f b)) x ys)) ≡ cond b (f x ∷ f y ∷ map f ys) (f y ∷ insert_sorted cmp (f x) (map f ys))) [
+      | true ↦ refl
+      | false ↦ ap (λ zs. f y ∷ zs) (insert-map f cmp x ys)
+    ]
+
+pub sorted-map : {A B : Type 0} (f : A → B) (cmp : B → B → Ordering) (xs : List A) → map f (sorted (λ a b. cmp (f a) (f b)) xs) ≡ sorted cmp (map f xs)
+sorted-map f cmp [] = refl
+sorted-map f cmp (x ∷ xs) = insert-map f cmp x (sorted (λ a b. cmp (f a) (f b)) xs) ∙ ap (insert_sorted cmp (f x)) (sorted-map f cmp xs)
+
+pub map-take : {A B : Type 0} (f : A → B) (n : ℕ) (xs : List A) → map f (take n xs) ≡ take n (map f xs)
+map-take f zero xs = refl
+map-take f (suc n) [] = refl
+map-take f (suc n) (x ∷ xs) = ap (λ ys. f x ∷ ys) (map-take f n xs)
+
+pub length-insert : {A : Type 0} (cmp : A → A → Ordering) (x : A) (ys : List A) → length (insert_sorted cmp x ys) ≡ suc (length ys)
+length-insert cmp x [] = refl
+length-insert cmp x (y ∷ ys) =
+    elim (is_le (cmp x y)) as (λ b. length (cond b (x ∷ y ∷ ys) (y ∷ insert_sorted cmp x ys)) ≡ suc (suc (length ys))) [ true ↦ refl | false ↦ ap (λ n. suc n) (length-insert cmp x ys) ]
+
+pub length-sorted : {A : Type 0} (cmp : A → A → Ordering) (xs : List A) → length (sorted cmp xs) ≡ length xs
+length-sorted cmp [] = refl
+length-sorted cmp (x ∷ xs) = length-insert cmp x (sorted cmp xs) ∙ ap (λ n. suc n) (length-sorted cmp xs)

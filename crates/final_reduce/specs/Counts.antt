@@ -1,22 +1,23 @@
 -- Buckets counted one after another ('Search settings', `search.max_buckets`).
 use Rattle.std.specs.Prelude.{ℕ, ◌+◌, min, List, [], ◌∷◌}
-use Rattle.agg_model.specs.declared.answer.BucketAnswer.{BucketAnswer, out-BucketAnswer}
-use Rattle.agg_model.specs.declared.answer.NodeAnswer.{NodeAnswer}
-use Rattle.agg_spec.specs.BucketCount.{Counter, count_each, greatest_count}
-
--- the buckets below a bucket
-abbrev pub count_below : List Counter → BucketAnswer → ℕ
-count_below children b = count_each children (out-BucketAnswer b).children
+use Rattle.agg_model.specs.declared.partial.Bucket.{Bucket}
+use Rattle.agg_model.specs.declared.partial.Node.{Node}
+use Rattle.agg_spec.specs.BucketCount.{greatest_count}
+use Rattle.agg_spec.specs.GapCount.{Plan, plan_each}
 
 -- a sum that stops at the greatest count
 abbrev pub capped_sum : ℕ → ℕ → ℕ
 capped_sum m n = min (m + min n greatest_count) greatest_count
 
-abbrev pub count_from : ℕ → List Counter → List NodeAnswer → ℕ
-count_from count [] nodes = count
-count_from count (c ∷ cs) [] = count
-count_from count (c ∷ cs) (n ∷ ns) = count_from (capped_sum count (c n)) cs ns
+abbrev pub planned_from : ℕ → List Plan → List Node → ℕ
+planned_from count [] nodes = count
+planned_from count (p ∷ ps) [] = count
+planned_from count (p ∷ ps) (n ∷ ns) = planned_from (capped_sum count (p.count n)) ps ns
 
-abbrev pub count_buckets_from : List Counter → ℕ → List BucketAnswer → ℕ
-count_buckets_from children count [] = count
-count_buckets_from children count (b ∷ bs) = count_buckets_from children (capped_sum count (count_below children b)) bs
+abbrev pub below_from : List Plan → ℕ → List Bucket → ℕ
+below_from children count [] = count
+below_from children count (b ∷ bs) = below_from children (capped_sum count (plan_each children b.children)) bs
+
+abbrev pub nothing_from : ℕ → List Plan → ℕ
+nothing_from count [] = count
+nothing_from count (p ∷ ps) = nothing_from (capped_sum count (p.count (p.whole []))) ps

@@ -1,14 +1,20 @@
 -- Which wholes can be finished: those of shard answers to the search, in whose terms no number leaves its type ('Terms
--- aggregation', sum of other document counts and errors of counts; 'Composite aggregation', keys).
-use Rattle.std.specs.Prelude.{◌+◌, ◌^◌, Bool, true, ◌&&◌, nat_lt, nat_le, List, map, length, sum_by}
+-- aggregation', sum of other document counts and errors of counts; 'Histogram' and 'Composite aggregation', keys).
+use Rattle.std.specs.Prelude.{ℕ, ℤ, pos, ◌+◌, ◌^◌, ◌-ℤ◌, Bool, true, false, ◌&&◌, nat_lt, nat_le, int_le, int_lt, List, map, length, sum_by}
 use Rattle.std.specs.List.{list_all}
+use Rattle.std.specs.Ordering.{int_eq}
+use Rattle.agg_model.specs.declared.key.Key.{Key}
+use Rattle.agg_model.specs.declared.key.Key.TheVariants.{Whole}
+use Rattle.agg_model.specs.declared.partial.Bucket.{Bucket}
 use Rattle.agg_model.specs.declared.partial.Node.{Node, out-Node}
 use Rattle.agg_model.specs.declared.partial.Partial.{Partial}
+use Rattle.agg_model.specs.declared.aggregation.Bounds.{Bounds}
 use Rattle.agg_model.specs.declared.aggregation.Kind.{Kind}
 use Rattle.agg_model.specs.declared.aggregation.Kind.TheVariants as kind
 use Rattle.agg_model.specs.declared.aggregation.Agg.{Agg}
 use Rattle.agg_model.specs.declared.aggregation.Search.{Search}
 use Rattle.agg_evaluation.specs.Folds.{fold_agg}
+use Rattle.agg_evaluation.specs.Keys.{interval_start, is_between}
 use Rattle.agg_evaluation.specs.Orders.{bucket_key, bucket_count}
 use Rattle.agg_evaluation.specs.Shard.{fixed_keys}
 use Rattle.agg_evaluation.specs.Trees.{is_tree_at, pass_each}
@@ -19,9 +25,22 @@ use Rattle.agg_evaluation.specs.Whole.{Parts, parts, shape_of}
 abbrev pub terms_fit : Parts → Bool
 terms_fit p = nat_lt (p.cut + sum_by bucket_count p.buckets) (2 ^ 64) && (nat_lt p.error (2 ^ 63) && list_all (λ b. nat_le b.covered p.error) p.buckets)
 
+-- whether the key can be that of a number of 64 bits, where the interval has 64 bits too
+abbrev pub is_near : ℤ → Bool
+is_near key = int_le (pos 0 -ℤ pos (2 ^ 65)) key && int_lt key (pos (2 ^ 63))
+
+-- a key as a histogram has it: the start of an interval, within `hard_bounds`
+abbrev pub is_histogram_key : ℕ → ℕ → Bounds → Key → Bool
+is_histogram_key interval offset hard (Whole key) = int_eq (interval_start interval offset key) key && (is_near key && is_between hard (Whole key))
+is_histogram_key interval offset hard _ = false
+
+abbrev pub has_histogram_keys : Kind → List Bucket → Bool
+has_histogram_keys (kind.Histogram field interval offset min_doc_count extended hard keyed order missing) bs = list_all (λ b. is_histogram_key interval offset hard (bucket_key b)) bs
+has_histogram_keys _ bs = true
+
 abbrev pub fits_at : Kind → Parts → Bool
 fits_at (kind.Terms field size shard_size min_doc_count order include exclude missing show_error) p = terms_fit p
-fits_at (kind.Histogram field interval offset min_doc_count extended hard keyed order missing) p = nat_lt 0 min_doc_count
+fits_at (kind.Histogram field interval offset min_doc_count extended hard keyed order missing) p = has_histogram_keys (kind.Histogram field interval offset min_doc_count extended hard keyed order missing) p.buckets
 fits_at (kind.Composite sources size after) p = list_all (λ b. is_composite_of (length sources) (bucket_key b)) p.buckets
 fits_at _ p = true
 
@@ -33,6 +52,14 @@ is_finishable_at tests k n = is_tree_at tests (fixed_keys k) (shape_of k) (out-N
 abbrev pub is_finishable : Agg → Node → Bool
 is_finishable = fold_agg (λ a n. is_finishable_at a.children a.kind n)
 
--- whether all nodes of a partial result are
+abbrev pub has_interval : Kind → Bool
+has_interval (kind.Histogram field interval offset min_doc_count extended hard keyed order missing) = nat_lt 0 interval
+has_interval _ = true
+
+-- whether the interval of the aggregation, and of each below it, is above 0, as requests have it
+abbrev pub has_intervals : Agg → Bool
+has_intervals = fold_agg (λ a. has_interval a.kind && list_all (λ has. has) a.children)
+
+-- whether the search has intervals, and all nodes of a partial result can be finished
 abbrev pub can_finish : Search → Partial → Bool
-can_finish search p = pass_each (map is_finishable search.aggs) p.nodes
+can_finish search p = list_all has_intervals search.aggs && pass_each (map is_finishable search.aggs) p.nodes

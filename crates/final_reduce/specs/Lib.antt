@@ -2,6 +2,8 @@ pub mod Causes
 pub mod Counts
 pub mod Finishable
 pub mod Paths
+pub mod Planned
 pub mod SampleTerms
 pub mod Selection
+pub mod Steps
 pub mod Terms

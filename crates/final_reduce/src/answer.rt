@@ -1,8 +1,9 @@
 // Answers, built from the aggregations down.
 ghost use Rattle.std.specs.Prelude.{◌≡◌, IfOk, IsTrue, map};
+ghost use Rattle.std.specs.List.{list_all};
 ghost use Rattle.agg_evaluation.specs.Trees.{pass_each};
 ghost use Rattle.agg_spec.specs.Final.{finisher, finish_each as finished_each};
-ghost use Rattle.final_reduce.specs.Finishable.{is_finishable};
+ghost use Rattle.final_reduce.specs.Finishable.{has_intervals, is_finishable};
 ghost use Rattle.final_reduce.specs.Selection.{chosen_pass, finish_chosen as finished_choice};
 
 use crate::select::{Chosen, select};
@@ -20,7 +21,8 @@ pub(crate) fn finish_each(
     aggs: &List<Agg>,
     nodes: List<Node>,
 ) -> Result<List<NodeAnswer>, AllocError>
-    requires { IsTrue (pass_each (map is_finishable aggs.now) nodes) }
+    requires intervals { IsTrue (list_all has_intervals aggs.now) }
+    requires nodes { IsTrue (pass_each (map is_finishable aggs.now) nodes) }
     ensures { IfOk result (λ answers. answers ≡ finished_each (map finisher aggs.now) nodes) }
 {
     let mut answers = List::new(alloc);
@@ -36,7 +38,8 @@ pub(crate) fn finish_each(
 
 #[cycle(finish)]
 fn finish_node(alloc: Global, agg: &Agg, node: Node) -> Result<NodeAnswer, AllocError>
-    requires { IsTrue (is_finishable agg.now node) }
+    requires intervals { IsTrue (has_intervals agg.now) }
+    requires node { IsTrue (is_finishable agg.now node) }
     ensures { IfOk result (λ a. a ≡ (finisher agg.now).finish node) }
 {
     let selected = select(alloc, agg, node)?;
@@ -55,7 +58,8 @@ fn finish_chosen(
     children: &List<Agg>,
     chosen: List<Chosen>,
 ) -> Result<List<BucketAnswer>, AllocError>
-    requires { IsTrue (chosen_pass (map is_finishable children.now) chosen) }
+    requires intervals { IsTrue (list_all has_intervals children.now) }
+    requires chosen { IsTrue (chosen_pass (map is_finishable children.now) chosen) }
     ensures { IfOk result (λ bs. bs ≡ map (finished_choice (map finisher children.now)) chosen) }
 {
     let mut answers = List::new(alloc);
@@ -71,7 +75,8 @@ fn finish_choice(
     children: &List<Agg>,
     choice: Chosen,
 ) -> Result<BucketAnswer, AllocError>
-    requires { IsTrue (pass_each (map is_finishable children.now) choice.bucket.children) }
+    requires intervals { IsTrue (list_all has_intervals children.now) }
+    requires choice { IsTrue (pass_each (map is_finishable children.now) choice.bucket.children) }
     ensures { IfOk result (λ b. b ≡ finished_choice (map finisher children.now) choice) }
 {
     let Chosen { error, bucket } = choice;

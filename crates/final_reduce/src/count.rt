@@ -1,31 +1,41 @@
-// The number of buckets of an answer.
-ghost use Rattle.std.specs.Prelude.{◌≡◌, ◌+◌, min, map, length, sum};
-ghost use Rattle.agg_spec.specs.BucketCount.{counter, count_each as counted_each, member_count as members, greatest_count};
-ghost use Rattle.final_reduce.specs.Counts.{count_below};
+// The number of buckets of an answer, counted on the whole before any bucket is built: gaps of a histogram by a quotient.
+ghost use Rattle.std.specs.Prelude.{◌≡◌, ◌+◌, ◌*◌, ◌<◌, min, IfOk, IsTrue, map};
+ghost use Rattle.std.specs.List.{list_all};
+ghost use Rattle.agg_model.specs.declared.aggregation.Agg.{out-Agg};
+ghost use Rattle.agg_evaluation.specs.Orders.{bucket_key};
+ghost use Rattle.agg_evaluation.specs.Trees.{have_children, pass_each};
+ghost use Rattle.agg_evaluation.specs.Whole.{parts};
+ghost use Rattle.agg_spec.specs.BucketCount.{greatest_count};
+ghost use Rattle.agg_spec.specs.GapCount.{below_empty, plan, plan_each};
+ghost use Rattle.bucket_order.specs.Kinds.{kind_of};
+ghost use Rattle.final_reduce.specs.Finishable.{has_histogram_keys, has_interval, has_intervals, is_finishable, is_histogram_key};
+ghost use Rattle.final_reduce.specs.Planned.{fixed_count, gap_count as count_of_gaps, gaps_of, member_number, planned_below as planned_below_buckets, planned_of_nothing};
 
+use crate::lent::lend_returned;
+use crate::spans::{Spacing, filled_number};
 use agg_model::aggregation::{Agg, Kind};
-use agg_model::answer::{BucketAnswer, NodeAnswer};
 use agg_model::list::List;
+use agg_model::partial::{Bucket, Node};
+use std::alloc::{AllocError, Global};
 
-/// The number of buckets in the answers, which stops at 2^64 - 1.
-#[cycle(count)]
-pub(crate) fn count_each(aggs: &List<Agg>, nodes: &List<NodeAnswer>) -> u64
-    ensures { result ≡ min (counted_each (map counter aggs.now) nodes.now) greatest_count }
+fn saturated(number: u128) -> u64
+    ensures { result ≡ min number greatest_count }
 {
-    let mut count = 0u64;
-    let mut left = nodes.as_slice().iter();
-    for agg in aggs.as_slice() {
-        match left.next() {
-            Some(node) => count = count.saturating_add(count_node(agg, node)),
-            None => return count,
-        }
+    u64::try_from(number).unwrap_or(u64::MAX)
+}
+
+fn buckets_of(node: &Node) -> &[Bucket]
+    ensures { result.now ≡ (parts node.now).buckets }
+{
+    match node {
+        Node::Keyed { buckets, .. } | Node::Fixed { buckets } => buckets.as_slice(),
+        Node::Number(_) => &[],
     }
-    count
 }
 
 // The one bucket of a single-bucket aggregation is no member of a list.
-fn member_count(kind: &Kind, buckets: &List<BucketAnswer>) -> u64
-    ensures { result ≡ members kind.now buckets.now }
+fn member_count(kind: &Kind, buckets: u64) -> u64
+    ensures { result ≡ member_number kind.now buckets }
 {
     match kind {
         Kind::Filter { .. }
@@ -33,27 +43,155 @@ fn member_count(kind: &Kind, buckets: &List<BucketAnswer>) -> u64
         | Kind::Global
         | Kind::Nested { .. }
         | Kind::ReverseNested { .. } => 0,
-        _ => buckets.len() as u64,
+        _ => buckets,
     }
 }
 
-#[cycle(count)]
-fn count_node(agg: &Agg, node: &NodeAnswer) -> u64
-    ensures { result ≡ min (counter agg.now node.now) greatest_count }
+// The buckets that exist from the start.
+fn fixed_number(kind: &Kind) -> u64
+    ensures { result ≡ min (fixed_count kind.now) greatest_count }
 {
-    member_count(&agg.kind, &node.buckets).saturating_add(count_buckets(
-        &agg.children,
-        &node.buckets,
-    ))
+    match kind {
+        Kind::Filters { filters, other, .. } => match other {
+            Some(_) => (filters.len() as u64).saturating_add(1),
+            None => filters.len() as u64,
+        },
+        Kind::Filter { .. }
+        | Kind::Missing { .. }
+        | Kind::Global
+        | Kind::Nested { .. }
+        | Kind::ReverseNested { .. } => 1,
+        _ => 0,
+    }
 }
 
-#[cycle(count)]
-fn count_buckets(children: &List<Agg>, buckets: &List<BucketAnswer>) -> u64
-    ensures { result ≡ min (sum (map (count_below (map counter children.now)) buckets.now)) greatest_count }
+fn gaps_between(spacing: Spacing, min_doc_count: u64, buckets: &[Bucket]) -> u64
+    requires positive { 0 < spacing.interval }
+    requires keys { IsTrue (list_all (λ b. is_histogram_key spacing.interval spacing.offset spacing.hard (bucket_key b)) buckets.now) }
+    ensures { result ≡ min (gaps_of spacing.interval spacing.offset min_doc_count spacing.extended spacing.hard buckets.now) greatest_count }
+{
+    if min_doc_count > 0 {
+        return 0;
+    }
+    saturated(filled_number(spacing, buckets).saturating_sub(buckets.len() as u128))
+}
+
+// How many buckets fill the gaps of a histogram; other aggregations have no gaps.
+fn gap_count(kind: &Kind, buckets: &[Bucket]) -> u64
+    requires interval { IsTrue (has_interval kind.now) }
+    requires keys { IsTrue (has_histogram_keys kind.now buckets.now) }
+    ensures { result ≡ min (count_of_gaps kind.now buckets.now) greatest_count }
+{
+    match kind {
+        Kind::Histogram {
+            interval,
+            offset,
+            min_doc_count,
+            extended,
+            hard,
+            ..
+        } => {
+            let spacing = Spacing {
+                interval: *interval,
+                offset: *offset,
+                extended: *extended,
+                hard: *hard,
+            };
+            gaps_between(spacing, *min_doc_count, buckets)
+        }
+        _ => 0,
+    }
+}
+
+/// The number of buckets in the answers over no rows, which stops at 2^64 - 1.
+#[cycle(nothing)]
+fn count_of_nothing(aggs: &List<Agg>) -> u64
+    requires { IsTrue (list_all has_intervals aggs.now) }
+    ensures { result ≡ min (below_empty (map plan aggs.now)) greatest_count }
 {
     let mut count = 0u64;
-    for bucket in buckets.as_slice() {
-        count = count.saturating_add(count_each(children, &bucket.children));
+    for agg in aggs.as_slice() {
+        count = count.saturating_add(count_of_no_row(agg));
     }
     count
+}
+
+#[cycle(nothing)]
+fn count_of_no_row(agg: &Agg) -> u64
+    requires { IsTrue (has_intervals agg.now) }
+    ensures { result ≡ min (planned_of_nothing agg.now) greatest_count }
+{
+    let below = count_of_nothing(&agg.children);
+    let fixed = fixed_number(&agg.kind);
+    let gaps = gap_count(&agg.kind, &[]);
+    member_count(&agg.kind, fixed)
+        .saturating_add(fixed.saturating_mul(below))
+        .saturating_add(gaps.saturating_mul(below.saturating_add(1)))
+}
+
+// The buckets that fill gaps, and those below them.
+fn count_in_gaps(agg: &Agg, buckets: &[Bucket]) -> u64
+    requires intervals { IsTrue (has_intervals agg.now) }
+    requires keys { IsTrue (has_histogram_keys (kind_of agg.now) buckets.now) }
+    ensures { result ≡ min (count_of_gaps (kind_of agg.now) buckets.now * (1 + below_empty (map plan (out-Agg agg.now).children))) greatest_count }
+{
+    let gaps = gap_count(&agg.kind, buckets);
+    if gaps == 0 {
+        return 0;
+    }
+    gaps.saturating_mul(count_of_nothing(&agg.children).saturating_add(1))
+}
+
+/// The number of buckets that the answers will have, which stops at 2^64 - 1.
+#[cycle(plan)]
+pub(crate) fn planned_each(
+    alloc: Global,
+    aggs: &List<Agg>,
+    nodes: &List<Node>,
+) -> Result<u64, AllocError>
+    requires intervals { IsTrue (list_all has_intervals aggs.now) }
+    requires nodes { IsTrue (pass_each (map is_finishable aggs.now) nodes.now) }
+    ensures { IfOk result (λ n. n ≡ min (plan_each (map plan aggs.now) nodes.now) greatest_count) }
+{
+    let mut count = 0u64;
+    let mut left = nodes.as_slice().iter();
+    for agg in aggs.as_slice() {
+        match left.next() {
+            Some(node) => count = count.saturating_add(planned(alloc, agg, node)?),
+            None => return Ok(count),
+        }
+    }
+    Ok(count)
+}
+
+#[cycle(plan)]
+fn planned(alloc: Global, agg: &Agg, node: &Node) -> Result<u64, AllocError>
+    requires intervals { IsTrue (has_intervals agg.now) }
+    requires node { IsTrue (is_finishable agg.now node.now) }
+    ensures { IfOk result (λ n. n ≡ min ((plan agg.now).count node.now) greatest_count) }
+{
+    let buckets = buckets_of(node);
+    let returned = lend_returned(alloc, agg, buckets)?;
+    let lent = returned.as_slice();
+    let members = member_count(&agg.kind, lent.len() as u64);
+    let below = planned_below(alloc, &agg.children, lent)?;
+    let filling = count_in_gaps(agg, buckets);
+    Ok(members.saturating_add(below).saturating_add(filling))
+}
+
+#[cycle(plan)]
+fn planned_below(
+    alloc: Global,
+    children: &List<Agg>,
+    buckets: &[&Bucket],
+) -> Result<u64, AllocError>
+    requires intervals { IsTrue (list_all has_intervals children.now) }
+    requires nodes { IsTrue (have_children (map is_finishable children.now) (map (λ b. b.now) buckets.now)) }
+    ensures { IfOk result (λ n. n ≡ min (planned_below_buckets (map plan children.now) (map (λ b. b.now) buckets.now)) greatest_count) }
+{
+    let mut count = 0u64;
+    for bucket in buckets {
+        count = count.saturating_add(planned_each(alloc, children, &bucket.children)?);
+    }
+    Ok(count)
 }

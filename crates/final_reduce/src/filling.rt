@@ -1,28 +1,130 @@
 // The buckets of a histogram.
-ghost use Rattle.std.specs.Prelude.{◌≡◌, IfOk};
+ghost use Rattle.std.specs.Prelude.{◌≡◌, ◌<◌, IfOk, OnOk, IsTrue, map};
+ghost use Rattle.std.specs.List.{list_all};
+ghost use Rattle.agg_model.specs.declared.key.Key.TheVariants.{Whole};
+ghost use Rattle.agg_evaluation.specs.KeyOrder.{key_eq};
 ghost use Rattle.agg_evaluation.specs.Sorting.{sorted};
-ghost use Rattle.agg_evaluation.specs.Orders.{bucket_cmp};
-ghost use Rattle.agg_spec.specs.Filling.{frequent};
+ghost use Rattle.agg_evaluation.specs.Orders.{bucket_cmp, bucket_key};
+ghost use Rattle.agg_evaluation.specs.Trees.{is_ascending};
+ghost use Rattle.agg_spec.specs.Filling.{bucket_at, filled, filled_keys};
+ghost use Rattle.agg_spec.specs.Final.{empty_bucket as empty_bucket_of, finisher};
 ghost use Rattle.bucket_order.specs.Kinds.{child_kinds};
+ghost use Rattle.final_reduce.specs.Finishable.{is_histogram_key};
+ghost use Rattle.final_reduce.specs.Steps.{key_numbers, left_by, taken};
 
+use crate::spans::{Spacing, filled_span};
 use crate::terms::keep_frequent;
 use agg_model::aggregation::{Agg, Order};
+use agg_model::key::Key;
 use agg_model::list::List;
 use agg_model::partial::Bucket;
 use bucket_order::sort::sort_buckets;
-use std::alloc::AllocError;
+use partial_result::empty_nodes;
+use std::alloc::{AllocError, Global};
+use std::collections::VecDeque;
 
-/// The buckets with enough documents, in the order of the histogram.
-pub(crate) fn frequent_buckets(
+// A bucket of no documents, with the nodes over no rows below it.
+fn empty_bucket(alloc: Global, children: &List<Agg>, key: i128) -> Result<Bucket, AllocError>
+    ensures { IfOk result (λ b. b ≡ empty_bucket_of (map finisher children.now) (Whole key)) }
+{
+    Ok(Bucket {
+        key: Key::Whole(key),
+        count: 0,
+        covered: 0,
+        children: empty_nodes(alloc, children)?,
+    })
+}
+
+fn is_key(bucket: &Bucket, key: i128) -> bool
+    ensures { result ≡ key_eq (Whole key) (bucket_key bucket.now) }
+{
+    match &bucket.key {
+        Key::Whole(number) => *number == key,
+        _ => false,
+    }
+}
+
+// The first bucket where it has the key, and else an empty one.
+fn take_bucket(
+    alloc: Global,
     children: &List<Agg>,
+    key: i128,
+    rest: &mut VecDeque<Bucket>,
+) -> Result<Bucket, AllocError>
+    ensures bucket { IfOk result (λ b. b ≡ taken (Whole key) (empty_bucket_of (map finisher children.now) (Whole key)) rest.old.items) }
+    ensures rest { OnOk result (rest.new.items ≡ left_by (Whole key) rest.old.items) }
+{
+    let is_next = match rest.front() {
+        Some(bucket) => is_key(bucket, key),
+        None => false,
+    };
+    if is_next && let Some(bucket) = rest.pop_front() {
+        return Ok(bucket);
+    }
+    empty_bucket(alloc, children, key)
+}
+
+// All keys from the least to the greatest, each with its bucket or an empty one.
+fn filled_buckets(
+    alloc: Global,
+    children: &List<Agg>,
+    spacing: Spacing,
+    buckets: List<Bucket>,
+) -> Result<Vec<Bucket>, AllocError>
+    requires positive { 0 < spacing.interval }
+    requires keys { IsTrue (list_all (λ b. is_histogram_key spacing.interval spacing.offset spacing.hard (bucket_key b)) buckets) }
+    requires ascending { IsTrue (is_ascending (map bucket_key buckets)) }
+    ensures { IfOk result (λ bs. bs.items ≡ map (bucket_at (empty_bucket_of (map finisher children.now)) buckets) (filled_keys spacing.interval spacing.offset spacing.extended spacing.hard (key_numbers buckets))) }
+{
+    let mut filled = Vec::new(alloc);
+    let Some(span) = filled_span(spacing, buckets.as_slice()) else {
+        return Ok(filled);
+    };
+    let mut rest = VecDeque::from_vec(buckets.into_vec());
+    let mut key = span.first;
+    while key <= span.last {
+        filled.push(take_bucket(alloc, children, key, &mut rest)?)?;
+        key += i128::from(spacing.interval);
+    }
+    Ok(filled)
+}
+
+/// The buckets of a histogram in its order: those with enough documents, or with a minimum of 0 all keys from the least
+/// to the greatest. It takes time in proportion to the buckets that it gives, and to sort them.
+pub(crate) fn histogram_buckets(
+    alloc: Global,
+    children: &List<Agg>,
+    spacing: Spacing,
     min_doc_count: u64,
     order: &List<Order>,
     buckets: List<Bucket>,
 ) -> Result<List<Bucket>, AllocError>
-    ensures { IfOk result (λ bs. bs ≡ sorted (bucket_cmp (child_kinds children.now) order.now) (frequent min_doc_count buckets)) }
+    requires positive { 0 < spacing.interval }
+    requires keys { IsTrue (list_all (λ b. is_histogram_key spacing.interval spacing.offset spacing.hard (bucket_key b)) buckets) }
+    requires ascending { IsTrue (is_ascending (map bucket_key buckets)) }
+    ensures { IfOk result (λ bs. bs ≡ sorted (bucket_cmp (child_kinds children.now) order.now) (filled (empty_bucket_of (map finisher children.now)) spacing.interval spacing.offset min_doc_count spacing.extended spacing.hard buckets)) }
 {
-    let mut kept = buckets.into_vec();
-    keep_frequent(min_doc_count, &mut kept);
+    let mut kept = kept_buckets(alloc, children, spacing, min_doc_count, buckets)?;
     sort_buckets(children, order, &mut kept)?;
     Ok(List::from_vec(kept))
+}
+
+fn kept_buckets(
+    alloc: Global,
+    children: &List<Agg>,
+    spacing: Spacing,
+    min_doc_count: u64,
+    buckets: List<Bucket>,
+) -> Result<Vec<Bucket>, AllocError>
+    requires positive { 0 < spacing.interval }
+    requires keys { IsTrue (list_all (λ b. is_histogram_key spacing.interval spacing.offset spacing.hard (bucket_key b)) buckets) }
+    requires ascending { IsTrue (is_ascending (map bucket_key buckets)) }
+    ensures { IfOk result (λ bs. bs.items ≡ filled (empty_bucket_of (map finisher children.now)) spacing.interval spacing.offset min_doc_count spacing.extended spacing.hard buckets) }
+{
+    if min_doc_count == 0 {
+        return filled_buckets(alloc, children, spacing, buckets);
+    }
+    let mut kept = buckets.into_vec();
+    keep_frequent(min_doc_count, &mut kept);
+    Ok(kept)
 }

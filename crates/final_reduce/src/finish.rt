@@ -5,7 +5,7 @@ ghost use Rattle.final_reduce.specs.Finishable.{can_finish};
 ghost use Rattle.final_reduce.specs.declared.finish.FinalFault.TheVariants.{Memory as OutOfMemory};
 
 use crate::answer::finish_each;
-use crate::count::count_each;
+use crate::count::planned_each;
 use crate::range::first_out_of_range;
 use agg_model::aggregation::Search;
 use agg_model::answer::Answer;
@@ -49,14 +49,14 @@ pub fn finish(
     ensures within_limits { IfOk result (IsWithinLimits search.now max_buckets) }
     ensures fault { IfErr result (IsCause search.now max_buckets (final_answer search.now whole)) }
 {
-    let nodes = finish_each(alloc, &search.aggs, whole.nodes)?;
-    let count = count_each(&search.aggs, &nodes);
+    let count = planned_each(alloc, &search.aggs, &whole.nodes)?;
     if count > max_buckets {
         return Err(FinalFault::TooManyBuckets {
             count,
             max: max_buckets,
         });
     }
+    let nodes = finish_each(alloc, &search.aggs, whole.nodes)?;
     if let Some(path) = first_out_of_range(alloc, &search.aggs, &nodes)? {
         return Err(FinalFault::SumRange {
             path: Text::from_string(path),

@@ -8,9 +8,11 @@ mod count;
 mod errors;
 mod filling;
 pub mod finish;
+mod lent;
 mod parts;
 mod range;
 mod select;
+mod spans;
 mod terms;
 #[cfg(test)]
 mod tests;

@@ -4,13 +4,14 @@ ghost use Rattle.agg_evaluation.specs.Orders.{bucket_count};
 ghost use Rattle.agg_evaluation.specs.Trees.{have_children};
 ghost use Rattle.agg_model.specs.declared.aggregation.Agg.{out-Agg};
 ghost use Rattle.agg_spec.specs.Final.{finisher, no_metric as metric_of_nothing, terms_answer, buckets_answer, metric_answer, finish_bucket};
-ghost use Rattle.final_reduce.specs.Finishable.{is_finishable, is_finishable_at};
+ghost use Rattle.final_reduce.specs.Finishable.{has_intervals, is_finishable};
 ghost use Rattle.final_reduce.specs.Selection.{answer_of, chosen_bucket, chosen_pass, chosen_term};
 
 use crate::composite::first_composites;
 use crate::errors::count_error;
-use crate::filling::frequent_buckets;
+use crate::filling::histogram_buckets;
 use crate::parts::{NodeParts, into_parts};
+use crate::spans::Spacing;
 use crate::terms::returned_terms;
 use agg_model::aggregation::{Agg, Kind, Order};
 use agg_model::list::List;
@@ -134,7 +135,8 @@ fn select_metric(alloc: Global, children: &List<Agg>, metric: Option<Metric>) ->
 
 /// What the answer to an aggregation is made of.
 pub(crate) fn select(alloc: Global, agg: &Agg, node: Node) -> Result<Selected, AllocError>
-    requires { IsTrue (is_finishable agg.now node) }
+    requires intervals { IsTrue (has_intervals agg.now) }
+    requires node { IsTrue (is_finishable agg.now node) }
     ensures answer { IfOk result (λ s. answer_of (out-Agg agg.now).name (map finisher (out-Agg agg.now).children) s ≡ (finisher agg.now).finish node) }
     ensures children { IfOk result (λ s. IsTrue (chosen_pass (map is_finishable (out-Agg agg.now).children) s.chosen)) }
 {
@@ -147,11 +149,28 @@ pub(crate) fn select(alloc: Global, agg: &Agg, node: Node) -> Result<Selected, A
             ..
         } => select_terms(alloc, &agg.children, *size, *min_doc_count, order, parts),
         Kind::Histogram {
+            interval,
+            offset,
             min_doc_count,
+            extended,
+            hard,
             order,
             ..
         } => {
-            let buckets = frequent_buckets(&agg.children, *min_doc_count, order, parts.buckets)?;
+            let spacing = Spacing {
+                interval: *interval,
+                offset: *offset,
+                extended: *extended,
+                hard: *hard,
+            };
+            let buckets = histogram_buckets(
+                alloc,
+                &agg.children,
+                spacing,
+                *min_doc_count,
+                order,
+                parts.buckets,
+            )?;
             select_buckets(alloc, &agg.children, buckets)
         }
         Kind::Composite { sources, size, .. } => {

@@ -24,8 +24,9 @@ pub fn empty(alloc: Global, search: &Search) -> Result<Partial, AllocError>
     })
 }
 
+/// The nodes of aggregations side by side over no rows, with the limit of `empty`.
 #[cycle(empty)]
-fn empty_nodes(alloc: Global, aggs: &List<Agg>) -> Result<List<Node>, AllocError>
+pub fn empty_nodes(alloc: Global, aggs: &List<Agg>) -> Result<List<Node>, AllocError>
     ensures { IfOk result (λ nodes. nodes ≡ map empty_node aggs.now) }
 {
     let mut nodes = List::new(alloc);

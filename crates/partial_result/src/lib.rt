@@ -8,6 +8,6 @@ mod merging;
 #[cfg(test)]
 mod tests;
 
-pub use beginning::empty;
+pub use beginning::{empty, empty_nodes};
 pub use costing::cost;
 pub use merging::merge;

@@ -7,40 +7,42 @@ use Rattle.agg_model.specs.declared.aggregation.Kind.{Kind}
 use Rattle.agg_model.specs.declared.partial.Bucket.{Bucket}
 use Rattle.agg_model.specs.declared.partial.Node.{Node}
 use Rattle.agg_evaluation.specs.Orders.{bucket_key, bucket_count, bucket_cmp, composite_cmp}
-use Rattle.agg_evaluation.specs.Trees.{have_children, pass_each}
-use Rattle.agg_evaluation.specs.Whole.{Parts, parts}
+use Rattle.agg_evaluation.specs.Trees.{have_children, is_ascending, pass_each}
+use Rattle.agg_evaluation.specs.Whole.{Parts, parts, shape_of}
 use Rattle.agg_spec.specs.Final.{finisher, finish_at, finish_bucket, buckets_answer, metric_answer, terms_answer, empty_bucket}
 use Rattle.agg_evaluation.specs.Sorting.{sorted}
 use Rattle.bucket_order.specs.Composites.{is_composite_of}
 use Rattle.bucket_order.proofs.SameOrder.{list_all-sorted}
-use Rattle.final_reduce.specs.Finishable.{is_finishable, fits_at}
+use Rattle.final_reduce.specs.Finishable.{is_finishable, is_histogram_key, fits_at, has_interval}
 use Rattle.std.proofs.lemmas.Bool.{ltb-true}
-use Rattle.agg_spec.specs.Filling.{frequent}
+use Rattle.agg_spec.specs.Filling.{filled}
 use Rattle.bucket_order.specs.Kinds.{child_kinds}
-use Rattle.final_reduce.proofs.SelectLaws.{list_all-take, list_all-filter, unfilled_is}
-use Rattle.final_reduce.proofs.FinishableLaws.{opened, finish_is, counts_fit, plain_is, metric_is}
+use Rattle.final_reduce.proofs.SelectLaws.{list_all-take, kinds_of_finishers}
+use Rattle.final_reduce.proofs.FilledPasses.{filled-passes}
+use Rattle.final_reduce.proofs.PlanAgrees.{all-agree, nothing-passes}
+use Rattle.final_reduce.proofs.FinishableLaws.{opened, finish_is, counts_fit, plain_is, metric_is, intervals-at, ascending-opened}
 use Rattle.final_reduce.proofs.select.select.Goals as goal
 
 abbrev tests_of : Agg → List (Node → Bool)
 tests_of a = map is_finishable (out-Agg a).children
 
 pub select_terms-requires-clause-children : goal.select_terms-requires-clause-children
-select_terms-requires-clause-children c = ap (have_children (tests_of c.args.agg.now)) c.into_parts-parts.ensures.buckets ∙ (opened c.args.agg.now c.args.node c.requires).0
+select_terms-requires-clause-children c = ap (have_children (tests_of c.args.agg.now)) c.into_parts-parts.ensures.buckets ∙ (opened c.args.agg.now c.args.node c.requires.node).0
 
 pub select_terms-requires-clause-counts : goal.select_terms-requires-clause-counts
 select_terms-requires-clause-counts c =
-    let fit = counts_fit (parts c.args.node) (sym (ap (λ k. fits_at k (parts c.args.node)) c.in-Terms.is) ∙ (opened c.args.agg.now c.args.node c.requires).1) in
+    let fit = counts_fit (parts c.args.node) (sym (ap (λ k. fits_at k (parts c.args.node)) c.in-Terms.is) ∙ (opened c.args.agg.now c.args.node c.requires.node).1) in
     omega (arith, fit.0, c.into_parts-parts.ensures.cut, ap (sum_by bucket_count) c.into_parts-parts.ensures.buckets)
 
 pub select_terms-requires-clause-error : goal.select_terms-requires-clause-error
 select_terms-requires-clause-error c =
-    let fit = counts_fit (parts c.args.node) (sym (ap (λ k. fits_at k (parts c.args.node)) c.in-Terms.is) ∙ (opened c.args.agg.now c.args.node c.requires).1) in
+    let fit = counts_fit (parts c.args.node) (sym (ap (λ k. fits_at k (parts c.args.node)) c.in-Terms.is) ∙ (opened c.args.agg.now c.args.node c.requires.node).1) in
     omega (arith, fit.1, c.into_parts-parts.ensures.error)
 
 pub first_composites-requires : goal.first_composites-requires
 first_composites-requires c =
     ap (list_all (λ (b : Bucket). is_composite_of (length c.in-Composite.sources) (bucket_key b))) c.into_parts-parts.ensures.buckets
-    ∙ sym (ap (λ k. fits_at k (parts c.args.node)) c.in-Composite.is) ∙ (opened c.args.agg.now c.args.node c.requires).1
+    ∙ sym (ap (λ k. fits_at k (parts c.args.node)) c.in-Composite.is) ∙ (opened c.args.agg.now c.args.node c.requires.node).1
 
 pub select_buckets-requires-in-Composite : goal.select_buckets-requires-in-Composite
 select_buckets-requires-in-Composite c =
@@ -48,11 +50,11 @@ select_buckets-requires-in-Composite c =
     record {
       children = ap (list_all passes) c.in_ok-buckets-in-Composite.ensures
           ∙ list_all-take passes c.in-Composite.size _ (list_all-sorted passes (λ a b. composite_cmp c.in-Composite.sources (bucket_key a) (bucket_key b)) c.into_parts-parts.result.buckets
-          (ap (have_children (tests_of c.args.agg.now)) c.into_parts-parts.ensures.buckets ∙ (opened c.args.agg.now c.args.node c.requires).0));
+          (ap (have_children (tests_of c.args.agg.now)) c.into_parts-parts.ensures.buckets ∙ (opened c.args.agg.now c.args.node c.requires.node).0));
     }
 
 pub select_buckets-requires-in_default : goal.select_buckets-requires-in_default
-select_buckets-requires-in_default c = record { children = ap (have_children (tests_of c.args.agg.now)) c.into_parts-parts.ensures.buckets ∙ (opened c.args.agg.now c.args.node c.requires).0 }
+select_buckets-requires-in_default c = record { children = ap (have_children (tests_of c.args.agg.now)) c.into_parts-parts.ensures.buckets ∙ (opened c.args.agg.now c.args.node c.requires.node).0 }
 
 pub returns-in_default-clause-answer : goal.returns-in_default-clause-answer
 returns-in_default-clause-answer c =
@@ -91,23 +93,36 @@ returns-in_ok-buckets-in-Composite-clause-answer c =
     is a.name ∙ ap (λ bs. buckets_answer a.name (map (finish_bucket finishers None) bs)) (c.in_ok-buckets-in-Composite.ensures ∙ ap (λ bs. take c.in-Composite.size (sorted (λ x y. composite_cmp c.in-Composite.sources (bucket_key x) (bucket_key y)) bs)) c.into_parts-parts.ensures.buckets)
     ∙ sym (ap (λ (k : Kind). finish_at a.name finishers k p) c.in-Composite.is) ∙ sym (finish_is c.args.agg.now c.args.node)) c.select_buckets-in-Composite.ensures.answer
 
+pub histogram_buckets-requires : goal.histogram_buckets-requires
+histogram_buckets-requires c =
+    let h = c.in-Histogram in
+    record {
+      positive = ltb-true 0 h.interval (sym (ap has_interval h.is) ∙ (intervals-at c.args.agg.now c.requires.intervals).0);
+      keys = ap (list_all (λ (b : Bucket). is_histogram_key h.interval h.offset h.hard (bucket_key b))) c.into_parts-parts.ensures.buckets
+          ∙ sym (ap (λ k. fits_at k (parts c.args.node)) h.is) ∙ (opened c.args.agg.now c.args.node c.requires.node).1;
+      ascending = ap (λ bs. is_ascending (map bucket_key bs)) c.into_parts-parts.ensures.buckets ∙ ascending-opened c.args.agg.now c.args.node c.requires.node (ap shape_of h.is);
+    }
+
 pub select_buckets-requires : goal.select_buckets-requires
 select_buckets-requires c =
+    let a = out-Agg c.args.agg.now in
+    let h = c.in-Histogram in
     let passes = λ (b : Bucket). pass_each (tests_of c.args.agg.now) b.children in
+    let finishers = map finisher a.children in
+    let empties = nothing-passes _ _ _ _ (all-agree a.children (intervals-at c.args.agg.now c.requires.intervals).1) in
     record {
       children = ap (list_all passes) c.in_ok-buckets-in-Histogram.ensures
-          ∙ list_all-sorted passes (bucket_cmp (child_kinds (out-Agg c.args.agg.now).children) c.in-Histogram.order) _ (list_all-filter passes (λ b. nat_le c.in-Histogram.min_doc_count (bucket_count b)) c.into_parts-parts.result.buckets
-          (ap (have_children (tests_of c.args.agg.now)) c.into_parts-parts.ensures.buckets ∙ (opened c.args.agg.now c.args.node c.requires).0));
+          ∙ list_all-sorted passes (bucket_cmp (child_kinds a.children) h.order) _ (filled-passes passes (empty_bucket finishers) (λ key. empties) h.interval h.offset h.min_doc_count h.extended h.hard c.into_parts-parts.result.buckets
+          (ap (have_children (tests_of c.args.agg.now)) c.into_parts-parts.ensures.buckets ∙ (opened c.args.agg.now c.args.node c.requires.node).0));
     }
 
 pub returns-in_ok-buckets-in-Histogram-clause-answer : goal.returns-in_ok-buckets-in-Histogram-clause-answer
 returns-in_ok-buckets-in-Histogram-clause-answer c =
     let a = out-Agg c.args.agg.now in
+    let h = c.in-Histogram in
     let finishers = map finisher a.children in
     let p = parts c.args.node in
-    let positive = ltb-true 0 c.in-Histogram.min_doc_count (sym (ap (λ k. fits_at k p) c.in-Histogram.is) ∙ (opened c.args.agg.now c.args.node c.requires).1) in
     IfOk-weaker c.select_buckets.result _ _ (λ s is.
     is a.name ∙ ap (λ bs. buckets_answer a.name (map (finish_bucket finishers None) bs)) (c.in_ok-buckets-in-Histogram.ensures
-    ∙ ap (λ bs. sorted (bucket_cmp (child_kinds a.children) c.in-Histogram.order) (frequent c.in-Histogram.min_doc_count bs)) c.into_parts-parts.ensures.buckets
-    ∙ unfilled_is (empty_bucket finishers) c.in-Histogram.interval c.in-Histogram.offset c.in-Histogram.min_doc_count c.in-Histogram.extended c.in-Histogram.hard c.in-Histogram.order a.children p.buckets positive)
-    ∙ sym (ap (λ (k : Kind). finish_at a.name finishers k p) c.in-Histogram.is) ∙ sym (finish_is c.args.agg.now c.args.node)) c.select_buckets.ensures.answer
+    ∙ (λ i. sorted (bucket_cmp (sym (kinds_of_finishers a.children) i) h.order) (filled (empty_bucket finishers) h.interval h.offset h.min_doc_count h.extended h.hard (c.into_parts-parts.ensures.buckets i))))
+    ∙ sym (ap (λ (k : Kind). finish_at a.name finishers k p) h.is) ∙ sym (finish_is c.args.agg.now c.args.node)) c.select_buckets.ensures.answer

@@ -1,0 +1,34 @@
+-- What holds of the buckets of a histogram, and of each empty one, holds of all buckets that it has with its gaps filled.
+use Rattle.std.specs.Prelude.{◌≡◌, refl, ℕ, ◌==◌, nat_le, Bool, true, false, cond, List, [], ◌∷◌, map, Some, unwrap_or, find}
+use Rattle.std.specs.List.{list_all}
+use Rattle.std.proofs.Common.{sym, ap}
+use Rattle.std.proofs.lemmas.Bool.{and_parts, and_from}
+use Rattle.agg_model.specs.declared.key.Key.{Key}
+use Rattle.agg_model.specs.declared.partial.Bucket.{Bucket}
+use Rattle.agg_model.specs.declared.aggregation.Bounds.{Bounds}
+use Rattle.agg_evaluation.specs.KeyOrder.{key_eq}
+use Rattle.agg_evaluation.specs.Orders.{bucket_key, bucket_count}
+use Rattle.agg_spec.specs.Filling.{bucket_at, filled, filled_keys, frequent}
+use Rattle.final_reduce.specs.Steps.{key_numbers}
+use Rattle.final_reduce.proofs.SelectLaws.{list_all-filter}
+
+module _ (passes : Bucket → Bool) (empty : Key → Bucket) (empties : (key : Key) → passes (empty key) ≡ true) where
+  bucket_at-passes : (bs : List Bucket) → list_all passes bs ≡ true → (key : Key) → passes (bucket_at empty bs key) ≡ true
+  bucket_at-passes [] all key = empties key
+  bucket_at-passes (b ∷ bs) all key =
+      let parts = and_parts _ _ all in
+      elim (key_eq key (bucket_key b)) as (λ t. passes (unwrap_or (cond t (Some b) (find (λ b. key_eq key (bucket_key b)) bs)) (empty key)) ≡ true) [
+        | true ↦ parts.0
+        | false ↦ bucket_at-passes bs parts.1 key
+      ]
+
+  each-passes : (bs : List Bucket) → list_all passes bs ≡ true → (keys : List Key) → list_all passes (map (bucket_at empty bs) keys) ≡ true
+  each-passes bs all [] = refl
+  each-passes bs all (key ∷ keys) = and_from _ _ (bucket_at-passes bs all key) (each-passes bs all keys)
+
+  pub filled-passes : (interval offset m : ℕ) (extended hard : Bounds) (bs : List Bucket) → list_all passes bs ≡ true → list_all passes (filled empty interval offset m extended hard bs) ≡ true
+  filled-passes interval offset m extended hard bs all =
+      elim (m == 0) as (λ b. list_all passes (cond b (map (bucket_at empty bs) (filled_keys interval offset extended hard (key_numbers bs))) (frequent m bs)) ≡ true) [
+        | true ↦ each-passes bs all (filled_keys interval offset extended hard (key_numbers bs))
+        | false ↦ list_all-filter passes (λ b. nat_le m (bucket_count b)) bs all
+      ]

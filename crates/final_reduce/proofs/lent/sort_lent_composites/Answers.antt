@@ -1,0 +1,25 @@
+use Rattle.std.proofs.Common.{rules, ◌∙◌, ap, map}
+use Rattle.std.specs.Prelude.{length}
+use Rattle.std.proofs.lemmas.Result.{on_ok_weaker}
+use Rattle.std.proofs.lemmas.Cmp.{on_total}
+use Rattle.agg_model.specs.declared.partial.Bucket.{Bucket}
+use Rattle.agg_evaluation.specs.Orders.{bucket_key, composite_cmp}
+use Rattle.bucket_order.specs.Composites.{is_composite_of, key_parts, any_parts_cmp}
+use Rattle.bucket_order.proofs.SortLaws.{sorted_from_sort_by}
+use Rattle.bucket_order.proofs.SameOrder.{sorted_same}
+use Rattle.bucket_order.proofs.CompositeLaws.{any_parts_total, same_composites}
+use Rattle.final_reduce.proofs.SelectLaws.{sorted-map}
+use Rattle.final_reduce.proofs.lent.sort_lent_composites.Goals as goal
+use denote.Ref.{Bor}
+
+pub returns : goal.returns
+returns c =
+    let sources = c.args.sources.now in
+    let order = λ (a b : Bucket). any_parts_cmp sources (key_parts (bucket_key a)) (key_parts (bucket_key b)) in
+    on_ok_weaker c.sort_by.result
+    (λ up.
+    ap (map (λ (b : Bor Bucket). b.now)) (sorted_from_sort_by (λ (a b : Bor Bucket). order a.now b.now) (on_total (λ (b : Bor Bucket). key_parts (bucket_key b.now)) (any_parts_total sources)) _ _ up c.sort_by.ensures.stable (λ a r f k. search rules))
+    ∙ sorted-map (λ (b : Bor Bucket). b.now) order c.args.buckets.now.items
+    ∙ sorted_same (λ b. is_composite_of (length sources) (bucket_key b)) order (λ a b. composite_cmp sources (bucket_key a) (bucket_key b))
+    (λ a b e f. same_composites sources (bucket_key a) (bucket_key b) e f) (map (λ (b : Bor Bucket). b.now) c.args.buckets.now.items) c.requires)
+    c.sort_by.ensures.sorted

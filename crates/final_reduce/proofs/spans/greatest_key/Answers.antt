@@ -1,0 +1,36 @@
+use Rattle.std.proofs.Common.{◌≡◌, refl, ◌∙◌, ◌^◌, sym, ap, subst, arith, List}
+use Rattle.std.specs.Prelude.{ℤ, pos, ◌-ℤ◌, ◌≤ℤ◌, Option, Some, None}
+use Rattle.std.specs.Option.{IfSome, option_map_or}
+use Rattle.std.specs.Int.{int_max}
+use Rattle.std.proofs.lemmas.Int.{ints, clamps}
+use mir.Syntax.{w128}
+use mir.Val.{to_z, of_z}
+use Rattle.final_reduce.proofs.SpanLaws.{none-high}
+use Rattle.final_reduce.proofs.spans.greatest_key.Goals as goal
+
+abbrev Near : ℤ → Type 0
+Near n = n ≤ℤ pos (2 ^ 80)
+
+-- of one or none and another
+of_both : (one : Option ℤ) (other : ℤ) → ((r : ℤ) → one ≡ Some r → Near r) → Near other → Near (option_map_or (λ n. int_max n other) one other)
+of_both None other near h = h
+of_both (Some n) other near h = let own = near n refl in omega (arith, ints, clamps)
+
+of_one : (one : Option ℤ) → ((r : ℤ) → one ≡ Some r → Near r) → IfSome one Near
+of_one None near = tt
+of_one (Some n) near = near n refl
+
+pub returns-in-Some-clause-high : goal.returns-in-Some-clause-high
+returns-in-Some-clause-high c =
+    let s = c.args.spacing in
+    let other = to_z w128 (of_z w128 c.bound_key.result) in
+    let bound = c.bound_key.ensures.high in
+    let near : Near other = omega (arith, ints, bound) in
+    let both = of_both c.own_greatest-own.result other (λ r e. none-high s.interval s.offset c.requires.positive s.extended s.hard c.args.buckets.now c.requires.keys r (sym c.own_greatest-own.ensures ∙ e)) near in
+    let all = subst Near (sym c.greater.ensures) both in
+    omega (arith, ints, all)
+
+pub returns-in-None-clause-high : goal.returns-in-None-clause-high
+returns-in-None-clause-high c =
+    let s = c.args.spacing in
+    of_one c.own_greatest-own.result (λ r e. none-high s.interval s.offset c.requires.positive s.extended s.hard c.args.buckets.now c.requires.keys r (sym c.own_greatest-own.ensures ∙ e))
