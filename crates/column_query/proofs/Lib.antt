@@ -1,0 +1,4 @@
+pub mod Lists
+pub mod Comparing
+pub mod QueryLevels
+pub mod Cases
