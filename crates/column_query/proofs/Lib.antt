@@ -2,3 +2,8 @@ pub mod Lists
 pub mod Comparing
 pub mod QueryLevels
 pub mod Cases
+pub mod Members
+pub mod Contents
+pub mod Places
+pub mod Standing
+pub mod Holding

@@ -1,5 +1,8 @@
 //! Which rows of a shard a query matches (Elasticsearch Reference 8, 'Query DSL').
 #![tactic(auto)]
 
+mod bounds;
+mod content;
 pub mod matching;
+mod numbers;
 mod values;
