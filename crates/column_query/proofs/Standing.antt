@@ -170,3 +170,16 @@ module _ (rows : List PlacedRow) (field : ℕ) where
   pub absent-bounds : (op : RangeOp) (w : List ℕ) → NoRowHas field w rows → Holds rows field Words →
       BoundsAs rows field (record { op = op; value = probe.Word w }) (At (without_equal op) (pos (place_among (words_of field rows) w)))
   absent-bounds op w absent holds = record { same = λ v held. absent_bound op w absent v held (holds.only v held) ∙ ap (allows op) (value_cmp-is v (probe.Word w)) }
+
+  pub number-bounds : (test : RangeTest) (p : Probe) (n m : ℤ) → test.value ≡ p → m ≡ n → Ordered p n → BoundsAs rows field test (At test.op m)
+  number-bounds test p n m is same ordered = ordered-bounds test m (λ v held. ap (int_cmp (number v)) same ∙ (ordered v held ∙ ap (value_cmp v) (sym is)))
+
+  pub answer-bounds : (c : Content) (test : RangeTest) (o : Ordering) (answer : Bool) → Holds rows field c → differs c test.value ≡ true → order_apart c test.value ≡ o → answer ≡ allows test.op o → BoundsAs rows field test (Always answer)
+  answer-bounds c test o answer holds d is answer_is =
+      subst (λ (b : Bool). BoundsAs rows field test (Always b)) (ap (allows test.op) is ∙ sym answer_is) (always-bounds c test d holds)
+
+  pub place-bound : (op op' : RangeOp) (w : List ℕ) (m : ℤ) → NoRowHas field w rows → Holds rows field Words → op' ≡ without_equal op → m ≡ pos (place_among (words_of field rows) w) →
+      BoundsAs rows field (record { op = op; value = probe.Word w }) (At op' m)
+  place-bound op op' w m absent holds op_is m_is =
+      subst (λ (o : RangeOp). BoundsAs rows field (record { op = op; value = probe.Word w }) (At o m)) (sym op_is)
+      (subst (λ (n : ℤ). BoundsAs rows field (record { op = op; value = probe.Word w }) (At (without_equal op) n)) (sym m_is) (absent-bounds op w absent holds))
