@@ -7,3 +7,6 @@ pub mod Contents
 pub mod Places
 pub mod Standing
 pub mod Holding
+pub mod PreparedLevels
+pub mod PreparedCases
+pub mod Sizes

@@ -5,4 +5,5 @@ mod bounds;
 mod content;
 pub mod matching;
 mod numbers;
+pub mod prepared;
 mod values;
