@@ -2,6 +2,8 @@
 use Rattle.std.proofs.Common.{Bool, true, false, cond, eqb, T, zero, suc, ◌≡◌, refl, ℕ, ◌+◌, ◌<◌, ◌≤◌, List, [], ◌∷◌, ◌++◌, map, length, get_or, take, sym, ◌∙◌, ap, subst, arith, length-append, append_assoc, Contains, filter, ◌==◌, inl, inr}
 use Rattle.std.proofs.lemmas.List.{append-nil, map-append, get_or_past, length-map, get_or-map, take_more, length-take}
 use Rattle.std.proofs.lemmas.Bool.{cases_lt}
+use Rattle.std.specs.Prelude.{sum, sum_by}
+use Rattle.std.proofs.lemmas.List.Sums.{sum-map, sum_by-cons, sum_by-append}
 use Rattle.std.proofs.Math.Facts.{eqb_yes}
 use Rattle.std.proofs.Math.Seq.{get_or-append_seam}
 use Rattle.std.specs.List.{zip}
@@ -10,16 +12,18 @@ use Rattle.agg_evaluation.specs.Rows.{PlacedRow}
 use Rattle.shard_columns.specs.declared.layout.Entry.{Entry}
 use Rattle.shard_columns.specs.declared.layout.Laid.{Laid}
 use Rattle.shard_columns.specs.declared.values.Values.{Values}
-use Rattle.shard_columns.specs.Layout.{placed, flat_rows, row_at, values_of_laid, entries_of_laid, context_of, no_row, row_of, root_numbers}
-use Rattle.shard_columns.specs.Values.{Words, words_in, words_for, FieldsBelow, HasAllWords, AllAscend, IsAscending, cut, fields_of, row_values, IsWithin, WithinReach, SpansWithin}
+use Rattle.shard_columns.specs.Layout.{placed, flat_rows, row_at, values_of_laid, entries_of_laid, context_of, no_row, row_of}
+use Rattle.shard_columns.specs.Values.{Words, words_in, words_for, FieldsBelow, HasAllWords, AllAscend, IsAscending, cut, fields_of, row_values, total_count, IsWithin, WithinReach, SpansWithin}
 use Rattle.shard_columns.specs.Words.{AllFieldsBelow, AreDictionaries, row_words}
 use Rattle.shard_columns.specs.Given.{RowsBelow}
+use Rattle.shard_columns.specs.Dictionary.{value_count}
+use Rattle.shard_columns.proofs.Dictionaries.{sum-cons}
 use Rattle.shard_columns.proofs.Storing.{Contains-flat_map}
 use Rattle.shard_columns.proofs.Noting.{AllFieldsBelow-at}
 use Rattle.shard_columns.proofs.Placing.{length-flat_rows}
 
 -- a field beyond the mapping has no words
-words_for-none : (n f : ℕ) (fs : List FieldValues) → FieldsBelow n fs → n ≤ f → words_for f fs ≡ []
+pub words_for-none : (n f : ℕ) (fs : List FieldValues) → FieldsBelow n fs → n ≤ f → words_for f fs ≡ []
 unfolding FieldsBelow
 words_for-none n f [] below beyond = refl
 words_for-none n f (x ∷ xs) below beyond =
@@ -63,7 +67,7 @@ zip-map f g [] = refl
 zip-map f g (x ∷ xs) = ap (λ ys. (f x, g x) ∷ ys) (zip-map f g xs)
 
 -- the rows have the values of their entries, one for one
-values-placed : (ids : List (List ℕ)) (rows : List PlacedRow) (es : List (Entry × List FieldValues)) → map (λ r. r.values) (placed ids rows es) ≡ map (λ r. r.values) rows ++ map (λ e. e.1) es
+pub values-placed : (ids : List (List ℕ)) (rows : List PlacedRow) (es : List (Entry × List FieldValues)) → map (λ r. r.values) (placed ids rows es) ≡ map (λ r. r.values) rows ++ map (λ e. e.1) es
 unfolding placed
 values-placed ids rows [] = sym (append-nil (map (λ r. r.values) rows))
 values-placed ids rows (e ∷ es) =
@@ -71,10 +75,10 @@ values-placed ids rows (e ∷ es) =
     ∙ (ap (λ (vs : List (List FieldValues)). vs ++ map (λ e. e.1) es) (map-append (λ (r : PlacedRow). r.values) rows (row_at ids rows e.0 e.1 ∷ []))
     ∙ append_assoc (map (λ r. r.values) rows) (e.1 ∷ []) (map (λ e. e.1) es))
 
-abbrev pair : Laid → Entry × List FieldValues
+abbrev pub pair : Laid → Entry × List FieldValues
 pair l = (l.entry, l.values.now)
 
-pairs-values : (laid : List Laid) → map (λ e. e.1) (map pair laid) ≡ values_of_laid laid
+pub pairs-values : (laid : List Laid) → map (λ e. e.1) (map pair laid) ≡ values_of_laid laid
 pairs-values [] = refl
 pairs-values (l ∷ ls) = ap (λ (vs : List (List FieldValues)). l.values.now ∷ vs) (pairs-values ls)
 
@@ -112,7 +116,7 @@ map-placed {B} f g ids rows (e ∷ es) same =
     ∙ (ap (λ (bs : List B). bs ++ map g es) (map-append f rows (row_at ids rows e.0 e.1 ∷ []) ∙ ap (λ (b : B). map f rows ++ b ∷ []) (same rows e))
     ∙ append_assoc (map f rows) (g e ∷ []) (map g es))
 
-zip-first : {K X B : Type 0} (h : K → B) (ks : List K) (vs : List X) → length vs ≡ length ks → map (λ e. h e.0) (zip ks vs) ≡ map h ks
+pub zip-first : {K X B : Type 0} (h : K → B) (ks : List K) (vs : List X) → length vs ≡ length ks → map (λ e. h e.0) (zip ks vs) ≡ map h ks
 zip-first h [] vs same = refl
 zip-first h (k ∷ ks) [] same = absurd (omega arith)
 zip-first {K} {X} {B} h (k ∷ ks) (v ∷ vs) same = ap (λ (bs : List B). h k ∷ bs) (zip-first h ks vs (omega arith))
@@ -147,71 +151,14 @@ id-at ids es vs n e same below is =
     sym (get_or-map (λ (r : PlacedRow). r.id) (placed ids [] (zip es vs)) n no_row [] (subst (λ (k : ℕ). n < k) (sym (size-is ids es vs same)) below))
     ∙ (ap (λ (xs : List (List ℕ)). get_or xs n []) (ids-are ids es vs same) ∙ (get_or-map (λ (e : Entry). get_or ids e.document []) es n e [] below ∙ ap (λ (e : Entry). get_or ids e.document []) (sym is)))
 
--- the roots among rows, by their numbers
-choose : (all : List PlacedRow) (b : Bool) (n : ℕ) (ns : List ℕ) → map (row_of all) (cond b (n ∷ ns) ns) ≡ cond b (row_of all n ∷ map (row_of all) ns) (map (row_of all) ns)
-choose all true n ns = refl
-choose all false n ns = refl
+-- one more row adds its values
+pub total-push : (laid : List Laid) (l : Laid) → sum_by total_count (values_of_laid (laid ++ l ∷ [])) ≡ sum_by total_count (values_of_laid laid) + total_count l.values.now
+total-push laid l =
+    ap (sum_by total_count) (map-append (λ (l : Laid). l.values.now) laid (l ∷ []))
+    ∙ (sum_by-append total_count (values_of_laid laid) (l.values.now ∷ []) ∙ omega (arith, sum_by-cons total_count l.values.now []))
 
-pub roots-numbered : (n : ℕ) (all front rows : List PlacedRow) (es : List Entry) → all ≡ front ++ rows → length front ≡ n → map (λ r. r.context) rows ≡ map (λ e. context_of e.origin) es →
-    map (row_of all) (root_numbers n es) ≡ filter (λ r. r.context == 0) rows
-unfolding root_numbers
-roots-numbered n all front [] [] is at same = refl
-roots-numbered n all front (r ∷ rs) [] is at same = absurd (cc same)
-roots-numbered n all front [] (e ∷ es) is at same = absurd (cc same)
-roots-numbered n all front (r ∷ rs) (e ∷ es) is at same =
-    let first : r.context ≡ context_of e.origin = cc same in
-    let rest : map (λ (r : PlacedRow). r.context) rs ≡ map (λ (e : Entry). context_of e.origin) es = cc same in
-    let after : length (front ++ r ∷ []) ≡ n + 1 = omega (arith, length-append front (r ∷ []), at) in
-    let below = roots-numbered (n + 1) all (front ++ r ∷ []) rs es (is ∙ sym (append_assoc front (r ∷ []) rs)) after rest in
-    let here : row_of all n ≡ r = ap (λ (xs : List PlacedRow). get_or xs n no_row) is ∙ (ap (λ (k : ℕ). get_or (front ++ r ∷ rs) k no_row) (sym at) ∙ get_or-append_seam front r rs no_row) in
-    choose all (eqb (context_of e.origin) 0) n (root_numbers (n + 1) es)
-    ∙ (ap (λ (b : Bool). cond b (row_of all n ∷ map (row_of all) (root_numbers (n + 1) es)) (map (row_of all) (root_numbers (n + 1) es))) (ap (λ (k : ℕ). eqb k 0) (sym first))
-    ∙ (ap (λ (x : PlacedRow). cond (eqb r.context 0) (x ∷ map (row_of all) (root_numbers (n + 1) es)) (map (row_of all) (root_numbers (n + 1) es))) here
-    ∙ ap (λ (xs : List PlacedRow). cond (eqb r.context 0) (r ∷ xs) xs) below))
-
-root-below : (n : ℕ) (es : List Entry) (b : Bool) (k d : ℕ) → k < length (cond b (n ∷ root_numbers (n + 1) es) (root_numbers (n + 1) es)) →
-    ((j : ℕ) → j < length (root_numbers (n + 1) es) → get_or (root_numbers (n + 1) es) j d < (n + 1) + length es) →
-    get_or (cond b (n ∷ root_numbers (n + 1) es) (root_numbers (n + 1) es)) k d < n + suc (length es)
-root-below n es true zero d below rest = omega arith
-root-below n es true (suc k) d below rest = omega (arith, rest k (omega arith))
-root-below n es false k d below rest = omega (arith, rest k below)
-
-pub root_numbers-below : (n : ℕ) (es : List Entry) (k : ℕ) (d : ℕ) → k < length (root_numbers n es) → get_or (root_numbers n es) k d < n + length es
-unfolding root_numbers
-root_numbers-below n [] k d below = absurd (omega arith)
-root_numbers-below n (e ∷ es) k d below = root-below n es (eqb (context_of e.origin) 0) k d below (λ j at. root_numbers-below (n + 1) es j d at)
-
-split : (b : Bool) (n : ℕ) (xs ys : List ℕ) → cond b (n ∷ (xs ++ ys)) (xs ++ ys) ≡ cond b (n ∷ xs) xs ++ ys
-split true n xs ys = refl
-split false n xs ys = refl
-
-pub root_numbers-push : (n : ℕ) (es : List Entry) (e : Entry) → root_numbers n (es ++ e ∷ []) ≡ root_numbers n es ++ cond (eqb (context_of e.origin) 0) ((n + length es) ∷ []) []
-unfolding root_numbers
-root_numbers-push n [] e = ap (λ (k : ℕ). cond (eqb (context_of e.origin) 0) (k ∷ []) []) (let at : n ≡ n + 0 = omega arith in at)
-root_numbers-push n (x ∷ xs) e =
-    let at : (n + 1) + length xs ≡ n + suc (length xs) = omega arith in
-    let more = root_numbers-push (n + 1) xs e ∙ ap (λ (k : ℕ). root_numbers (n + 1) xs ++ cond (eqb (context_of e.origin) 0) (k ∷ []) []) at in
-    ap (λ (ns : List ℕ). cond (eqb (context_of x.origin) 0) (n ∷ ns) ns) more
-    ∙ split (eqb (context_of x.origin) 0) n (root_numbers (n + 1) xs) (cond (eqb (context_of e.origin) 0) ((n + suc (length xs)) ∷ []) [])
-
-few-below : (b : Bool) (n : ℕ) (ns : List ℕ) (k : ℕ) → length ns ≤ k → length (cond b (n ∷ ns) ns) ≤ suc k
-few-below true n ns k few = omega arith
-few-below false n ns k few = omega arith
-
-pub root_numbers-few : (n : ℕ) (es : List Entry) → length (root_numbers n es) ≤ length es
-unfolding root_numbers
-root_numbers-few n [] = omega arith
-root_numbers-few n (e ∷ es) = few-below (eqb (context_of e.origin) 0) n (root_numbers (n + 1) es) (length es) (root_numbers-few (n + 1) es)
-
-numbers-more : (rows : List Entry) (n : ℕ) (d : Entry) (b : Bool) → n < length rows → eqb (context_of (get_or rows n d).origin) 0 ≡ b → root_numbers 0 (take (n + 1) rows) ≡ root_numbers 0 (take n rows) ++ cond b (n ∷ []) []
-numbers-more rows n d b below is =
-    let at : 0 + length (take n rows) ≡ n = omega (arith, length-take n rows) in
-    ap (root_numbers 0) (take_more rows n d below) ∙ (root_numbers-push 0 (take n rows) (get_or rows n d)
-    ∙ (ap (λ (b : Bool). root_numbers 0 (take n rows) ++ cond b ((0 + length (take n rows)) ∷ []) []) is
-    ∙ ap (λ (k : ℕ). root_numbers 0 (take n rows) ++ cond b (k ∷ []) []) at))
-
-pub numbers-root : (rows : List Entry) (n : ℕ) (d : Entry) (now new : List ℕ) → n < length rows → eqb (context_of (get_or rows n d).origin) 0 ≡ true → now ≡ root_numbers 0 (take n rows) → new ≡ now ++ n ∷ [] → new ≡ root_numbers 0 (take (n + 1) rows)
-numbers-root rows n d now new below is before pushed = pushed ∙ (ap (λ (ns : List ℕ). ns ++ n ∷ []) before ∙ sym (numbers-more rows n d true below is))
-
-pub numbers-other : (rows : List Entry) (n : ℕ) (d : Entry) (now new : List ℕ) → n < length rows → eqb (context_of (get_or rows n d).origin) 0 ≡ false → now ≡ root_numbers 0 (take n rows) → new ≡ now → new ≡ root_numbers 0 (take (n + 1) rows)
-numbers-other rows n d now new below is before same = same ∙ (before ∙ (sym (append-nil (root_numbers 0 (take n rows))) ∙ sym (numbers-more rows n d false below is)))
+pub total-values : (rows : List PlacedRow) → sum_by total_count (map (λ r. r.values) rows) ≡ sum (map value_count rows)
+total-values [] = refl
+total-values (r ∷ rs) =
+    sum_by-cons total_count r.values (map (λ r. r.values) rs)
+    ∙ ((λ i. sym (sum-map (λ (f : FieldValues). length f.values) r.values) i + total-values rs i) ∙ sym (sum-cons (value_count r) (map value_count rs)))

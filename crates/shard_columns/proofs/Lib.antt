@@ -5,3 +5,10 @@ pub mod Storing
 pub mod Noting
 pub mod Building
 pub mod Reading
+pub mod Searching
+pub mod Enclosing
+pub mod Dictionaries
+pub mod Numbering
+pub mod Weighing
+pub mod Making
+pub mod Parents

@@ -4,6 +4,7 @@ use Rattle.std.proofs.lemmas.List.{map-append, append-nil, length-map, take-appe
 use Rattle.std.proofs.Math.Facts.{eqb_yes}
 use Rattle.std.proofs.lemmas.List.Elements.{Contains-append_left, Contains-append_right}
 use Rattle.std.proofs.lemmas.Grind.{flat_map-append}
+use Rattle.std.proofs.lemmas.List.Sums.{sum_by-cons, sum_by-append}
 use Rattle.std.proofs.lemmas.Slice.{between_is, between_to_end}
 use Rattle.std.specs.Ordering.{nat_cmp}
 use Rattle.std.specs.declared.cmp.Ordering.TheVariants.{Less, Equal, Greater}
@@ -109,6 +110,7 @@ pub AddsFields-push : (words : List Words) (old new : Values) (field : FieldValu
     h.field ≡ field.field → h.span.start ≡ length old.stored.items → h.span.end ≡ length new.stored.items → new.fields.items ≡ old.fields.items ++ h ∷ [] →
     AddsFields words old new (field ∷ [])
 AddsFields-push words old new field h within adds is_field is_start is_end pushed = record {
+  counted = omega (arith, ap length adds.new_is, length-append old.stored.items adds.added, ap length adds.shown_is, length-map adds.added (shown (slice_index_or words field.field [])), sum_by-cons (λ (f : FieldValues). length f.values) field [], is_end);
   fields_are =
       let xs = old.stored.items in
       let whole : cut new.stored.items h.span ≡ adds.added =
@@ -127,11 +129,12 @@ AddsFields-push words old new field h within adds is_field is_start is_end pushe
 }
 
 pub AddsFields-none : (words : List Words) (old : Values) → WithinReach (length old.stored.items) old.fields.items → AddsFields words old old []
-AddsFields-none words old within = record { fields_are = sym (append-nil (fields_of words old)); within = within }
+AddsFields-none words old within = record { fields_are = sym (append-nil (fields_of words old)); counted = omega arith; within = within }
 
 pub AddsFields-join : (words : List Words) (old now new : Values) (xs ys : List FieldValues) → AddsFields words old now xs → AddsFields words now new ys → AddsFields words old new (xs ++ ys)
 AddsFields-join words old now new xs ys p q = record {
   fields_are = q.fields_are ∙ (ap (λ fs. fs ++ ys) p.fields_are ∙ append_assoc (fields_of words old) xs ys);
+  counted = omega (arith, p.counted, q.counted, sum_by-append (λ (f : FieldValues). length f.values) xs ys);
   within = q.within;
 }
 
@@ -140,6 +143,7 @@ pub AddsRowValues-push : (words : List Words) (old new : Values) (fields : List 
     AddsFields words old new fields → s.start ≡ length old.fields.items → s.end ≡ length new.fields.items → new.rows.items ≡ old.rows.items ++ s ∷ [] →
     AddsRowValues words old new fields
 AddsRowValues-push words old new fields s within adds is_start is_end pushed = record {
+  counted = adds.counted;
   rows_are =
       let before : length (fields_of words old) ≡ length old.fields.items = length-map old.fields.items (field_at words old.stored.items) in
       let after : length (fields_of words new) ≡ length new.fields.items = length-map new.fields.items (field_at words new.stored.items) in
@@ -252,14 +256,3 @@ length-cut xs s part = omega (arith, length-take (s.end - s.start) (drop s.start
 
 pub get_or-cut : {X : Type 0} (xs : List X) (s : Span) (k : ℕ) (d : X) → k < s.end - s.start → get_or (cut xs s) k d ≡ get_or xs (s.start + k) d
 get_or-cut xs s k d below = get_or-take (s.end - s.start) (drop s.start xs) k d below ∙ get_or-drop s.start xs k d
-
-find-other : (field : ℕ) (h : Held) (rest : Option Held) (b : Bool) → eqb h.field field ≡ b → (h.field ≡ field → ⊥) → cond b (Some h) rest ≡ rest
-find-other field h rest true e other = absurd (other (eqb_yes (subst T (sym e) tt)))
-find-other field h rest false e other = refl
-
--- a search goes past what it does not look for
-pub find-skip : (hs : List Held) (field n : ℕ) (d : Held) → n < length hs → ((get_or hs n d).field ≡ field → ⊥) →
-    find (λ (h : Held). eqb h.field field) hs ≡ find (λ (h : Held). eqb h.field field) (drop n hs) → find (λ (h : Held). eqb h.field field) hs ≡ find (λ (h : Held). eqb h.field field) (drop (n + 1) hs)
-find-skip hs field n d below other before =
-    before ∙ (at_drop_more (find (λ (h : Held). eqb h.field field)) hs n d below
-    ∙ find-other field (get_or hs n d) (find (λ (h : Held). eqb h.field field) (drop (n + 1) hs)) (eqb (get_or hs n d).field field) refl other)

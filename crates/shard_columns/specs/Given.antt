@@ -1,22 +1,41 @@
 -- Documents such as a mapping gives, and what a shard that is built from them shows.
-use Rattle.std.specs.Prelude.{ℕ, ◌^◌, ◌<◌, List, [], ◌∷◌, map, length}
+use Rattle.std.specs.Prelude.{◌≡◌, ℕ, ◌^◌, ◌<◌, ◌≤◌, List, [], ◌∷◌, map, length, slice_get, Some, IsTrue}
+use Rattle.std.specs.List.Sorted.{IsStrictlyIncreasing}
+use Rattle.agg_model.specs.declared.mapping.FieldKind.{FieldKind}
 use Rattle.agg_model.specs.declared.mapping.Mapping.{Mapping}
 use Rattle.agg_model.specs.declared.row.Document.{Document}
 use Rattle.agg_evaluation.specs.Rows.{PlacedRow}
 use Rattle.shard_columns.specs.Columns.{Columns}
-use Rattle.shard_columns.specs.Layout.{rows_of_documents, ContextsFit, FewValues}
+use Rattle.shard_columns.specs.Layout.{rows_of_documents, row_of}
 use Rattle.shard_columns.specs.Values.{FieldsBelow}
+use Rattle.shard_columns.specs.Kinds.{AreOfKind}
+use Rattle.shard_columns.specs.Rising.{documents_rise}
+use Rattle.shard_columns.specs.Weight.{rows_weight}
 
 -- the fields of each row are fields of the mapping, of which there are n
 unfoldable pub RowsBelow : ℕ → List PlacedRow → Type 0
 RowsBelow n [] = Unit {0}
 RowsBelow n (r ∷ rs) = FieldsBelow n r.values × RowsBelow n rs
 
+-- the fields of each row ascend
+abbrev pub FieldsRise : List PlacedRow → Type 0
+FieldsRise rows = (n : ℕ) → IsStrictlyIncreasing (map (λ v. v.field) (row_of rows n).values)
+
+-- the values of each field are of its kind
+abbrev pub KindsHold : List FieldKind → List PlacedRow → Type 0
+KindsHold kinds rows = (field : ℕ) (kind : FieldKind) → slice_get kinds field ≡ Some kind → AreOfKind kind field rows
+
+-- The reader of documents gives such, with a mapping of an index line and a store that it accepts: at most 1,000 fields and
+-- nested paths, and a weight below 2 ^ 32.
 pub record IsGiven (mapping : Mapping) (documents : List Document) : Type 0 where
   pub fields : RowsBelow (length mapping.fields) (rows_of_documents documents)
-  pub contexts : ContextsFit (rows_of_documents documents)
-  pub few_values : FewValues (rows_of_documents documents)
-  pub few : length (rows_of_documents documents) < 2 ^ 32
+  pub rising : FieldsRise (rows_of_documents documents)
+  pub kinds : KindsHold (map (λ f. f.kind) mapping.fields) (rows_of_documents documents)
+  pub contexts : (n : ℕ) → (row_of (rows_of_documents documents) n).context ≤ length mapping.nested
+  pub paths : IsTrue (documents_rise documents)
+  pub few_fields : length mapping.fields ≤ 1000
+  pub few_paths : length mapping.nested ≤ 1000
+  pub light : rows_weight (rows_of_documents documents) < 2 ^ 32
 
 abbrev pub columns_from : Mapping → List Document → Columns
 columns_from mapping documents = record {

@@ -1,11 +1,11 @@
 -- The rows that a list of entries stands for: an entry tells a row's document and its place beneath an earlier row.
-use Rattle.std.specs.Prelude.{◌≡◌, ℕ, ◌+◌, ◌<◌, ◌^◌, ◌==◌, if◌then◌else◌, List, [], ◌∷◌, ◌++◌, map, length, slice_index_or}
+use Rattle.std.specs.Prelude.{◌≡◌, ℕ, ◌+◌, ◌==◌, if◌then◌else◌, List, [], ◌∷◌, ◌++◌, map, length, slice_index_or}
 use Rattle.agg_model.specs.declared.row.FieldValues.{FieldValues}
 use Rattle.agg_model.specs.declared.row.Row.{Row}
 use Rattle.agg_model.specs.declared.row.Children.{Children}
 use Rattle.agg_model.specs.declared.row.Document.{Document}
 use Rattle.agg_evaluation.specs.Folds.{fold_children}
-use Rattle.agg_evaluation.specs.Rows.{PlacedRow, Walk, walk_children, walk_row, rows_of, shard_rows, values_of}
+use Rattle.agg_evaluation.specs.Rows.{PlacedRow, Walk, walk_children, walk_row, rows_of, shard_rows}
 use Rattle.shard_columns.specs.declared.layout.Origin.{Origin}
 use Rattle.shard_columns.specs.declared.layout.Origin.TheVariants.{Root, Nested}
 use Rattle.shard_columns.specs.declared.layout.Entry.{Entry}
@@ -59,17 +59,11 @@ values_of_laid rows = map (λ l. l.values.now) rows
 abbrev pub entries_of_laid : List Laid → List Entry
 entries_of_laid rows = map (λ l. l.entry) rows
 
--- the numbers of the roots among entries that are numbered from n
-unfoldable pub root_numbers : ℕ → List Entry → List ℕ
-root_numbers n [] = []
-root_numbers n (e ∷ es) = if context_of e.origin == 0 then n ∷ root_numbers (n + 1) es else root_numbers (n + 1) es
+-- the numbers of the rows of a context among entries that are numbered from n
+unfoldable pub numbers_at : ℕ → ℕ → List Entry → List ℕ
+numbers_at context n [] = []
+numbers_at context n (e ∷ es) = if context_of e.origin == context then n ∷ numbers_at context (n + 1) es else numbers_at context (n + 1) es
 
 -- the row of this number
 abbrev pub row_of : List PlacedRow → ℕ → PlacedRow
 row_of rows n = slice_index_or rows n no_row
-
-abbrev pub ContextsFit : List PlacedRow → Type 0
-ContextsFit rows = (n : ℕ) → (row_of rows n).context < 2 ^ 32
-
-abbrev pub FewValues : List PlacedRow → Type 0
-FewValues rows = (n f : ℕ) → length (values_of f (row_of rows n)) < 2 ^ 32

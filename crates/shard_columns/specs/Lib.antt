@@ -10,3 +10,7 @@ pub mod Index
 pub mod Dictionary
 pub mod Kinds
 pub mod Beneath
+pub mod Rising
+pub mod Weight
+pub mod Example
+pub mod Contexts

@@ -1,11 +1,15 @@
 -- What the fields of a shard stand for, and what is always so of them.
-use Rattle.std.specs.Prelude.{◌≡◌, ◌^◌, ◌<◌, List, [], length}
+use Rattle.std.specs.Prelude.{◌≡◌, ℕ, ◌+◌, ◌^◌, ◌<◌, ◌≤◌, ◌%◌, List, [], length, map, sum, slice_index_or}
 use Rattle.std.specs.List.{zip}
 use Rattle.agg_evaluation.specs.Rows.{PlacedRow}
 use Rattle.shard_columns.specs.declared.shard.Shard.TheInside.{Inside}
 use Rattle.shard_columns.specs.Columns.{Columns}
-use Rattle.shard_columns.specs.Layout.{placed, root_numbers, ContextsFit, FewValues}
+use Rattle.shard_columns.specs.Contexts.{AreNumbered, AreEnclosed}
+use Rattle.shard_columns.specs.Dictionary.{words_of, value_count}
+use Rattle.shard_columns.specs.Given.{FieldsRise, KindsHold}
+use Rattle.shard_columns.specs.Layout.{placed, row_of}
 use Rattle.shard_columns.specs.Values.{row_values, IsWithin}
+use Rattle.shard_columns.specs.Weight.{rows_weight}
 
 abbrev pub placed_rows : Inside → List PlacedRow
 placed_rows s = placed s.ids.items [] (zip s.rows.items (row_values s.words.items s.values))
@@ -16,7 +20,15 @@ columns_of s = record { kinds = s.kinds.items; contexts = s.contexts.items; pare
 pub record IsSound (s : Inside) : Type 0 where
   pub aligned : length (row_values s.words.items s.values) ≡ length s.rows.items
   pub within : IsWithin s.values
-  pub roots : s.roots.items ≡ root_numbers 0 s.rows.items
-  pub contexts : ContextsFit (placed_rows s)
-  pub few_values : FewValues (placed_rows s)
-  pub few : length s.rows.items < 2 ^ 32
+  pub numbered : AreNumbered (length s.parents.items + 1) s.rows.items s.numbers.items
+  pub few_paths : length s.parents.items ≤ 1000
+  pub contexts : (n : ℕ) → (row_of (placed_rows s) n).context ≤ length s.parents.items
+  pub enclosed : AreEnclosed (placed_rows s) s.ends.items
+  pub odd : (n : ℕ) → n < length (placed_rows s) → length (row_of (placed_rows s) n).place % 2 ≡ 1
+  pub dictionaries : (field : ℕ) → slice_index_or s.words.items field [] ≡ words_of field (placed_rows s)
+  pub sizes : length s.words.items ≡ length s.kinds.items
+  pub few_fields : length s.kinds.items ≤ 1000
+  pub rising : FieldsRise (placed_rows s)
+  pub kinds : KindsHold s.kinds.items (placed_rows s)
+  pub counted : length s.values.stored.items ≡ sum (map value_count (placed_rows s))
+  pub light : rows_weight (placed_rows s) < 2 ^ 32

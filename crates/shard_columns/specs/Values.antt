@@ -1,6 +1,8 @@
 -- What flat arrays of values stand for: the values of each row, by field.
-use Rattle.std.specs.Prelude.{◌≡◌, ℕ, ◌<◌, ◌≤◌, List, [], ◌∷◌, ◌++◌, map, length, slice_index_or, slice_range, Contains, IsSorted, find, Option, flat_map, if◌then◌else◌, ◌==◌}
+use Rattle.std.specs.Prelude.{◌≡◌, ℕ, pos, ◌+◌, ◌<◌, ◌≤◌, List, [], ◌∷◌, ◌++◌, map, length, slice_index_or, slice_range, Contains, IsSorted, find, Option, flat_map, if◌then◌else◌, ◌==◌, slice_get, sum_by}
+use Rattle.std.specs.Option.{option_map_or}
 use Rattle.std.specs.Ordering.{nat_cmp}
+use Rattle.std.specs.List.Sorted.{IsStrictlyIncreasing}
 use Rattle.std.specs.Cmp.Lexicographic.{slice_cmp}
 use Rattle.agg_model.specs.declared.row.Scalar.{Scalar}
 use Rattle.agg_model.specs.declared.row.Scalar.TheVariants as scalar
@@ -15,9 +17,10 @@ use Rattle.shard_columns.specs.declared.values.Values.{Values}
 abbrev pub Words : Type 0
 Words = List (List ℕ)
 
+-- a place behind the words, which no value has, stands for 0
 abbrev pub shown : Words → Stored → Scalar
 shown words (stored.Whole n) = scalar.Whole n
-shown words (stored.Word place) = scalar.Word (slice_index_or words place [])
+shown words (stored.Word place) = option_map_or scalar.Word (slice_get words place) (scalar.Whole (pos 0))
 shown words (stored.Flag b) = scalar.Flag b
 
 abbrev pub cut : {X : Type 0} → List X → Span → List X
@@ -93,12 +96,18 @@ pub record AddsValues (words : Words) (old new : List Stored) (values : List Sca
   pub new_is : new ≡ old ++ added
   pub shown_is : map (shown words) added ≡ values
 
+-- how many values these fields have, all together
+abbrev pub total_count : List FieldValues → ℕ
+total_count fields = sum_by (λ f. length f.values) fields
+
 pub record AddsFields (words : List Words) (old new : Values) (fields : List FieldValues) : Type 0 where
   pub fields_are : fields_of words new ≡ fields_of words old ++ fields
+  pub counted : length new.stored.items ≡ length old.stored.items + total_count fields
   pub within : WithinReach (length new.stored.items) new.fields.items
 
 pub record AddsRowValues (words : List Words) (old new : Values) (fields : List FieldValues) : Type 0 where
   pub rows_are : row_values words new ≡ row_values words old ++ fields ∷ []
+  pub counted : length new.stored.items ≡ length old.stored.items + total_count fields
   pub within : IsWithin new
 
 abbrev pub no_span : Span
@@ -107,3 +116,7 @@ no_span = record { start = 0; end = 0 }
 -- where the values of a field in a row are
 abbrev pub held_in : Values → ℕ → ℕ → Option Held
 held_in v row field = find (λ h. h.field == field) (cut v.fields.items (slice_index_or v.rows.items row no_span))
+
+-- the fields that a row has values of, ascending
+abbrev pub FieldsAscend : Values → ℕ → Type 0
+FieldsAscend v row = IsStrictlyIncreasing (map (λ h. h.field) (cut v.fields.items (slice_index_or v.rows.items row no_span)))

@@ -1,13 +1,19 @@
-ghost use Rattle.std.specs.Prelude.{◌≡◌, ◌<◌, ◌+◌, ◌^◌, ◌==◌, IfOk, length, map, [], Some, slice_get, slice_index_or};
-ghost use Rattle.shard_columns.specs.Values.{shown, row_values, IsWithin};
+ghost use Rattle.std.specs.Prelude.{◌≡◌, ◌↔◌, ◌<◌, ◌+◌, IfOk, IfSome, IfNone, IsNone, length, map, sum_by, [], Some, slice_get, slice_index_or};
+ghost use Rattle.shard_columns.specs.Values.{shown, row_values, IsWithin, total_count};
 ghost use Rattle.shard_columns.specs.Words.{AllFieldsBelow, AreDictionaries};
-ghost use Rattle.shard_columns.specs.Layout.{ids_of, values_of_laid, entries_of_laid, root_numbers as numbers_of_roots, row_of, context_of};
-ghost use Rattle.agg_evaluation.specs.Rows.{roots, values_of};
+ghost use Rattle.shard_columns.specs.Layout.{ids_of, values_of_laid, entries_of_laid, row_of};
+ghost use Rattle.agg_evaluation.specs.Rows.{roots, values_of, beneath};
+ghost use Rattle.shard_columns.specs.Dictionary.{words_of, as_values, NoRowHas, longest_word, shard_bytes};
+ghost use Rattle.shard_columns.specs.Kinds.{AreOfKind};
+ghost use Rattle.shard_columns.specs.Beneath.{IsDirectlyBeneath, IsEnclosedBy};
+ghost use Rattle.agg_model.specs.declared.mapping.FieldKind.TheVariants.{Keyword};
 ghost use Rattle.shard_columns.specs.Cell.{scalar_of};
 
+use crate::contexts::{context, numbers_by_context, numbers_of};
 use crate::layout::{Entry, Laid, Layout, Origin, lay};
-use crate::values::{Stored, Values, held_at, push_row};
-use crate::words::dictionaries;
+use crate::search::{find_word, span_between};
+use crate::values::{Span, Stored, Values, held_at, push_row};
+use crate::words::{all_bytes, dictionaries, longest_of};
 use agg_model::copying::Copying;
 use agg_model::list::List;
 use agg_model::mapping::{Field, FieldKind, Mapping, NestedPath};
@@ -27,7 +33,7 @@ pub struct Shard {
     ids: Vec<Text>,
     rows: Vec<Entry>,
     ends: Vec<usize>,
-    roots: Vec<usize>,
+    numbers: Vec<List<usize>>,
     words: Vec<List<Text>>,
     values: Values,
 }
@@ -50,6 +56,7 @@ fn store(alloc: Global, words: &[List<Text>], rows: &[Laid]) -> Result<Values, A
     requires dictionaries { AreDictionaries (length words.now) rows.now words.now }
     ensures rows { IfOk result (λ v. row_values words.now v ≡ values_of_laid rows.now) }
     ensures within { IfOk result (λ v. IsWithin v) }
+    ensures counted { IfOk result (λ v. length v.stored.items ≡ sum_by total_count (values_of_laid rows.now)) }
 {
     let mut values = Values {
         rows: Vec::new(alloc),
@@ -105,30 +112,12 @@ fn cell_of(words: &[Text], stored: Stored) -> Cell<'_>
 {
     match stored {
         Stored::Whole(n) => Cell::Whole(n),
-        Stored::Word(place) => Cell::Word(text_at(words, place)),
+        Stored::Word(place) => match words.get(place) {
+            Some(word) => Cell::Word(word.as_str().as_bytes()),
+            None => Cell::Whole(0),
+        },
         Stored::Flag(b) => Cell::Flag(b),
     }
-}
-
-fn is_root(row: &Entry) -> bool
-    ensures { result ≡ (context_of row.now.origin == 0) }
-{
-    match row.origin {
-        Origin::Root => true,
-        Origin::Nested { .. } => false,
-    }
-}
-
-fn root_numbers(alloc: Global, rows: &[Entry]) -> Result<Vec<usize>, AllocError>
-    ensures { IfOk result (λ v. v.items ≡ numbers_of_roots 0 rows.now) }
-{
-    let mut roots = Vec::new(alloc);
-    for (number, row) in rows.iter().enumerate() {
-        if is_root(row) {
-            roots.push(number)?;
-        }
-    }
-    Ok(roots)
 }
 
 fn kinds(alloc: Global, fields: &[Field]) -> Result<Vec<FieldKind>, AllocError>
@@ -167,11 +156,12 @@ impl Shard {
         let words = dictionaries(alloc, fields.len(), laid)?;
         let values = store(alloc, words.as_slice(), laid)?;
         let rows = entries(alloc, laid)?;
-        let roots = root_numbers(alloc, rows.as_slice())?;
+        let nested = mapping.nested.as_slice();
+        let numbers = numbers_by_context(alloc, nested.len() + 1, rows.as_slice())?;
         let Layout { rows: _, ends } = layout;
         let kinds = kinds(alloc, fields)?;
         let contexts = contexts(alloc, fields)?;
-        let parents = parents(alloc, mapping.nested.as_slice())?;
+        let parents = parents(alloc, nested)?;
         let ids = copied_ids(alloc, documents)?;
         Ok(Shard {
             kinds,
@@ -180,7 +170,7 @@ impl Shard {
             ids,
             rows,
             ends,
-            roots,
+            numbers,
             words,
             values,
         })
@@ -197,7 +187,7 @@ impl Shard {
     pub fn roots(&self) -> u32
         ensures { result ≡ length (roots self.now.rows) }
     {
-        self.roots.len() as u32
+        numbers_of(self.numbers.as_slice(), 0).len() as u32
     }
 
     /// The row of the document at this place.
@@ -206,7 +196,7 @@ impl Shard {
         ensures number { result < length self.now.rows }
         ensures row { slice_get (roots self.now.rows) place ≡ Some (row_of self.now.rows result) }
     {
-        self.roots[place as usize] as u32
+        numbers_of(self.numbers.as_slice(), 0)[place as usize] as u32
     }
 
     /// The context of a row: 0 at a root, i + 1 at the i-th nested path.
@@ -214,10 +204,52 @@ impl Shard {
         requires { row < length self.now.rows }
         ensures { result ≡ (row_of self.now.rows row).context }
     {
+        context(&self.rows[row as usize]) as u32
+    }
+
+    /// The kind of a field of the mapping, which each of its values has.
+    pub fn kind(&self, field: u32) -> FieldKind
+        requires { field < length self.now.kinds }
+        ensures kind { slice_get self.now.kinds field ≡ Some result }
+        ensures values { AreOfKind result field self.now.rows }
+    {
+        self.kinds[field as usize]
+    }
+
+    /// The row directly around a row; none around a root.
+    pub fn parent(&self, row: u32) -> Option<u32>
+        requires { row < length self.now.rows }
+        ensures root { IsNone result ↔ ((row_of self.now.rows row).context ≡ 0) }
+        ensures before { IfSome result (λ p. p < row) }
+        ensures beneath { IfSome result (λ p. IsDirectlyBeneath (row_of self.now.rows row) (row_of self.now.rows p)) }
+        ensures enclosed { IsEnclosedBy self.now.rows row result }
+    {
         match self.rows[row as usize].origin {
-            Origin::Root => 0,
-            Origin::Nested { path, .. } => path + 1,
+            Origin::Root => None,
+            Origin::Nested { parent, .. } => Some(parent as u32),
         }
+    }
+
+    /// The number of rows at a nested path within a row, on all levels; a row at that path counts within itself.
+    pub fn child_count(&self, row: u32, path: u32) -> u32
+        requires { row < length self.now.rows }
+        ensures { result ≡ length (beneath self.now.rows (path + 1) (row_of self.now.rows row)) }
+    {
+        let numbers = numbers_of(self.numbers.as_slice(), path as usize + 1);
+        let span = span_between(numbers, row as usize, self.ends[row as usize]);
+        (span.end - span.start) as u32
+    }
+
+    /// The row at this place among those that `child_count` counts, in their order.
+    pub fn child(&self, row: u32, path: u32, place: u32) -> u32
+        requires in_range { row < length self.now.rows }
+        requires there { place < length (beneath self.now.rows (path + 1) (row_of self.now.rows row)) }
+        ensures number { result < length self.now.rows }
+        ensures row { slice_get (beneath self.now.rows (path + 1) (row_of self.now.rows row)) place ≡ Some (row_of self.now.rows result) }
+    {
+        let numbers = numbers_of(self.numbers.as_slice(), path as usize + 1);
+        let span = span_between(numbers, row as usize, self.ends[row as usize]);
+        numbers[span.start + place as usize] as u32
     }
 
     /// The id of a row's document, in UTF-8.
@@ -253,9 +285,71 @@ impl Shard {
             None => unreachable!(),
         }
     }
+
+    /// The number of distinct words of a field, 0 for a field without words.
+    pub fn words(&self, field: u32) -> u32
+        ensures { result ≡ length (words_of field self.now.rows) }
+    {
+        words_at(self.words.as_slice(), field).len() as u32
+    }
+
+    /// The word at a place of a field's dictionary, which has the distinct words in ascending order of their bytes.
+    pub fn word(&self, field: u32, ordinal: u32) -> &[u8]
+        requires { ordinal < length (words_of field self.now.rows) }
+        ensures { slice_get (words_of field self.now.rows) ordinal ≡ Some result.now }
+    {
+        text_at(
+            words_at(self.words.as_slice(), field),
+            ordinal as usize,
+        )
+    }
+
+    /// The place of a word in a field's dictionary, by binary search; none where no row has the word.
+    pub fn find_word(&self, field: u32, word: &[u8]) -> Option<u32>
+        ensures found { IfSome result (λ o. slice_get (words_of field self.now.rows) o ≡ Some word.now) }
+        ensures absent { IfNone result (NoRowHas field word.now self.now.rows) }
+    {
+        match find_word(words_at(self.words.as_slice(), field), word) {
+            Some(ordinal) => Some(ordinal as u32),
+            None => None,
+        }
+    }
+
+    /// The place in its field's dictionary of the word that a row has at this place of its ascending words.
+    pub fn ordinal(&self, row: u32, field: u32, place: u32) -> u32
+        requires keyword { slice_get self.now.kinds field ≡ Some Keyword }
+        requires in_range { row < length self.now.rows }
+        requires there { place < length (values_of field (row_of self.now.rows row)) }
+        ensures { slice_get (as_values (words_of field self.now.rows)) result ≡ slice_get (values_of field (row_of self.now.rows row)) place }
+    {
+        match held_at(&self.values, row as usize, field) {
+            Some(held) => match self.values.stored[held.span.start + place as usize] {
+                Stored::Word(ordinal) => ordinal as u32,
+                Stored::Whole(_) => unreachable!(),
+                Stored::Flag(_) => unreachable!(),
+            },
+            None => unreachable!(),
+        }
+    }
+
+    /// The length of the longest word of a field in bytes, 0 where it has none.
+    pub fn longest(&self, field: u32) -> u64
+        ensures { result ≡ longest_word field self.now.rows }
+    {
+        longest_of(words_at(self.words.as_slice(), field)) as u64
+    }
+
+    /// What the columns weigh in bytes: eight for each value, and the bytes of the distinct words of each field
+    /// ('Circuit breaker settings' of Elasticsearch Reference 8, fielddata).
+    pub fn column_bytes(&self) -> u64
+        ensures { result ≡ shard_bytes (length self.now.kinds) self.now.rows }
+    {
+        8 * self.values.stored.len() as u64 + all_bytes(self.words.as_slice())
+    }
 }
 
 /// A value, with a word lent by the shard.
+#[derive(Clone, Copy)]
 pub enum Cell<'a> {
     Whole(i64),
     Word(&'a [u8]),

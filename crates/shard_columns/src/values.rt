@@ -1,7 +1,8 @@
 // The values of all rows in flat arrays: a row has a span of fields, and a field of a row has a span of values.
 ghost use Rattle.std.specs.Prelude.{◌≡◌, ◌++◌, ◌∷◌, ◌<◌, [], OnOk, length, slice_index_or, slice_get, Contains, Some, find, ◌==◌, IfSome};
-ghost use Rattle.shard_columns.specs.Values.{IsAscending, AllAscend, HasWords, HasAllWords, AddsValues, AddsFields, AddsRowValues, WithinReach, IsWithin, IsPart, cut, held_in};
+ghost use Rattle.shard_columns.specs.Values.{IsAscending, AllAscend, HasWords, HasAllWords, AddsValues, AddsFields, AddsRowValues, WithinReach, IsWithin, IsPart, FieldsAscend, cut, held_in};
 
+use crate::search::find_field;
 use agg_model::list::List;
 use agg_model::row::{FieldValues, Scalar};
 use agg_model::text::Text;
@@ -152,21 +153,11 @@ fn part(fields: &[Held], span: Span) -> &[Held]
     &fields[span.start..span.end]
 }
 
-fn find_field(fields: &[Held], field: u32) -> Option<Held>
-    ensures { result ≡ find (λ h. h.field == field) fields.now }
-{
-    for held in fields {
-        if held.field == field {
-            return Some(*held);
-        }
-    }
-    None
-}
-
 /// Where the values of a field in a row are, if it has any.
 pub fn held_at(values: &Values, row: usize, field: u32) -> Option<Held>
     requires in_range { row < length values.now.rows.items }
     requires within { IsWithin values.now }
+    requires ascend { FieldsAscend values.now row }
     ensures found { result ≡ held_in values.now row field }
     ensures part { IfSome result (λ h. IsPart (length values.now.stored.items) h.span) }
 {

@@ -1,5 +1,6 @@
 // The words of each field of a shard: distinct, and in ascending order.
-ghost use Rattle.std.specs.Prelude.{◌≡◌, ◌++◌, ◌∷◌, ◌<◌, [], OnOk, IfOk, length};
+ghost use Rattle.std.specs.Prelude.{◌≡◌, ◌++◌, ◌∷◌, ◌<◌, ◌≤◌, ◌*◌, ◌^◌, ℕ, [], OnOk, IfOk, length, map, sum_by, slice_index_or};
+ghost use Rattle.agg_evaluation.specs.Ceiling.{greatest_of};
 ghost use Rattle.shard_columns.specs.Values.{IsAscending, AllAmong, words_in, word_in, FieldsBelow};
 ghost use Rattle.shard_columns.specs.Words.{Notes, AllFieldsBelow, NotesRows, SameWords, AllSame, AreEmpty, AreDictionaries};
 
@@ -111,4 +112,40 @@ pub fn dictionaries(
     note_rows(alloc, &mut words, rows)?;
     let distinct = sort_all(alloc, words)?;
     Ok(distinct)
+}
+
+/// The length of the longest of these words in bytes, 0 where there is none.
+pub fn longest_of(words: &[Text]) -> usize
+    ensures { result ≡ greatest_of (map length words.now) }
+{
+    let mut longest = 0;
+    for word in words {
+        longest = longest.max(word.len());
+    }
+    longest
+}
+
+fn bytes_of(words: &[Text]) -> u64
+    requires { sum_by length words.now < 2 ^ 32 }
+    ensures { result ≡ sum_by length words.now }
+{
+    let mut bytes = 0;
+    for word in words {
+        bytes += word.len() as u64;
+    }
+    bytes
+}
+
+/// The bytes of the words of all fields.
+pub fn all_bytes(words: &[List<Text>]) -> u64
+    requires few { length words.now ≤ 1000 }
+    requires light { (f : ℕ) → sum_by length (slice_index_or words.now f []) < 2 ^ 32 }
+    ensures sum { result ≡ sum_by (λ ws. sum_by length ws) words.now }
+    ensures bound { result ≤ 1000 * 2 ^ 32 }
+{
+    let mut bytes = 0;
+    for list in words {
+        bytes += bytes_of(list.as_slice());
+    }
+    bytes
 }

@@ -1,15 +1,25 @@
-use Rattle.std.proofs.Common.{◌≡◌, ◌<◌, ◌^◌, [], List, ℕ, map, length, sym, ◌∙◌, ap, subst}
+use Rattle.std.proofs.Common.{◌≡◌, ◌<◌, ◌≤◌, ◌+◌, ◌^◌, T, [], List, ℕ, map, length, sym, ◌∙◌, ap, subst, arith}
+use Rattle.std.specs.Prelude.{◌%◌, sum, sum_by}
 use Rattle.std.specs.List.{zip}
 use Rattle.std.proofs.lemmas.List.{length-map}
 use Rattle.agg_model.specs.declared.mapping.FieldKind.{FieldKind}
+use Rattle.agg_model.specs.declared.mapping.Field.{Field}
+use Rattle.agg_model.specs.declared.mapping.NestedPath.{NestedPath}
 use Rattle.agg_evaluation.specs.Rows.{PlacedRow}
+use Rattle.shard_columns.specs.declared.layout.Entry.{Entry}
 use Rattle.shard_columns.specs.declared.layout.Laid.{Laid}
 use Rattle.shard_columns.specs.Columns.{Columns}
-use Rattle.shard_columns.specs.Layout.{ids_of, rows_of_documents, placed, entries_of_laid, values_of_laid, root_numbers, ContextsFit, FewValues}
+use Rattle.shard_columns.specs.Layout.{ids_of, rows_of_documents, placed, entries_of_laid, values_of_laid, row_of}
 use Rattle.shard_columns.specs.Words.{AllFieldsBelow, AreDictionaries}
-use Rattle.shard_columns.specs.Values.{Words, row_values}
-use Rattle.shard_columns.specs.Given.{RowsBelow}
-use Rattle.shard_columns.proofs.Building.{AllFieldsBelow-given, rows-stored, sizes-stored}
+use Rattle.shard_columns.specs.Values.{Words, row_values, total_count}
+use Rattle.shard_columns.specs.Given.{RowsBelow, FieldsRise, KindsHold}
+use Rattle.shard_columns.specs.Contexts.{ContextsBelow, AreNumbered, AreEnclosed}
+use Rattle.shard_columns.specs.Dictionary.{words_of, value_count}
+use Rattle.shard_columns.specs.Ends.{each, root_ends}
+use Rattle.shard_columns.specs.Weight.{rows_weight}
+use Rattle.shard_columns.proofs.Building.{AllFieldsBelow-given, rows-stored, total-values}
+use Rattle.shard_columns.proofs.Enclosing.{all-rows-laid}
+use Rattle.shard_columns.proofs.Making.{values-laid, contexts-below, AreEnclosed-laid, dictionaries-are}
 use Rattle.shard_columns.proofs.shard.Shard.build.Goals as goal
 
 pub dictionaries-requires : goal.dictionaries-requires
@@ -30,23 +40,61 @@ store-requires c =
           (subst (λ (n : ℕ). AreDictionaries n c.as_slice-laid.result.now c.in_ok-words.words.items) (sym size) c.in_ok-words.ensures);
     }
 
+pub numbers_by_context-requires : goal.numbers_by_context-requires
+numbers_by_context-requires c =
+    let entries_are = c.in_ok-rows.ensures ∙ ap entries_of_laid c.as_slice-laid.ensures.value in
+    let nested_size = ap length c.as_slice-nested.ensures in
+    subst (ContextsBelow (length c.as_slice-nested.result.now + 1)) (sym c.as_slice-2.ensures.value)
+    (contexts-below (ids_of c.args.documents.now) c.in_ok-layout.layout.rows.items c.in_ok-rows.rows.items (rows_of_documents c.args.documents.now) (length c.as_slice-nested.result.now + 1) entries_are c.in_ok-layout.ensures.rows
+    (λ n. omega (arith, c.requires.contexts n, nested_size)))
+
 pub invariant_of-result : goal.invariant_of-result
 invariant_of-result c =
     let entries_are = c.in_ok-rows.ensures ∙ ap entries_of_laid c.as_slice-laid.ensures.value in
     let values_are = ap (λ (ws : List Words). row_values ws c.in_ok-values.values) (sym c.as_slice.ensures.value) ∙ (c.in_ok-values.ensures.rows ∙ ap values_of_laid c.as_slice-laid.ensures.value) in
-    let sizes = sizes-stored (ids_of c.args.documents.now) c.in_ok-layout.layout.rows.items c.in_ok-rows.rows.items (rows_of_documents c.args.documents.now) entries_are c.in_ok-layout.ensures.rows in
     let entries = c.in_ok-rows.rows.items in
     let values = row_values c.in_ok-words.words.items c.in_ok-values.values in
     let rows_are : placed c.in_ok-ids.ids.items [] (zip entries values) ≡ rows_of_documents c.args.documents.now =
     ap (λ (ids : List (List ℕ)). placed ids [] (zip entries values)) c.in_ok-ids.ensures
     ∙ (rows-stored (ids_of c.args.documents.now) c.in_ok-layout.layout.rows.items entries values entries_are values_are ∙ c.in_ok-layout.ensures.rows) in
+    let documents = c.args.documents.now in
+    let given = c.requires in
+    let all : List PlacedRow = rows_of_documents documents in
+    let fields_are = c.as_slice-fields.ensures in
+    let nested_are = c.as_slice-nested.ensures in
+    let kinds_are : c.in_ok-kinds.kinds.items ≡ map (λ f. f.kind) c.args.mapping.now.fields = c.in_ok-kinds.ensures ∙ ap (map (λ (f : Field). f.kind)) fields_are in
+    let parents_are : c.in_ok-parents.parents.items ≡ map (λ p. p.parent) c.args.mapping.now.nested = c.in_ok-parents.ensures ∙ ap (map (λ (p : NestedPath). p.parent)) nested_are in
+    let parents_size : length c.in_ok-parents.parents.items ≡ length c.args.mapping.now.nested = ap length parents_are ∙ length-map c.args.mapping.now.nested (λ (p : NestedPath). p.parent) in
+    let kinds_size : length c.in_ok-kinds.kinds.items ≡ length c.args.mapping.now.fields = ap length kinds_are ∙ length-map c.args.mapping.now.fields (λ (f : Field). f.kind) in
+    let fields_size = ap length fields_are in
+    let nested_size = ap length nested_are in
+    let ids = ids_of documents in
+    let laid = c.in_ok-layout.layout.rows.items in
+    let below : AllFieldsBelow (length c.as_slice-fields.result.now) laid =
+    AllFieldsBelow-given (length c.as_slice-fields.result.now) ids laid all c.in_ok-layout.ensures.rows (subst (λ (n : ℕ). RowsBelow n all) (sym fields_size) given.fields) in
+    let dictionaries : AreDictionaries (length c.as_slice-fields.result.now) laid c.in_ok-words.words.items =
+    subst (λ (ls : List Laid). AreDictionaries (length c.as_slice-fields.result.now) ls c.in_ok-words.words.items) c.as_slice-laid.ensures.value c.in_ok-words.ensures in
+    let rows_laid = all-rows-laid documents (subst T (sym given.paths) tt) in
+    let enclosed : AreEnclosed all c.in_ok-layout.layout.ends.items =
+    subst (AreEnclosed all) (sym c.in_ok-layout.ensures.ends) (AreEnclosed-laid [] (λ q. 0 ≤ q) all (each (map root_ends documents) 0) rows_laid) in
+    let kinds_hold : KindsHold c.in_ok-kinds.kinds.items all = subst (λ (ks : List FieldKind). KindsHold ks all) (sym kinds_are) given.kinds in
     record {
-      aligned = ap length values_are ∙ (length-map c.in_ok-layout.layout.rows.items (λ (l : Laid). l.values.now) ∙ (sym (length-map c.in_ok-layout.layout.rows.items (λ (l : Laid). l.entry)) ∙ sym (ap length entries_are)));
-      few = subst (λ (n : ℕ). n < 2 ^ 32) (sym sizes) c.requires.few;
+      aligned = ap length values_are ∙ (length-map laid (λ (l : Laid). l.values.now) ∙ (sym (length-map laid (λ (l : Laid). l.entry)) ∙ sym (ap length entries_are)));
       within = c.in_ok-values.ensures.within;
-      roots = c.in_ok-roots.ensures ∙ ap (root_numbers 0) c.as_slice-2.ensures.value;
-      few_values = subst FewValues (sym rows_are) c.requires.few_values;
-      contexts = subst ContextsFit (sym rows_are) c.requires.contexts;
+      numbered = subst (λ (n : ℕ). AreNumbered n entries c.in_ok-numbers.numbers.items) (let e : length c.as_slice-nested.result.now + 1 ≡ length c.in_ok-parents.parents.items + 1 = omega (arith, nested_size, parents_size) in e)
+          (subst (λ (es : List Entry). AreNumbered (length c.as_slice-nested.result.now + 1) es c.in_ok-numbers.numbers.items) c.as_slice-2.ensures.value c.in_ok-numbers.ensures);
+      few_paths = omega (arith, parents_size, given.few_paths);
+      contexts = λ n. omega (arith, ap (λ (rs : List PlacedRow). (row_of rs n).context) rows_are, given.contexts n, parents_size);
+      enclosed = subst (λ (rs : List PlacedRow). AreEnclosed rs c.in_ok-layout.layout.ends.items) (sym rows_are) enclosed;
+      odd = subst (λ (rs : List PlacedRow). (n : ℕ) → n < length rs → length (row_of rs n).place % 2 ≡ 1) (sym rows_are) rows_laid.odd;
+      dictionaries = λ f. dictionaries-are (length c.as_slice-fields.result.now) ids laid all c.in_ok-words.words.items c.in_ok-layout.ensures.rows given.rising below dictionaries f ∙ ap (words_of f) (sym rows_are);
+      sizes = c.in_ok-words.ensures.sizes ∙ (fields_size ∙ sym kinds_size);
+      few_fields = omega (arith, kinds_size, given.few_fields);
+      rising = subst FieldsRise (sym rows_are) given.rising;
+      kinds = subst (KindsHold c.in_ok-kinds.kinds.items) (sym rows_are) kinds_hold;
+      counted = c.in_ok-values.ensures.counted ∙ (ap (λ (ls : List Laid). sum_by total_count (values_of_laid ls)) c.as_slice-laid.ensures.value
+          ∙ (ap (sum_by total_count) (sym (values-laid ids laid all c.in_ok-layout.ensures.rows)) ∙ (total-values all ∙ ap (λ (rs : List PlacedRow). sum (map value_count rs)) (sym rows_are))));
+      light = subst (λ (rs : List PlacedRow). rows_weight rs < 2 ^ 32) (sym rows_are) given.light;
     }
 
 pub returns : goal.returns
@@ -60,7 +108,7 @@ returns c =
     ∙ (rows-stored (ids_of c.args.documents.now) c.in_ok-layout.layout.rows.items entries values entries_are values_are ∙ c.in_ok-layout.ensures.rows) in
     let kinds_are = c.in_ok-kinds.ensures ∙ ap (map (λ (f : _). f.kind)) c.as_slice-fields.ensures in
     let contexts_are = c.in_ok-contexts.ensures ∙ ap (map (λ (f : _). f.context)) c.as_slice-fields.ensures in
-    let parents_are = c.in_ok-parents.ensures ∙ ap (map (λ (p : _). p.parent)) c.as_slice-3.ensures in
+    let parents_are = c.in_ok-parents.ensures ∙ ap (map (λ (p : _). p.parent)) c.as_slice-nested.ensures in
     let make : List FieldKind → List ℕ → List ℕ → List PlacedRow → Columns = λ k x p r. record { kinds = k; contexts = x; parents = p; rows = r } in
     let old = placed c.in_ok-ids.ids.items [] (zip entries values) in
     ap (λ (k : List FieldKind). make k c.in_ok-contexts.contexts.items c.in_ok-parents.parents.items old) kinds_are

@@ -1,11 +1,11 @@
 use Rattle.std.proofs.Common.{[], List, get_or, sym, ◌∙◌, ap, arith}
 use Rattle.shard_columns.specs.Values.{Words, shown}
 use Rattle.shard_columns.specs.Cell.{scalar_of}
-use Rattle.shard_columns.proofs.Reading.{row-in, count-some, count-none, value-at}
+use Rattle.shard_columns.proofs.Reading.{row-in, fields-ascend, count-some, count-none, value-at}
 use Rattle.shard_columns.proofs.shard.Shard.value.Goals as goal
 
 pub held_at-requires : goal.held_at-requires
-held_at-requires c = record { in_range = row-in c.self.inside c.args.self.now c.self.view_is c.self.invariant c.args.row c.requires.in_range; within = c.self.invariant.within }
+held_at-requires c = record { in_range = row-in c.self.inside c.args.self.now c.self.view_is c.self.invariant c.args.row c.requires.in_range; within = c.self.invariant.within; ascend = fields-ascend c.self.inside c.args.self.now c.self.view_is c.self.invariant c.args.row c.requires.in_range }
 
 pub overflow_add-held : goal.overflow_add-held
 overflow_add-held c = omega (arith, count-some c.self.inside c.args.self.now c.self.view_is c.self.invariant c.args.row c.args.field c.in-Some.held c.requires.in_range (sym c.in-Some.ensures.found) c.in-Some.ensures.part, c.requires.there, c.in-Some.ensures.part.0, c.in-Some.ensures.part.1, c.self.inside.values.stored.ok.0, c.self.inside.values.stored.ok.1, c.self.inside.values.stored.small)

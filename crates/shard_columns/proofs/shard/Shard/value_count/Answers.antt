@@ -1,9 +1,9 @@
 use Rattle.std.proofs.Common.{sym, arith}
-use Rattle.shard_columns.proofs.Reading.{row-in, values-few, count-some, count-none}
+use Rattle.shard_columns.proofs.Reading.{row-in, fields-ascend, values-few, count-some, count-none}
 use Rattle.shard_columns.proofs.shard.Shard.value_count.Goals as goal
 
 pub held_at-requires : goal.held_at-requires
-held_at-requires c = record { in_range = row-in c.self.inside c.args.self.now c.self.view_is c.self.invariant c.args.row c.requires; within = c.self.invariant.within }
+held_at-requires c = record { in_range = row-in c.self.inside c.args.self.now c.self.view_is c.self.invariant c.args.row c.requires; within = c.self.invariant.within; ascend = fields-ascend c.self.inside c.args.self.now c.self.view_is c.self.invariant c.args.row c.requires }
 
 pub overflow_sub-result : goal.overflow_sub-result
 overflow_sub-result c = c.in-Some.ensures.part.0

@@ -1,0 +1,8 @@
+use Rattle.std.proofs.Common.{length, take, sym, ◌∙◌, ap, arith}
+use Rattle.std.specs.Prelude.{sum_by}
+use Rattle.std.proofs.lemmas.List.Sums.{sum_by_more, sum_by_more_le}
+use Rattle.shard_columns.proofs.words.bytes_of.Goals as goal
+
+pub overflow_add-bytes : goal.overflow_add-bytes
+overflow_add-bytes c =
+    omega (arith, sum_by_more_le length c.args.words.now c.loop-word.word-index c.word-item.result c.loop-word-test.true, ap length c.word-item.is, c.len.ensures, c.requires, c.loop-word.invariant)

@@ -1,0 +1,55 @@
+// The numbers of the rows of each context.
+ghost use Rattle.std.specs.Prelude.{◌≡◌, IfOk, [], slice_index_or};
+ghost use Rattle.shard_columns.specs.Layout.{context_of};
+ghost use Rattle.shard_columns.specs.Contexts.{ContextsBelow, AreNumbered};
+
+use crate::layout::{Entry, Origin};
+use agg_model::list::List;
+use std::alloc::{AllocError, Global};
+
+/// The context of a row: 0 at a root, i + 1 at the i-th nested path.
+pub fn context(row: &Entry) -> usize
+    ensures { result ≡ context_of row.now.origin }
+{
+    match row.origin {
+        Origin::Root => 0,
+        Origin::Nested { path, .. } => path as usize + 1,
+    }
+}
+
+fn no_numbers(alloc: Global, count: usize) -> Result<Vec<List<usize>>, AllocError>
+    ensures { IfOk result (λ numbers. AreNumbered count [] numbers.items) }
+{
+    let mut numbers = Vec::new(alloc);
+    for _context in 0..count {
+        numbers.push(List::new(alloc))?;
+    }
+    Ok(numbers)
+}
+
+/// For each of so many contexts the numbers of its rows, ascending.
+pub fn numbers_by_context(
+    alloc: Global,
+    count: usize,
+    rows: &[Entry],
+) -> Result<Vec<List<usize>>, AllocError>
+    requires { ContextsBelow count rows.now }
+    ensures { IfOk result (λ numbers. AreNumbered count rows.now numbers.items) }
+{
+    let mut numbers = no_numbers(alloc, count)?;
+    for (number, row) in rows.iter().enumerate() {
+        numbers[context(row)].push(number)?;
+    }
+    Ok(numbers)
+}
+
+/// The numbers of the rows of a context.
+pub fn numbers_of(numbers: &[List<usize>], context: usize) -> &[usize]
+    ensures { result.now ≡ slice_index_or numbers.now context [] }
+{
+    if context < numbers.len() {
+        numbers[context].as_slice()
+    } else {
+        &[]
+    }
+}
