@@ -20,7 +20,7 @@ module _ (all : List PlacedRow) (row : PlacedRow) where
   abbrev enough : ℕ → List Query → Bool
   enough minimum should = nat_le minimum (length (filter test should))
 
-  matches-Bool : (must must_not should : List Query) (minimum : ℕ) →
+  pub matches-Bool : (must must_not should : List Query) (minimum : ℕ) →
       matches all (query.Bool must must_not should minimum) row ≡ (list_all test must && not (list_any test must_not) && enough minimum should)
   matches-Bool must must_not should minimum =
       ap (λ (f : PlacedRow → Bool). f row) (fold_query-Bool (matches_at all) must must_not should minimum)

@@ -10,3 +10,6 @@ pub mod Holding
 pub mod PreparedLevels
 pub mod PreparedCases
 pub mod Sizes
+pub mod Inserting
+pub mod Ready
+pub mod QuerySizes

@@ -1,5 +1,5 @@
 -- Tests of a list, item by item.
-use Rattle.std.proofs.Common.{◌≡◌, refl, ℕ, ◌+◌, ◌<◌, ◌≤◌, zero, suc, Bool, true, false, List, [], ◌∷◌, length, take, filter, map, Some, sym, ◌∙◌, ap, subst, arith, add-one, cond}
+use Rattle.std.proofs.Common.{◌≡◌, refl, ℕ, ◌+◌, ◌<◌, ◌≤◌, zero, suc, Bool, true, false, List, [], ◌∷◌, ◌++◌, length, take, filter, map, Some, sym, ◌∙◌, ap, subst, arith, add-one, cond}
 use Rattle.std.specs.Prelude.{◌||◌, ◌&&◌}
 use Rattle.std.specs.List.{list_any, list_all, slice_get}
 
@@ -107,3 +107,12 @@ module _ {A B : Type 0} (p : B → Bool) (f : A → B) where
   pub count_mapped : (xs : List A) → length (filter p (map f xs)) ≡ length (filter (λ x. p (f x)) xs)
   count_mapped [] = refl
   count_mapped (x ∷ xs) = counted_alike (p (f x)) (f x) x (filter p (map f xs)) (filter (λ (y : A). p (f y)) xs) (count_mapped xs)
+
+module _ {A B : Type 0} (f : A → B) where
+  map_next : (xs : List A) (n : ℕ) (x : A) → slice_get xs n ≡ Some x → map f (take (suc n) xs) ≡ map f (take n xs) ++ f x ∷ []
+  map_next [] n x is = absurd (cc is)
+  map_next (y ∷ ys) zero x is = let same : y ≡ x = cc is in ap (λ (z : A). f z ∷ []) same
+  map_next (y ∷ ys) (suc n) x is = ap (λ (bs : List B). f y ∷ bs) (map_next ys n x is)
+
+  pub map_step : (xs : List A) (n : ℕ) (x : A) → slice_get xs n ≡ Some x → map f (take (n + 1) xs) ≡ map f (take n xs) ++ f x ∷ []
+  map_step xs n x is = ap (λ (k : ℕ). map f (take k xs)) (add-one n) ∙ map_next xs n x is

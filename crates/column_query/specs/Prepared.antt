@@ -1,8 +1,10 @@
 -- What a prepared query says of a row.
-use Rattle.std.specs.Prelude.{◌≡◌, ℕ, ◌+◌, Bool, true, not, ◌&&◌, List, [], ◌∷◌, length, filter, map, nat_le, nat_lt, ℤ}
+use Rattle.std.specs.Prelude.{◌≡◌, ℕ, ◌+◌, Bool, true, not, ◌&&◌, ◌||◌, Option, Vec, List, [], ◌∷◌, length, filter, map, nat_le, nat_lt, ℤ}
 use Rattle.std.specs.List.{list_any, list_all}
 use Rattle.std.specs.Ordering.{nat_cmp, int_cmp, is_eq}
 use Rattle.std.specs.Cmp.Lexicographic.{slice_cmp}
+use Rattle.std.specs.Str.{bytes_eq}
+use Rattle.std.specs.declared.alloc.Global.{Global}
 use Rattle.agg_model.specs.declared.query.Query.{Query}
 use Rattle.agg_model.specs.declared.query.Query.TheOpen.{Query-F}
 use Rattle.agg_model.specs.declared.query.Probe.{Probe}
@@ -92,6 +94,13 @@ reads_below n = fold_prepared (reads_below_at n)
 -- the numbers stand for the probes among the values of the field
 pub record StandForAll (rows : List PlacedRow) (field : ℕ) (probes : List Probe) (numbers : List ℤ) : Type 0 where
   pub same : (v : Scalar) → IsHeld rows field v → is_among numbers (number_of (words_of field rows) v) ≡ list_any (λ probe. key_eq (scalar_key v) (probe_key probe)) probes
+
+-- the number, if there is one, is put among the others
+pub record AddsNumber (old : List ℤ) (number : Option ℤ) (new : List ℤ) : Type 0 where
+  pub same : (x : ℤ) → is_among new x ≡ (is_number number x || is_among old x)
+
+pub record HasIds (values : List (List ℕ)) (ids : List (Vec ℕ Global)) : Type 0 where
+  pub same : (id : List ℕ) → list_any (λ one. is_eq (slice_cmp nat_cmp id one.items)) ids ≡ list_any (bytes_eq id) values
 
 pub record BoundAsAll (rows : List PlacedRow) (field : ℕ) (tests : List RangeTest) (bounds : List Bound) : Type 0 where
   pub same : (v : Scalar) → IsHeld rows field v → within_all bounds (number_of (words_of field rows) v) ≡ list_all (λ test. passes test v) tests

@@ -3,7 +3,9 @@
 
 mod bounds;
 mod content;
+pub mod matched;
 pub mod matching;
 mod numbers;
 pub mod prepared;
+pub mod preparing;
 mod values;
