@@ -18,7 +18,7 @@ use Rattle.agg_model.specs.declared.query.Probe.{Probe}
 use Rattle.agg_model.specs.declared.query.RangeTest.{RangeTest}
 use Rattle.agg_evaluation.specs.KeyOrder.{key_eq, scalar_key, probe_key}
 use Rattle.agg_evaluation.specs.Matching.{matches, matches_at, passes}
-use Rattle.agg_evaluation.specs.Rows.{PlacedRow, values_of, beneath}
+use Rattle.agg_evaluation.specs.Rows.{PlacedRow, values_of, beneath, roots}
 use Rattle.shard_columns.specs.Columns.{Columns}
 use Rattle.shard_columns.specs.Dictionary.{words_of}
 use Rattle.shard_columns.specs.Layout.{row_of, no_row}
@@ -190,6 +190,13 @@ module _ (shard : Columns) where
         ∙ (any_same (says rows p) (matches rows inner) (beneath rows (path + 1) (row_of rows n)) (λ r r_in. same-row inner p ready r (In-filter _ rows r r_in))
         ∙ sym (by_query.by_beneath rows (row_of rows n) q path inner is));
   }
+
+  map_same : {A B : Type 0} (f g : A → B) (xs : List A) → ((x : A) → In x xs → f x ≡ g x) → map f xs ≡ map g xs
+  map_same f g [] same = refl
+  map_same f g (x ∷ xs) same = λ i. same x (inl refl) i ∷ map_same f g xs (λ y is. same y (inr is)) i
+
+  pub said-roots : (q : Query) (p : Prepared) → IsReady shard q p → map (says rows p) (roots rows) ≡ map (matches rows q) (roots rows)
+  said-roots q p ready = map_same (says rows p) (matches rows q) (roots rows) (λ r is. same-row q p ready r (In-filter _ rows r is))
 
   pub ready-none : AreReady shard [] []
   ready-none = record { fields = refl; same = λ n. refl }
