@@ -1,14 +1,14 @@
 -- What each kind of query matches, as code tests it.
-use Rattle.std.proofs.Common.{◌≡◌, refl, ℕ, ◌+◌, Bool, true, false, not, List, [], ◌∷◌, length, map, filter, sym, ◌∙◌, ap, ltb, suc, arith}
+use Rattle.std.proofs.Common.{◌≡◌, refl, ℕ, ◌+◌, Bool, true, false, not, List, [], ◌∷◌, length, filter, sym, ◌∙◌, ap, ltb, suc, arith}
 use Rattle.std.proofs.lemmas.Bool.{lt-ltb}
-use Rattle.std.specs.Prelude.{◌||◌, ◌&&◌, nat_le}
+use Rattle.std.specs.Prelude.{◌&&◌, nat_le}
 use Rattle.std.specs.List.{list_any, list_all}
 use Rattle.agg_model.specs.declared.query.Query.{Query}
 use Rattle.agg_model.specs.declared.query.Query.TheVariants as query
 use Rattle.agg_model.specs.declared.query.Probe.{Probe}
 use Rattle.agg_model.specs.declared.row.Scalar.{Scalar}
-use Rattle.agg_evaluation.specs.KeyOrder.{key_eq, has_key, scalar_key, probe_key}
-use Rattle.agg_evaluation.specs.Rows.{PlacedRow, beneath, values_of, has_value}
+use Rattle.agg_evaluation.specs.KeyOrder.{key_eq, scalar_key, probe_key}
+use Rattle.agg_evaluation.specs.Rows.{PlacedRow, beneath, values_of}
 use Rattle.agg_evaluation.specs.Matching.{matches, matches_at}
 use Rattle.column_query.proofs.Lists.{any_mapped, all_mapped, count_mapped}
 use Rattle.column_query.proofs.QueryLevels.{fold_query-Bool, fold_query-Nested}

@@ -1,6 +1,6 @@
 -- How a value compares with one that a query asks for, by their kinds.
-use Rattle.std.specs.Prelude.{◌≡◌, refl, ℕ, List, Bool}
-use Rattle.std.proofs.Common.{ℤ, sym, ◌∙◌, ap}
+use Rattle.std.specs.Prelude.{◌≡◌, refl}
+use Rattle.std.proofs.Common.{sym, ◌∙◌, ap}
 use Rattle.std.specs.declared.cmp.Ordering.{Ordering}
 use Rattle.std.specs.declared.cmp.Ordering.TheVariants.{Less, Greater}
 use Rattle.std.specs.Ordering.{int_cmp, bool_cmp, nat_cmp}

@@ -1,6 +1,5 @@
 -- What a field holds, by its kind.
-use Rattle.std.proofs.Common.{◌≡◌, refl, ℕ, Bool, true, false, T, List, [], ◌∷◌, Contains, inl, inr, sym, ◌∙◌, ap, subst, arith}
-use Rattle.std.specs.Prelude.{◌&&◌}
+use Rattle.std.proofs.Common.{◌≡◌, refl, ℕ, Bool, true, List, [], ◌∷◌, inl, inr, sym, ◌∙◌, ap}
 use Rattle.std.specs.List.{list_all}
 use Rattle.agg_model.specs.declared.mapping.FieldKind.{FieldKind}
 use Rattle.agg_model.specs.declared.mapping.FieldKind.TheVariants.{Long, Integer, Short, Byte, Keyword, Boolean}
@@ -10,9 +9,8 @@ use Rattle.agg_evaluation.specs.Rows.{PlacedRow, values_of}
 use Rattle.std.proofs.lemmas.Bool.{and_parts}
 use Rattle.shard_columns.specs.Kinds.{is_of_kind, AreOfKind}
 use Rattle.shard_columns.specs.Layout.{row_of}
-use Rattle.column_query.specs.declared.content.Content.{Content}
 use Rattle.column_query.specs.declared.content.Content.TheVariants as content
-use Rattle.column_query.specs.Numbers.{content_of, is_content, IsHeld, Holds}
+use Rattle.column_query.specs.Numbers.{content_of, is_content, Holds}
 use Rattle.column_query.proofs.Members.{In, In-contains}
 
 same_content : (k : FieldKind) (v : Scalar) → is_of_kind k v ≡ is_content (content_of k) v

@@ -1,5 +1,5 @@
 -- Values that a row holds.
-use Rattle.std.proofs.Common.{◌≡◌, refl, ℕ, ◌<◌, zero, suc, Bool, true, false, List, [], ◌∷◌, ◌⊎◌, inl, inr, length, get_or, Some, Contains, sym, ◌∙◌, ap, subst, arith}
+use Rattle.std.proofs.Common.{◌≡◌, ℕ, zero, suc, true, List, [], ◌∷◌, ◌⊎◌, inl, inr, Some, Contains, arith}
 use Rattle.std.specs.List.{slice_get}
 use Rattle.agg_model.specs.declared.row.Scalar.{Scalar}
 use Rattle.agg_model.specs.declared.row.Scalar.TheVariants as scalar

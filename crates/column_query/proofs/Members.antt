@@ -1,5 +1,5 @@
 -- Members of lists.
-use Rattle.std.proofs.Common.{◌≡◌, refl, ℕ, ◌+◌, ◌<◌, zero, suc, List, [], ◌∷◌, ◌++◌, ◌⊎◌, inl, inr, length, get_or, map, flat_map, Some, Contains, sym, ◌∙◌, ap, subst, arith}
+use Rattle.std.proofs.Common.{◌≡◌, refl, ℕ, ◌<◌, zero, suc, List, [], ◌∷◌, ◌++◌, ◌⊎◌, inl, inr, length, get_or, flat_map, Some, Contains, sym, ap, subst, arith}
 use Rattle.std.specs.List.{slice_get}
 use Rattle.std.specs.declared.cmp.Ordering.{Ordering}
 use Rattle.std.specs.declared.cmp.Ordering.TheVariants.{Less, Equal, Greater}
@@ -14,7 +14,7 @@ use Rattle.agg_evaluation.specs.Rows.{PlacedRow, values_of}
 use Rattle.agg_evaluation.specs.Sorting.{insert_once, ascending}
 use Rattle.shard_columns.specs.Dictionary.{words_of, all_words}
 use Rattle.shard_columns.specs.Layout.{row_of, no_row}
-use Rattle.shard_columns.specs.Values.{Words, word_in, words_in}
+use Rattle.shard_columns.specs.Values.{Words, word_in}
 use Rattle.column_query.specs.Numbers.{IsHeld}
 
 abbrev pub In : {A : Type 0} → A → List A → Type 0

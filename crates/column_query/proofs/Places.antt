@@ -1,5 +1,5 @@
 -- The places of words in a dictionary.
-use Rattle.std.proofs.Common.{◌≡◌, refl, ℕ, ◌+◌, ◌<◌, ◌≤◌, zero, suc, Bool, true, false, cond, List, [], ◌∷◌, ◌⊎◌, inl, inr, length, get_or, map, Option, Some, None, sym, ◌∙◌, ap, subst, arith, add-one, ℤ, pos, ltb}
+use Rattle.std.proofs.Common.{◌≡◌, refl, ℕ, ◌+◌, ◌<◌, ◌≤◌, zero, suc, Bool, true, false, cond, List, [], ◌∷◌, ◌⊎◌, inl, inr, length, map, Option, Some, None, sym, ◌∙◌, ap, subst, arith, add-one, ℤ, pos, ltb}
 use Rattle.std.proofs.lemmas.Map.Lookups.{exact_bytes}
 use Rattle.agg_model.specs.declared.query.RangeOp.{RangeOp}
 use Rattle.agg_model.specs.declared.query.RangeOp.TheVariants.{Gt, Gte, Lt, Lte}

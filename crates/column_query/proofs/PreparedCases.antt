@@ -1,10 +1,10 @@
 -- What each kind of prepared query says, as code tests it.
-use Rattle.std.proofs.Common.{◌≡◌, refl, ℕ, ◌+◌, ◌<◌, zero, suc, Bool, true, false, not, List, [], ◌∷◌, length, get_or, map, filter, sym, ◌∙◌, ap, ltb, arith}
-use Rattle.std.specs.Prelude.{◌||◌, ◌&&◌, nat_le}
+use Rattle.std.proofs.Common.{◌≡◌, refl, ℕ, ◌+◌, ◌<◌, zero, suc, Bool, true, false, not, List, [], ◌∷◌, length, get_or, filter, sym, ◌∙◌, ap, ltb, arith}
+use Rattle.std.specs.Prelude.{◌&&◌, nat_le}
 use Rattle.std.specs.List.{list_any, list_all}
 use Rattle.std.proofs.lemmas.Bool.{and_parts, lt-ltb}
 use Rattle.agg_model.specs.declared.row.Scalar.{Scalar}
-use Rattle.agg_evaluation.specs.Rows.{PlacedRow, beneath, values_of, has_value}
+use Rattle.agg_evaluation.specs.Rows.{PlacedRow, beneath, values_of}
 use Rattle.column_query.specs.declared.prepared.Prepared.{Prepared}
 use Rattle.column_query.specs.declared.prepared.Prepared.TheVariants as prepared
 use Rattle.column_query.specs.Prepared.{says, says_at, reads_below, reads_below_at}

@@ -1,9 +1,8 @@
 -- Prepared queries that say what the queries match.
-use Rattle.std.proofs.Common.{◌≡◌, refl, ℕ, ℤ, ◌+◌, ◌<◌, zero, suc, Bool, true, false, not, cond, List, [], ◌∷◌, ◌++◌, length, get_or, take, map, filter, Option, Some, Contains, inl, inr, ltb, eqb, sym, ◌∙◌, ap, subst, arith, Vec, Global}
-use Rattle.std.specs.Prelude.{◌||◌, ◌&&◌, nat_le, nat_lt}
+use Rattle.std.proofs.Common.{◌≡◌, refl, ℕ, ℤ, ◌+◌, ◌<◌, zero, suc, Bool, true, false, not, cond, List, [], ◌∷◌, ◌++◌, length, get_or, take, map, filter, Option, Some, inl, inr, sym, ◌∙◌, ap, subst, Vec, Global}
+use Rattle.std.specs.Prelude.{◌||◌, ◌&&◌, nat_le}
 use Rattle.std.specs.List.{list_any, list_all, slice_get}
 use Rattle.std.specs.declared.cmp.Ordering.{Ordering}
-use Rattle.std.specs.declared.cmp.Ordering.TheVariants.{Equal}
 use Rattle.std.specs.Ordering.{nat_cmp, int_cmp, is_eq}
 use Rattle.std.specs.Cmp.Lexicographic.{slice_cmp, texts_ties}
 use Rattle.std.specs.Str.{bytes_eq}
@@ -17,24 +16,24 @@ use Rattle.agg_model.specs.declared.query.Query.TheVariants as query
 use Rattle.agg_model.specs.declared.query.Probe.{Probe}
 use Rattle.agg_model.specs.declared.query.RangeTest.{RangeTest}
 use Rattle.agg_evaluation.specs.KeyOrder.{key_eq, scalar_key, probe_key}
-use Rattle.agg_evaluation.specs.Matching.{matches, matches_at, passes}
+use Rattle.agg_evaluation.specs.Matching.{matches, passes}
 use Rattle.agg_evaluation.specs.Rows.{PlacedRow, values_of, beneath, roots}
 use Rattle.shard_columns.specs.Columns.{Columns}
 use Rattle.shard_columns.specs.Dictionary.{words_of}
-use Rattle.shard_columns.specs.Layout.{row_of, no_row}
+use Rattle.shard_columns.specs.Layout.{row_of}
 use Rattle.column_query.specs.declared.bounds.Bound.{Bound}
 use Rattle.column_query.specs.declared.prepared.NumberTest.{NumberTest}
 use Rattle.column_query.specs.declared.prepared.NumberTest.TheVariants.{Is, OneOf, Within}
 use Rattle.column_query.specs.declared.prepared.Prepared.{Prepared}
 use Rattle.column_query.specs.declared.prepared.Prepared.TheVariants as prepared
-use Rattle.column_query.specs.Numbers.{number_of, numbers_of, is_number, within, IsHeld, StandsFor, BoundsAs}
-use Rattle.column_query.specs.Prepared.{is_among, within_all, passes_number, says, says_at, looks_below, looks_below_at, reads_below, reads_below_at, StandForAll, BoundAsAll, AddsNumber, HasIds, IsReady, AreReady}
+use Rattle.column_query.specs.Numbers.{number_of, numbers_of, within, IsHeld, StandsFor, BoundsAs}
+use Rattle.column_query.specs.Prepared.{is_among, within_all, passes_number, says, looks_below, looks_below_at, reads_below, reads_below_at, StandForAll, BoundAsAll, AddsNumber, HasIds, IsReady, AreReady}
 use Rattle.column_query.proofs.Lists.{any_mapped, all_mapped, count_mapped}
-use Rattle.column_query.proofs.Members.{In, In-get, place_of}
+use Rattle.column_query.proofs.Members.{In, place_of}
 use Rattle.column_query.proofs.Holding.{held-at}
 use Rattle.column_query.proofs.Inserting.{any-insert_key, any_step, all_step, all-push, or_flip}
 use Rattle.column_query.proofs.QueryLevels.{fold_query-Bool, fold_query-Nested}
-use Rattle.column_query.proofs.PreparedLevels.{fold_prepared-Bool, fold_prepared-Nested}
+use Rattle.column_query.proofs.PreparedLevels.{fold_prepared-Nested}
 use Rattle.column_query.proofs.Cases as by_query
 use Rattle.column_query.proofs.PreparedCases as by_prepared
 

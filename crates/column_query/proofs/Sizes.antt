@@ -1,7 +1,7 @@
 -- The depths of prepared queries.
 use Rattle.std.proofs.Common.{◌≡◌, ℕ, ◌<◌, ◌≤◌, List, length, get_or, sym, subst, ap, arith}
 use denote.Param.Weighed.{most, at_most}
-use Rattle.column_query.specs.declared.prepared.Prepared.{Prepared, out-Prepared, roll-Prepared, out-roll-Prepared, size-Prepared}
+use Rattle.column_query.specs.declared.prepared.Prepared.{Prepared, out-Prepared, out-roll-Prepared, size-Prepared}
 use Rattle.column_query.specs.declared.prepared.Prepared.TheOpen.{Prepared-F}
 use Rattle.column_query.specs.declared.prepared.Prepared.TheViews.{size_is-Prepared}
 use Rattle.column_query.specs.declared.prepared.Prepared.TheVariants as prepared

@@ -1,5 +1,5 @@
 -- Numbers that stand for what a query asks for.
-use Rattle.std.proofs.Common.{◌≡◌, refl, ℕ, Bool, true, false, List, Some, None, Option, IfNone, Contains, sym, ◌∙◌, ap, subst, ℤ, pos}
+use Rattle.std.proofs.Common.{◌≡◌, refl, ℕ, Bool, true, false, List, Some, None, Contains, sym, ◌∙◌, ap, subst, ℤ, pos}
 use Rattle.std.specs.List.{slice_get}
 use Rattle.std.specs.declared.cmp.Ordering.{Ordering}
 use Rattle.std.specs.declared.cmp.Ordering.TheVariants.{Less, Equal, Greater}
@@ -12,8 +12,8 @@ use Rattle.agg_model.specs.declared.query.Probe.{Probe}
 use Rattle.agg_model.specs.declared.query.Probe.TheVariants as probe
 use Rattle.agg_model.specs.declared.query.RangeOp.{RangeOp}
 use Rattle.agg_model.specs.declared.query.RangeTest.{RangeTest}
-use Rattle.agg_evaluation.specs.KeyOrder.{key_cmp, key_eq, scalar_key, probe_key}
-use Rattle.agg_evaluation.specs.Matching.{allows, passes}
+use Rattle.agg_evaluation.specs.KeyOrder.{key_cmp, scalar_key, probe_key}
+use Rattle.agg_evaluation.specs.Matching.{allows}
 use Rattle.agg_evaluation.specs.Rows.{PlacedRow, values_of}
 use Rattle.shard_columns.specs.Layout.{row_of}
 use Rattle.shard_columns.specs.Dictionary.{words_of, NoRowHas}
@@ -21,9 +21,8 @@ use mir.Val.{bool_byte}
 use Rattle.shard_columns.proofs.Dictionaries.{words_of-strict}
 use Rattle.column_query.specs.declared.content.Content.{Content}
 use Rattle.column_query.specs.declared.content.Content.TheVariants.{Wholes, Words, Flags}
-use Rattle.column_query.specs.declared.bounds.Bound.{Bound}
 use Rattle.column_query.specs.declared.bounds.Bound.TheVariants.{At, Always}
-use Rattle.column_query.specs.Numbers.{is_content, place_among, number_of, flag_number, is_number, within, without_equal, IsHeld, Holds, StandsFor, BoundsAs}
+use Rattle.column_query.specs.Numbers.{is_content, place_among, number_of, flag_number, without_equal, IsHeld, Holds, StandsFor, BoundsAs}
 use Rattle.column_query.proofs.Comparing.{value_cmp, value_cmp-is}
 use Rattle.column_query.proofs.Members.{held-word}
 use Rattle.column_query.proofs.Places.{place-at, places-order, place-bounds}

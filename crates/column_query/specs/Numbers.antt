@@ -1,7 +1,6 @@
 -- The numbers that stand for the values of a field, in the order of the values: a whole number for itself, a word by its place
 -- among the words of the field, and a flag by 0 or 1.
 use Rattle.std.specs.Prelude.{◌≡◌, ℕ, ◌+◌, Bool, true, false, List, [], ◌∷◌, map, if◌then◌else◌, ℤ, pos, Option, Some, None, Contains}
-use Rattle.std.specs.List.{list_any, list_all}
 use Rattle.std.specs.Ordering.{nat_cmp, int_cmp, is_lt, is_eq}
 use Rattle.std.specs.Cmp.Lexicographic.{slice_cmp}
 use Rattle.agg_model.specs.declared.mapping.FieldKind.{FieldKind}

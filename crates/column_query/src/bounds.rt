@@ -62,7 +62,10 @@ fn bound_of_word(shard: &Shard, field: u32, op: RangeOp, word: &[u8]) -> Bound
 {
     match shard.find_word(field, word) {
         Some(ordinal) => Bound::At(op, i128::from(ordinal)),
-        None => Bound::At(without_equal(op), i128::from(place_of_word(shard, field, word))),
+        None => Bound::At(
+            without_equal(op),
+            i128::from(place_of_word(shard, field, word)),
+        ),
     }
 }
 

@@ -8,9 +8,9 @@ ghost use Rattle.shard_columns.specs.Layout.{row_of};
 ghost use Rattle.column_query.specs.Numbers.{numbers_of};
 
 use crate::bounds::{Bound, allows_number};
+use crate::numbers::number;
 use agg_model::boxed::Boxed;
 use agg_model::list::List;
-use crate::numbers::number;
 use shard_columns::shard::Shard;
 use std::collections::BTreeSet;
 

@@ -1,4 +1,4 @@
-use Rattle.std.proofs.Common.{◌≡◌, refl, pos, sym, ◌∙◌, ap, rules, subst, ⊎_elim}
+use Rattle.std.proofs.Common.{refl, ◌∙◌, ap, rules, subst, ⊎_elim}
 use mir.Syntax.{w128}
 use Rattle.std.proofs.lemmas.Int.{to_z-of_z}
 use Rattle.std.specs.declared.cmp.Ordering.TheVariants.{Less, Greater}

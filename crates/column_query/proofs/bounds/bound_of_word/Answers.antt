@@ -1,4 +1,4 @@
-use Rattle.std.proofs.Common.{◌≡◌, pos, sym, ◌∙◌, ap, rules, refl}
+use Rattle.std.proofs.Common.{pos, ◌∙◌, ap, rules, refl}
 use mir.Syntax.{w128}
 use Rattle.std.proofs.lemmas.Int.{to_z-of_z}
 use Rattle.agg_model.specs.declared.query.Probe.TheVariants as probe

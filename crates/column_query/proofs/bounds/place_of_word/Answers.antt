@@ -1,8 +1,7 @@
-use Rattle.std.proofs.Common.{◌≡◌, ◌+◌, ◌-◌, ◌/◌, ◌≤◌, true, false, length, sym, ◌∙◌, ap, arith, subst}
+use Rattle.std.proofs.Common.{◌+◌, ◌-◌, ◌/◌, sym, ◌∙◌, ap, arith}
 use Rattle.std.specs.Ordering.{is_lt}
 use Rattle.shard_columns.specs.Dictionary.{words_of}
 use Rattle.shard_columns.proofs.Dictionaries.{words_of-strict}
-use Rattle.column_query.specs.Numbers.{place_among}
 use Rattle.column_query.proofs.Places.{place-few, search-behind, search-before}
 use Rattle.column_query.proofs.bounds.place_of_word.Goals as goal
 

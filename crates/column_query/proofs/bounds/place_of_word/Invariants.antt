@@ -1,4 +1,4 @@
-use Rattle.std.proofs.Common.{◌≡◌, ◌≤◌, ◌-◌, length}
+use Rattle.std.proofs.Common.{◌≤◌, ◌-◌, length}
 use Rattle.shard_columns.specs.Dictionary.{words_of}
 use Rattle.column_query.specs.Numbers.{place_among}
 use Rattle.column_query.proofs.bounds.place_of_word.Given as goal

@@ -1,4 +1,4 @@
-use Rattle.std.proofs.Common.{◌≡◌, ◌++◌, ◌∷◌, [], Bool, List, map, take, sym, ◌∙◌, ap}
+use Rattle.std.proofs.Common.{◌++◌, ◌∷◌, [], sym, ◌∙◌}
 use Rattle.agg_evaluation.specs.Rows.{roots}
 use Rattle.shard_columns.specs.Layout.{row_of}
 use Rattle.column_query.specs.Prepared.{says}

@@ -1,8 +1,5 @@
-use Rattle.std.proofs.Common.{◌≡◌, ◌+◌, ◌≤◌, ◌<◌, ◌^◌, refl, length, filter, take, sym, ◌∙◌, ap, arith, rules, Some, List}
-use Rattle.std.specs.Prelude.{nat_le, slice_get}
-use Rattle.std.specs.List.{list_any}
+use Rattle.std.proofs.Common.{◌+◌, sym, ◌∙◌, ap, arith}
 use Rattle.agg_model.specs.declared.query.Query.{Query}
-use Rattle.agg_model.specs.declared.query.Probe.{Probe}
 use Rattle.agg_evaluation.specs.Rows.{beneath}
 use Rattle.agg_evaluation.specs.Matching.{matches}
 use Rattle.shard_columns.specs.Layout.{row_of}

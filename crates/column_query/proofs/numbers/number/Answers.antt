@@ -1,7 +1,6 @@
-use Rattle.std.proofs.Common.{◌≡◌, ℤ, length, Some, Contains, sym, ◌∙◌, ap, arith, slice_get, to_z, of_z, Option, rules}
+use Rattle.std.proofs.Common.{Some, sym, ◌∙◌, ap, rules}
 use mir.Syntax.{w64, w128}
 use Rattle.std.proofs.lemmas.Int.{to_z-of_z}
-use Rattle.agg_model.specs.declared.row.Scalar.{Scalar}
 use Rattle.agg_model.specs.declared.row.Scalar.TheVariants as scalar
 use Rattle.agg_evaluation.specs.Rows.{values_of}
 use Rattle.shard_columns.specs.Layout.{row_of}

@@ -1,11 +1,9 @@
-use Rattle.std.proofs.Common.{◌≡◌, ℕ, ℤ, List, Option, true, None, Some, pos, subst, sym, ◌∙◌, ap, ⊎_elim, slice_get, to_z, of_z, rules}
+use Rattle.std.proofs.Common.{◌≡◌, ℕ, ℤ, List, None, Some, pos, subst, sym, ◌∙◌, ap, ⊎_elim, slice_get, to_z, of_z, rules}
 use mir.Syntax.{w128}
-use mir.Val.{SFits}
 use Rattle.std.proofs.lemmas.Int.{to_z-of_z}
 use Rattle.agg_model.specs.declared.query.Probe.{Probe}
 use Rattle.agg_model.specs.declared.query.Probe.TheVariants as probe
 use Rattle.shard_columns.specs.Dictionary.{words_of, NoRowHas}
-use Rattle.column_query.specs.declared.content.Content.{Content}
 use Rattle.column_query.specs.declared.content.Content.TheVariants.{Wholes, Words, Flags}
 use Rattle.column_query.specs.Numbers.{Holds, StandsFor, flag_number}
 use Rattle.column_query.proofs.Standing.{differs, none-stands, ordered-stands, whole-ordered, flag-ordered, word-ordered, absent-stands, flag-number}

@@ -1,5 +1,5 @@
-use Rattle.std.proofs.Common.{◌≡◌, ◌+◌, ◌≤◌, length, sym, ◌∙◌, ap, arith, rules, Some}
-use Rattle.std.specs.List.{list_any, list_all}
+use Rattle.std.proofs.Common.{◌+◌, length, sym, ◌∙◌, ap, arith}
+use Rattle.std.specs.List.{list_all}
 use Rattle.agg_evaluation.specs.Rows.{beneath}
 use Rattle.shard_columns.specs.Layout.{row_of}
 use denote.Param.Weighed.{most}
@@ -32,27 +32,31 @@ is_match-count_matching-requires t c =
 
 pub is_match-is_match-requires : goal.is_match-is_match-requires
 is_match-is_match-requires t c =
-    let deeper = inner-less c.args.query.now c.in-Nested.path c.in-Nested.query c.in-Nested.is in
-    (omega (arith, c.decreases, deeper, ap size-Prepared c.get.ensures),
-    (rw c.get.ensures (inner-reads (length c.args.shard.now.kinds) c.args.query.now c.in-Nested.path c.in-Nested.query c.in-Nested.is c.requires.fields), c.child.ensures.number))
+    let deeper = inner-less c.args.query.now c.in-Nested.path c.in-Nested.query c.in-Nested.is in (
+      omega (arith, c.decreases, deeper, ap size-Prepared c.get.ensures),
+      (rw c.get.ensures (inner-reads (length c.args.shard.now.kinds) c.args.query.now c.in-Nested.path c.in-Nested.query c.in-Nested.is c.requires.fields), c.child.ensures.number),
+    )
 
 pub all_match-is_match-requires : goal.all_match-is_match-requires
 all_match-is_match-requires t c =
-    let items = c.as_slice-query-items.result.now in
-    (omega (arith, c.decreases, item-most items c.loop-query.query-index c.query-item.result c.loop-query-test.true c.query-item.is, ap (most size-Prepared) c.as_slice-query-items.ensures),
-    (all_at (reads_below (length c.args.shard.now.kinds)) items c.loop-query.query-index c.query-item.result c.loop-query-test.true c.query-item.is (ap (list_all (reads_below (length c.args.shard.now.kinds))) c.as_slice-query-items.ensures ∙ c.requires.fields), c.requires.in_range))
+    let items = c.as_slice-query-items.result.now in (
+      omega (arith, c.decreases, item-most items c.loop-query.query-index c.query-item.result c.loop-query-test.true c.query-item.is, ap (most size-Prepared) c.as_slice-query-items.ensures),
+      (all_at (reads_below (length c.args.shard.now.kinds)) items c.loop-query.query-index c.query-item.result c.loop-query-test.true c.query-item.is (ap (list_all (reads_below (length c.args.shard.now.kinds))) c.as_slice-query-items.ensures ∙ c.requires.fields), c.requires.in_range),
+    )
 
 pub any_matches-is_match-requires : goal.any_matches-is_match-requires
 any_matches-is_match-requires t c =
-    let items = c.as_slice-query-items.result.now in
-    (omega (arith, c.decreases, item-most items c.loop-query.query-index c.query-item.result c.loop-query-test.true c.query-item.is, ap (most size-Prepared) c.as_slice-query-items.ensures),
-    (all_at (reads_below (length c.args.shard.now.kinds)) items c.loop-query.query-index c.query-item.result c.loop-query-test.true c.query-item.is (ap (list_all (reads_below (length c.args.shard.now.kinds))) c.as_slice-query-items.ensures ∙ c.requires.fields), c.requires.in_range))
+    let items = c.as_slice-query-items.result.now in (
+      omega (arith, c.decreases, item-most items c.loop-query.query-index c.query-item.result c.loop-query-test.true c.query-item.is, ap (most size-Prepared) c.as_slice-query-items.ensures),
+      (all_at (reads_below (length c.args.shard.now.kinds)) items c.loop-query.query-index c.query-item.result c.loop-query-test.true c.query-item.is (ap (list_all (reads_below (length c.args.shard.now.kinds))) c.as_slice-query-items.ensures ∙ c.requires.fields), c.requires.in_range),
+    )
 
 pub count_matching-is_match-requires : goal.count_matching-is_match-requires
 count_matching-is_match-requires t c =
-    let items = c.as_slice-query-items.result.now in
-    (omega (arith, c.decreases, item-most items c.loop-query.query-index c.query-item.result c.loop-query-test.true c.query-item.is, ap (most size-Prepared) c.as_slice-query-items.ensures),
-    (all_at (reads_below (length c.args.shard.now.kinds)) items c.loop-query.query-index c.query-item.result c.loop-query-test.true c.query-item.is (ap (list_all (reads_below (length c.args.shard.now.kinds))) c.as_slice-query-items.ensures ∙ c.requires.fields), c.requires.in_range))
+    let items = c.as_slice-query-items.result.now in (
+      omega (arith, c.decreases, item-most items c.loop-query.query-index c.query-item.result c.loop-query-test.true c.query-item.is, ap (most size-Prepared) c.as_slice-query-items.ensures),
+      (all_at (reads_below (length c.args.shard.now.kinds)) items c.loop-query.query-index c.query-item.result c.loop-query-test.true c.query-item.is (ap (list_all (reads_below (length c.args.shard.now.kinds))) c.as_slice-query-items.ensures ∙ c.requires.fields), c.requires.in_range),
+    )
 
 pub is_match-returns-then-is_match : goal.is_match-returns-then-is_match
 is_match-returns-then-is_match t c =

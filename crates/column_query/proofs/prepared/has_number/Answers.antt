@@ -1,4 +1,4 @@
-use Rattle.std.proofs.Common.{ℤ, sym, ◌∙◌, ap, rules}
+use Rattle.std.proofs.Common.{sym, ◌∙◌, ap, rules}
 use mir.Syntax.{w128}
 use Rattle.std.proofs.lemmas.Int.{to_z-of_z}
 use Rattle.shard_columns.specs.Layout.{row_of}

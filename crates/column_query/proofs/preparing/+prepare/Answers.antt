@@ -1,10 +1,8 @@
-use Rattle.std.proofs.Common.{◌≡◌, ◌+◌, length, true, sym, ◌∙◌, ap, arith, rules, subst, List}
-use denote.Param.Weighed.{most}
-use Rattle.std.specs.List.{list_all}
+use Rattle.std.proofs.Common.{length, sym, ap, arith, subst, List}
 use Rattle.agg_model.specs.declared.query.Probe.{Probe}
 use Rattle.agg_model.specs.declared.query.RangeTest.{RangeTest}
 use Rattle.agg_model.specs.declared.query.Query.{Query, size-Query}
-use Rattle.column_query.specs.Prepared.{StandForAll, BoundAsAll, HasIds, IsReady, looks_below}
+use Rattle.column_query.specs.Prepared.{StandForAll, BoundAsAll, HasIds, IsReady}
 use Rattle.column_query.specs.declared.prepared.Prepared.{Prepared}
 use Rattle.column_query.specs.declared.prepared.Prepared.TheVariants as prepared
 use Rattle.column_query.proofs.Ready.{ready-Term, ready-Terms, ready-Range, ready-Ids, ready-Bool, ready-Nested, parts-look, inner-looks}

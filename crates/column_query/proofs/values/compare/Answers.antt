@@ -1,6 +1,5 @@
 use Rattle.std.proofs.Common.{rules, refl, ap, ⊎_elim}
 use Rattle.agg_model.specs.declared.row.Scalar.TheVariants as scalar
-use Rattle.agg_model.specs.declared.query.Probe.{Probe}
 use Rattle.agg_model.specs.declared.query.Probe.TheVariants as probe
 use Rattle.shard_columns.specs.Cell.{scalar_of}
 use Rattle.column_query.proofs.Comparing.{compared}
