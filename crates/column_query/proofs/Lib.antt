@@ -1,0 +1,15 @@
+pub mod Lists
+pub mod Comparing
+pub mod QueryLevels
+pub mod Cases
+pub mod Members
+pub mod Contents
+pub mod Places
+pub mod Standing
+pub mod Holding
+pub mod PreparedLevels
+pub mod PreparedCases
+pub mod Sizes
+pub mod Inserting
+pub mod Ready
+pub mod QuerySizes

@@ -1,0 +1,124 @@
+//! Preparing a query for a shard.
+ghost use Rattle.std.specs.Prelude.{◌≡◌, ◌<◌, length, true, IfOk, OnOk};
+ghost use Rattle.std.specs.List.{list_all};
+ghost use Rattle.column_query.specs.Prepared.{looks_below, AddsNumber, StandForAll, BoundAsAll, HasIds, IsReady, AreReady};
+
+use crate::bounds::{Bound, bound_of};
+use crate::numbers::number_of_probe;
+use crate::prepared::{NumberTest, Prepared};
+use agg_model::boxed::Boxed;
+use agg_model::list::List;
+use agg_model::query::{Probe, Query, RangeTest};
+use agg_model::text::Text;
+use shard_columns::shard::Shard;
+use std::alloc::{AllocError, Global};
+use std::collections::BTreeSet;
+
+fn put(numbers: &mut BTreeSet<i128>, number: Option<i128>) -> Result<(), AllocError>
+    ensures { OnOk result (AddsNumber numbers.old.keys number numbers.new.keys) }
+{
+    if let Some(number) = number {
+        numbers.insert(number)?;
+    }
+    Ok(())
+}
+
+fn numbers_of(
+    alloc: Global,
+    shard: &Shard,
+    field: u32,
+    probes: &[Probe],
+) -> Result<BTreeSet<i128>, AllocError>
+    requires { field < length shard.now.kinds }
+    ensures { IfOk result (λ set. StandForAll shard.now.rows field probes.now set.keys) }
+{
+    let mut numbers = BTreeSet::new(alloc);
+    for probe in probes {
+        put(&mut numbers, number_of_probe(shard, field, probe))?;
+    }
+    Ok(numbers)
+}
+
+fn bounds_of(
+    alloc: Global,
+    shard: &Shard,
+    field: u32,
+    tests: &[RangeTest],
+) -> Result<Vec<Bound>, AllocError>
+    requires { field < length shard.now.kinds }
+    ensures { IfOk result (λ bounds. BoundAsAll shard.now.rows field tests.now bounds.items) }
+{
+    let mut bounds = Vec::new(alloc);
+    for test in tests {
+        bounds.push(bound_of(shard, field, test))?;
+    }
+    Ok(bounds)
+}
+
+fn ids_of(alloc: Global, values: &[Text]) -> Result<BTreeSet<Vec<u8>>, AllocError>
+    ensures { IfOk result (λ ids. HasIds values.now ids.keys) }
+{
+    let mut ids = BTreeSet::new(alloc);
+    for value in values {
+        ids.insert(Vec::from_slice(alloc, value.as_str().as_bytes())?)?;
+    }
+    Ok(ids)
+}
+
+#[cycle(prepare)]
+fn prepare_all(
+    alloc: Global,
+    shard: &Shard,
+    queries: &List<Query>,
+) -> Result<List<Prepared>, AllocError>
+    requires { list_all (looks_below (length shard.now.kinds)) queries.now ≡ true }
+    ensures { IfOk result (λ prepared. AreReady shard.now queries.now prepared) }
+{
+    let mut prepared = List::new(alloc);
+    for query in queries.as_slice() {
+        prepared.push(prepare(alloc, shard, query)?)?;
+    }
+    Ok(prepared)
+}
+
+/// The query, prepared for the shard, whose fields it names by their places in the mapping.
+#[cycle(prepare)]
+pub fn prepare(alloc: Global, shard: &Shard, query: &Query) -> Result<Prepared, AllocError>
+    requires { looks_below (length shard.now.kinds) query.now ≡ true }
+    ensures { IfOk result (λ prepared. IsReady shard.now query.now prepared) }
+{
+    match query {
+        Query::All => Ok(Prepared::All),
+        Query::Term { field, value } => Ok(Prepared::Values {
+            field: *field,
+            test: NumberTest::Is(number_of_probe(shard, *field, value)),
+        }),
+        Query::Terms { field, values } => Ok(Prepared::Values {
+            field: *field,
+            test: NumberTest::OneOf(numbers_of(alloc, shard, *field, values.as_slice())?),
+        }),
+        Query::Range { field, tests } => Ok(Prepared::Values {
+            field: *field,
+            test: NumberTest::Within(bounds_of(alloc, shard, *field, tests.as_slice())?),
+        }),
+        Query::Exists { field } => Ok(Prepared::Exists { field: *field }),
+        Query::Ids { values } => Ok(Prepared::Ids {
+            ids: ids_of(alloc, values.as_slice())?,
+        }),
+        Query::Bool {
+            must,
+            must_not,
+            should,
+            minimum,
+        } => Ok(Prepared::Bool {
+            must: prepare_all(alloc, shard, must)?,
+            must_not: prepare_all(alloc, shard, must_not)?,
+            should: prepare_all(alloc, shard, should)?,
+            minimum: *minimum,
+        }),
+        Query::Nested { path, query } => Ok(Prepared::Nested {
+            path: *path,
+            query: Boxed::new(alloc, prepare(alloc, shard, query.get())?)?,
+        }),
+    }
+}
