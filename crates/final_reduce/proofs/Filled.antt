@@ -24,7 +24,7 @@ use Rattle.partial_result.proofs.KeyLists.{less_is}
 use Rattle.final_reduce.specs.Steps.{keys_from}
 use Rattle.final_reduce.proofs.Intervals.{next_start, start-next, no_steps, one_step}
 
-whole_cmp : (m n : ℤ) → m <ℤ n → key_cmp (Whole m) (Whole n) ≡ Less
+pub whole_cmp : (m n : ℤ) → m <ℤ n → key_cmp (Whole m) (Whole n) ≡ Less
 unfolding computing
 whole_cmp m n less = sym (int_cmp_is m n Less less)
 

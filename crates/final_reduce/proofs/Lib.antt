@@ -14,4 +14,5 @@ pub mod WholesOfNothing
 pub mod FilledPasses
 pub mod AggSizes
 pub mod PlanAgrees
+pub mod GapSamples
 pub mod SpanLaws

@@ -15,4 +15,6 @@ mod select;
 mod spans;
 mod terms;
 #[cfg(test)]
+mod gap_tests;
+#[cfg(test)]
 mod tests;

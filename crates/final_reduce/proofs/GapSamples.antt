@@ -1,0 +1,68 @@
+-- The samples of the tests with histograms can be finished.
+use Rattle.std.specs.Prelude.{◌≡◌, refl, ℕ, ℤ, ◌<◌, ◌<ℤ◌, int_lt, ◌&&◌, true, false, List, [], ◌∷◌, map, None}
+use Rattle.std.specs.List.{list_all}
+use Rattle.std.specs.Ordering.{is_lt}
+use Rattle.std.proofs.Common.{sym, ◌∙◌, ap, subst, arith}
+use Rattle.std.proofs.lemmas.Bool.{and_from, and_parts, lt-ltb}
+use Rattle.std.proofs.lemmas.Int.{ints}
+use Rattle.agg_model.specs.declared.key.Key.TheVariants.{Whole}
+use Rattle.agg_model.specs.declared.partial.Bucket.{Bucket}
+use Rattle.agg_model.specs.declared.partial.Node.{Node, out-Node}
+use Rattle.agg_model.specs.declared.partial.Node.TheVariants.{Keyed}
+use Rattle.agg_model.specs.declared.aggregation.Bounds.{Bounds}
+use Rattle.agg_model.specs.declared.aggregation.Kind.TheVariants as kind
+use Rattle.agg_model.specs.declared.aggregation.Agg.{Agg, out-Agg}
+use Rattle.agg_model.specs.declared.aggregation.Agg.TheOpen.{Agg-F}
+use Rattle.agg_evaluation.specs.KeyOrder.{key_cmp}
+use Rattle.agg_evaluation.specs.Orders.{bucket_key}
+use Rattle.agg_evaluation.specs.Shard.{fixed_keys}
+use Rattle.agg_evaluation.specs.Trees.{is_ascending, have_children, pass_each, is_tree_at}
+use Rattle.agg_evaluation.specs.Whole.{by_key, parts_at}
+use Rattle.agg_evaluation.proofs.NodeForms.{out-Keyed}
+use Rattle.final_reduce.specs.Finishable.{is_finishable, is_finishable_at, is_histogram_key, has_interval, has_intervals, fits_at}
+use Rattle.final_reduce.specs.SampleGaps.{counted_bucket, rises, IsHistogram}
+use Rattle.final_reduce.proofs.AggLaws.{fold_agg-level}
+use Rattle.final_reduce.proofs.Filled.{whole_cmp}
+use Rattle.final_reduce.proofs.FinishableLaws.{is_finishable-level}
+use Rattle.final_reduce.proofs.SelectLaws.{list_all-map}
+
+below : (p : ℤ × ℕ) (ps : List (ℤ × ℕ)) → list_all (λ later. int_lt p.0 later.0) ps ≡ true → list_all (λ later. is_lt (key_cmp (Whole p.0) later)) (map bucket_key (map counted_bucket ps)) ≡ true
+below p [] h = refl
+below p (q ∷ qs) h =
+    let parts = and_parts (int_lt p.0 q.0) _ h in
+    let first = parts.0 in
+    let less : p.0 <ℤ q.0 = grind (arith, ints) in
+    and_from _ _ (ap is_lt (whole_cmp p.0 q.0 less)) (below p qs parts.1)
+
+ascending : (ps : List (ℤ × ℕ)) → rises ps ≡ true → is_ascending (map bucket_key (map counted_bucket ps)) ≡ true
+ascending [] h = refl
+ascending (p ∷ ps) h =
+    let parts = and_parts (list_all (λ later. int_lt p.0 later.0) ps) (rises ps) h in
+    and_from _ _ (below p ps parts.0) (ascending ps parts.1)
+
+no_children : (ps : List (ℤ × ℕ)) → have_children [] (map counted_bucket ps) ≡ true
+no_children [] = refl
+no_children (p ∷ ps) = no_children ps
+
+module _ (interval offset : ℕ) (extended hard : Bounds) (positive : 0 < interval) (agg : Agg) where
+  pub has-interval : (children : List Agg) → IsHistogram interval offset extended hard children (out-Agg agg) → list_all has_intervals children ≡ true → has_intervals agg ≡ true
+  has-interval children is have =
+      fold_agg-level (λ a. has_interval a.kind && list_all (λ has. has) a.children) agg
+      ∙ and_from _ _ (ap has_interval is.0 ∙ lt-ltb _ _ positive) (list_all-map (λ has. has) has_intervals (out-Agg agg).children ∙ ap (list_all has_intervals) is.1 ∙ have)
+
+  -- with these keys
+  pub keys-finishable : (ps : List (ℤ × ℕ)) → IsHistogram interval offset extended hard [] (out-Agg agg) → rises ps ≡ true → list_all (λ p. is_histogram_key interval offset hard (Whole p.0)) ps ≡ true
+      → is_finishable agg (Keyed (map counted_bucket ps) 0 0 0) ≡ true
+  keys-finishable ps is up made =
+      let bs = map counted_bucket ps in
+      is_finishable-level agg (Keyed bs 0 0 0)
+      ∙ (λ i. is_finishable_at (map is_finishable (is.1 i)) (is.0 i) (Keyed bs 0 0 0))
+      ∙ ap (λ l. is_tree_at [] (fixed_keys (kind.Histogram 0 interval offset 0 extended hard false [] None)) by_key l && fits_at (kind.Histogram 0 interval offset 0 extended hard false [] None) (parts_at l)) (out-Keyed bs 0 0 0)
+      ∙ and_from _ _ (and_from _ _ (ascending ps up) (no_children ps)) (list_all-map (λ (b : Bucket). is_histogram_key interval offset hard (bucket_key b)) counted_bucket ps ∙ made)
+
+  -- with no bucket
+  pub nothing-finishable : (children : List Agg) → IsHistogram interval offset extended hard children (out-Agg agg) → is_finishable agg (Keyed [] 0 0 0) ≡ true
+  nothing-finishable children is =
+      is_finishable-level agg (Keyed [] 0 0 0)
+      ∙ ap (λ k. is_finishable_at (map is_finishable (out-Agg agg).children) k (Keyed [] 0 0 0)) is.0
+      ∙ ap (λ l. is_tree_at (map is_finishable (out-Agg agg).children) (fixed_keys (kind.Histogram 0 interval offset 0 extended hard false [] None)) by_key l && fits_at (kind.Histogram 0 interval offset 0 extended hard false [] None) (parts_at l)) (out-Keyed [] 0 0 0)

@@ -1,0 +1,19 @@
+-- Histograms as the tests have them.
+use Rattle.std.specs.Prelude.{◌≡◌, ℕ, ℤ, int_lt, Bool, true, false, ◌&&◌, List, [], ◌∷◌, map, None}
+use Rattle.std.specs.List.{list_all}
+use Rattle.agg_model.specs.declared.key.Key.TheVariants.{Whole}
+use Rattle.agg_model.specs.declared.partial.Bucket.{Bucket}
+use Rattle.agg_model.specs.declared.aggregation.Bounds.{Bounds}
+use Rattle.agg_model.specs.declared.aggregation.Kind.TheVariants as kind
+use Rattle.agg_model.specs.declared.aggregation.Agg.{Agg}
+use Rattle.agg_model.specs.declared.aggregation.Agg.TheOpen.{Agg-F}
+
+abbrev pub counted_bucket : ℤ × ℕ → Bucket
+counted_bucket p = record { key = Whole p.0; count = p.1; covered = 0; children = [] }
+
+abbrev pub rises : List (ℤ × ℕ) → Bool
+rises [] = true
+rises (p ∷ ps) = list_all (λ later. int_lt p.0 later.0) ps && rises ps
+
+abbrev pub IsHistogram : ℕ → ℕ → Bounds → Bounds → List Agg → Agg-F Agg → Type 0
+IsHistogram interval offset extended hard children a = (a.kind ≡ kind.Histogram 0 interval offset 0 extended hard false [] None) × (a.children ≡ children)
