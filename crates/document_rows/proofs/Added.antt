@@ -1,6 +1,5 @@
 -- What one more item makes of a row that is walked.
 use Rattle.std.specs.Prelude.{◌≡◌, refl, ℕ, ◌==◌, List, [], ◌∷◌, ◌++◌, map, length, Some, true, false, unwrap_or, option_map, cond}
-use Rattle.std.specs.declared.cmp.Ordering.{Ordering}
 use Rattle.std.specs.declared.cmp.Ordering.TheVariants.{Less, Equal, Greater}
 use Rattle.std.specs.Ordering.{nat_cmp, is_eq, match_ordering}
 use Rattle.std.specs.Map.{lookup}
@@ -10,7 +9,7 @@ use Rattle.std.proofs.lemmas.Bool.Decides.{nat_tests}
 use Rattle.agg_model.specs.declared.row.Scalar.{Scalar}
 use Rattle.agg_model.specs.declared.row.FieldValues.{FieldValues}
 use Rattle.agg_model.specs.declared.row.Row.{Row}
-use Rattle.agg_model.specs.declared.row.Children.{Children, roll-Children, out-Children, out-roll-Children}
+use Rattle.agg_model.specs.declared.row.Children.{Children, out-roll-Children}
 use Rattle.agg_reading.specs.declared.parts.Draft.{Draft}
 use Rattle.agg_reading.specs.Rows.{count_in, with_value, with_row}
 use Rattle.document_rows.specs.Drafts.{with_item, field_values, child_rows, draft_of}

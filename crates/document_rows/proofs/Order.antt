@@ -1,5 +1,5 @@
 -- A stable sort of values of one kind, with each word kept once, is what the definition makes of them.
-use Rattle.std.specs.Prelude.{◌≡◌, refl, ℕ, ℤ, pos, Bool, true, false, not, ◌&&◌, List, [], ◌∷◌, ◌++◌, filter, cond, ⊤}
+use Rattle.std.specs.Prelude.{◌≡◌, refl, ℕ, ℤ, pos, Bool, true, false, ◌&&◌, List, [], ◌∷◌, filter, cond, ⊤}
 use Rattle.std.specs.declared.cmp.Ordering.{Ordering}
 use Rattle.std.specs.declared.cmp.Ordering.TheVariants.{Less, Equal, Greater}
 use Rattle.std.specs.Ordering.{nat_cmp, int_cmp, bool_cmp, is_lt, is_eq, ordering_reverse, ordering_then, match_ordering}

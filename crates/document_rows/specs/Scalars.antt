@@ -1,5 +1,5 @@
 -- Values of fields in one order for all kinds, so that they can be sorted (Elasticsearch Reference 8, 'Field data types').
-use Rattle.std.specs.Prelude.{◌≡◌, ℕ, List, [], ◌∷◌, Bool, true, false}
+use Rattle.std.specs.Prelude.{◌≡◌, ℕ, List, Bool, true, false}
 use Rattle.std.specs.List.{list_all}
 use Rattle.std.specs.Str.{bytes_eq}
 use Rattle.std.specs.declared.cmp.Ordering.{Ordering}

@@ -1,5 +1,5 @@
 -- Where the walk of a document stands (Elasticsearch Reference 8, 'Nested field type').
-use Rattle.std.specs.Prelude.{ℕ, ◌+◌, List, [], ◌∷◌, ◌++◌, Ok}
+use Rattle.std.specs.Prelude.{ℕ, List, [], Ok}
 use Rattle.serde_json.specs.Data.{Members, object}
 use Rattle.agg_model.specs.declared.mapping.Mapping.{Mapping}
 use Rattle.agg_model.specs.declared.row.Row.{Row}

@@ -1,4 +1,4 @@
-use Rattle.std.proofs.Common.{◌<◌, ◌+◌, length, sym, arith}
+use Rattle.std.proofs.Common.{sym, arith}
 use Rattle.document_rows.proofs.Places.{nested_found}
 use Rattle.document_rows.proofs.roles.inner_role.Goals as goal
 

@@ -1,4 +1,4 @@
-use Rattle.std.proofs.Common.{◌≡◌, ◌+◌, sym, ◌∙◌, ap, arith}
+use Rattle.std.proofs.Common.{◌≡◌, sym, ◌∙◌, ap, arith}
 use Rattle.document_rows.specs.Roles.{kind_in}
 use Rattle.document_rows.proofs.Places.{kind_found}
 use Rattle.document_rows.proofs.roles.role_of.Goals as goal

@@ -1,6 +1,5 @@
 use Rattle.std.proofs.Common.{rules, sym, ◌∙◌, ap}
 use Rattle.std.proofs.lemmas.Fn.{dedup_same}
-use Rattle.std.specs.List.{dedup}
 use Rattle.agg_reading.specs.Rows.{finished_values}
 use Rattle.document_rows.specs.Scalars.{same_word}
 use Rattle.document_rows.proofs.Order.{finished_from_sort}
