@@ -1,0 +1,2 @@
+mod Beneath
+mod Levels

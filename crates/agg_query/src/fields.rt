@@ -1,0 +1,120 @@
+//! Fields and nested paths that a search names.
+
+ghost use Rattle.std.specs.Prelude.{◌≡◌, ◌<◌, ◌∷◌, ◌++◌, [], IfOk, nat_eq};
+ghost use Rattle.std.specs.List.{starts_with};
+ghost use Rattle.serde_json.specs.View.{members_view};
+ghost use Rattle.json_walk.specs.Places.{pointer};
+ghost use Rattle.agg_reading.specs.Outcome.{Gives};
+ghost use Rattle.agg_reading.specs.Fields.{field_at, is_beneath, is_in_context};
+ghost use Rattle.agg_reading.specs.Leaves.{field_in};
+ghost use Rattle.agg_reading.specs.Query.{nested_at, path_in};
+ghost use Rattle.agg_mapping.specs.Paths.{IsOrdered};
+
+use agg_mapping::lookup::{find_field, find_nested};
+use agg_model::mapping::{Field, Mapping, NestedPath};
+use agg_reading::fault::RequestFault;
+use json_walk::at::At;
+use json_walk::members::{required, text};
+use serde_json::{Map, Value};
+use std::alloc::Global;
+
+/// The field of this path and its place; a path that no field has is refused with 108 at `at`.
+#[tactic(auto, unfolding(agg_reading::specs::Fields::field_at))]
+pub fn field<'m>(
+    alloc: Global,
+    mapping: &'m Mapping,
+    at: &At<'_>,
+    path: &str,
+) -> Result<(u32, &'m Field), RequestFault>
+    requires { IsOrdered mapping.now }
+    ensures { Gives (λ f. (f.0, f.1.now)) result (field_at mapping.now (pointer at.now) path.now) }
+{
+    let Some((place, found)) = find_field(mapping, path.as_bytes()) else {
+        return at.refuse(alloc, 108);
+    };
+    Ok((place, found))
+}
+
+/// The field that the member `field` names, and its place. The object is refused with 102 where the member is absent,
+/// the member with 103 where it is no text and with 108 where no field has its path.
+#[tactic(auto, unfolding(agg_reading::specs::Leaves::field_in))]
+pub fn field_in<'m>(
+    alloc: Global,
+    mapping: &'m Mapping,
+    at: &At<'_>,
+    members: &Map<String, Value>,
+) -> Result<(u32, &'m Field), RequestFault>
+    requires { IsOrdered mapping.now }
+    ensures { Gives (λ f. (f.0, f.1.now)) result (field_in mapping.now (pointer at.now) (members_view members.now.entries)) }
+{
+    let value = required(alloc, at, members, "field")?;
+    let at = At::Member(at, "field");
+    let path = text(alloc, 103, &at, value)?;
+    field(alloc, mapping, &at, path)
+}
+
+/// Whether a path lies strictly beneath another: the other's names come first, then a dot.
+fn is_beneath(outer: &[u8], path: &[u8]) -> bool
+    ensures { result ≡ starts_with nat_eq path.now (outer.now ++ 46 ∷ []) }
+{
+    path.starts_with(outer) && path[outer.len()..].starts_with(b".")
+}
+
+/// Whether a path lies strictly beneath a context: 0 is the root, i + 1 the i-th nested path.
+#[tactic(auto, unfolding(agg_reading::specs::Fields::is_in_context))]
+fn is_in_context(mapping: &Mapping, context: u32, path: &str) -> bool
+    ensures { result ≡ is_in_context mapping.now.nested context path.now }
+{
+    if context == 0 {
+        return true;
+    }
+    match mapping.nested.get(context as usize - 1) {
+        Some(outer) => is_beneath(outer.path.as_str().as_bytes(), path.as_bytes()),
+        None => false,
+    }
+}
+
+/// The nested path of this name and its place; one that is not in the mapping, or not strictly beneath the context, is
+/// refused with 109 at `at`.
+#[tactic(auto, unfolding(agg_reading::specs::Query::nested_at))]
+pub fn nested<'m>(
+    alloc: Global,
+    mapping: &'m Mapping,
+    context: u32,
+    at: &At<'_>,
+    path: &str,
+) -> Result<(u32, &'m NestedPath), RequestFault>
+    requires { IsOrdered mapping.now }
+    ensures value { Gives (λ p. (p.0, p.1.now)) result (nested_at mapping.now context (pointer at.now) path.now) }
+    ensures few { IfOk result (λ p. p.0 < 1000) }
+{
+    if !is_in_context(mapping, context, path) {
+        return at.refuse(alloc, 109);
+    }
+    let Some((place, found)) = find_nested(mapping, path.as_bytes()) else {
+        return at.refuse(alloc, 109);
+    };
+    Ok((place, found))
+}
+
+/// The nested path that the member `path` names, and its place. The object is refused with 102 where the member is
+/// absent, the member with 103 where it is no text and with 109 where it names no nested path strictly beneath the
+/// context.
+#[tactic(auto, unfolding(agg_reading::specs::Query::path_in))]
+pub fn path_in<'m>(
+    alloc: Global,
+    mapping: &'m Mapping,
+    context: u32,
+    at: &At<'_>,
+    members: &Map<String, Value>,
+) -> Result<(u32, &'m NestedPath), RequestFault>
+    requires { IsOrdered mapping.now }
+    ensures value { Gives (λ p. (p.0, p.1.now)) result
+        (path_in mapping.now context (pointer at.now) (members_view members.now.entries)) }
+    ensures few { IfOk result (λ p. p.0 < 1000) }
+{
+    let value = required(alloc, at, members, "path")?;
+    let at = At::Member(at, "path");
+    let path = text(alloc, 103, &at, value)?;
+    nested(alloc, mapping, context, &at, path)
+}
