@@ -5,14 +5,13 @@ ghost use Rattle.serde_json.specs.View.{members_view};
 ghost use Rattle.json_walk.specs.Places.{pointer};
 ghost use Rattle.agg_reading.specs.Outcome.{Gives};
 ghost use Rattle.agg_reading.specs.Scalars.{is_whole_kind};
-ghost use Rattle.agg_reading.specs.Fields.{encloses};
+ghost use Rattle.agg_reading.specs.Fields.{is_beneath, encloses};
 ghost use Rattle.agg_reading.specs.Histogram.{whole_field_in};
 ghost use Rattle.agg_reading.specs.Metrics.{enclosing_at};
 ghost use Rattle.agg_mapping.specs.Paths.{IsOrdered};
 
-use agg_mapping::lookup::find_nested;
 use agg_model::mapping::{Field, FieldKind, Mapping};
-use agg_query::fields::{field_in, is_beneath};
+use agg_query::fields::{field_in, nested};
 use agg_reading::fault::RequestFault;
 use json_walk::at::At;
 use serde_json::{Map, Value};
@@ -47,6 +46,13 @@ pub fn whole_field_in<'m>(
     Ok((place, field))
 }
 
+/// Whether a path lies strictly beneath another: the other's names come first, then a dot.
+fn is_beneath(outer: &[u8], path: &[u8]) -> bool
+    ensures { result ≡ is_beneath outer.now path.now }
+{
+    path.starts_with(outer) && path[outer.len()..].starts_with(b".")
+}
+
 /// Whether a context is strictly beneath a path.
 #[tactic(auto, unfolding(agg_reading::specs::Fields::encloses))]
 fn encloses(mapping: &Mapping, path: &str, context: u32) -> bool
@@ -62,7 +68,7 @@ fn encloses(mapping: &Mapping, path: &str, context: u32) -> bool
 }
 
 /// The context of a nested path that strictly encloses this context; any other path is refused with 109 at `at`.
-#[tactic(auto, unfolding(agg_reading::specs::Metrics::enclosing_at))]
+#[tactic(auto, unfolding(agg_reading::specs::Metrics::enclosing_at, agg_reading::specs::Query::nested_at, agg_reading::specs::Fields::is_in_context))]
 pub fn enclosing(
     alloc: Global,
     mapping: &Mapping,
@@ -76,8 +82,6 @@ pub fn enclosing(
     if !encloses(mapping, path, context) {
         return at.refuse(alloc, 109);
     }
-    match find_nested(mapping, path.as_bytes()) {
-        Some((place, _)) => Ok(place + 1),
-        None => at.refuse(alloc, 109),
-    }
+    let (place, _) = nested(alloc, mapping, 0, at, path)?;
+    Ok(place + 1)
 }
