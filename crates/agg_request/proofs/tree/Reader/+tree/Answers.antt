@@ -1,0 +1,12 @@
+use Rattle.std.proofs.Common.{◌≡◌, ◌-◌, suc, arith}
+use Rattle.agg_request.proofs.Levels.{stopped, begun}
+use Rattle.agg_request.proofs.tree.Reader.+tree.Goals as goal
+
+pub aggregation-returns-then-left-eq0-clause-value : goal.aggregation-returns-then-left-eq0-clause-value
+aggregation-returns-then-left-eq0-clause-value t c =
+    rw (stopped c.args.left c.args.self.now.mapping.now c.args.top c.args.context c.args.name.now _ c.args.before _ c.then-left-eq0.either) c.refuse.ensures
+
+pub aggregation-returns-clause-value : goal.aggregation-returns-clause-value
+aggregation-returns-clause-value t c =
+    let left : c.args.left ≡ suc (c.args.left - 1) = omega arith in
+    rw (begun c.args.left (c.args.left - 1) c.args.self.now.mapping.now c.args.top c.args.context c.args.name.now _ c.args.before _ left c.if-before-ge-MAX_AGGREGATIONS.false) c.aggregation_of.ensures.value

@@ -1,0 +1,28 @@
+use Rattle.std.proofs.Common.{◌≡◌, ◌+◌, ◌*◌, ◌≤◌, [], length}
+use Rattle.serde_json.specs.View.{members_view}
+use Rattle.json_walk.specs.Places.{pointer}
+use Rattle.agg_reading.specs.Request.{aggregations_from, aggregation_at}
+use Rattle.agg_request.proofs.tree.Reader.+tree.Given as goal
+
+abbrev pub decreases-aggregation : goal.decreases-aggregation
+decreases-aggregation l = 5 * l.left
+
+abbrev pub decreases-all : goal.decreases-all
+decreases-all l = 5 * l.left + 1
+
+abbrev pub decreases-aggregations : goal.decreases-aggregations
+decreases-aggregations l = 5 * l.left + 2
+
+abbrev pub decreases-children_in : goal.decreases-children_in
+decreases-children_in l = 5 * l.left + 3
+
+abbrev pub decreases-aggregation_of : goal.decreases-aggregation_of
+decreases-aggregation_of l = 5 * l.left + 4
+
+abbrev pub invariant-all-loop-name : goal.invariant-all-loop-name
+invariant-all-loop-name l = record {
+  queries : l.counts.queries ≤ 1024;
+  aggregations : l.counts.aggregations ≤ 256;
+  added : l.fn.before.aggregations + length l.done ≤ l.counts.aggregations;
+  rest : aggregations_from (aggregation_at l.left l.self.mapping.now l.top) l.context (pointer l.at) l.done l.counts (members_view l.name-iterator) ≡ aggregations_from (aggregation_at l.left l.self.mapping.now l.top) l.context (pointer l.at) [] l.fn.before (members_view l.members.entries);
+}

@@ -1,0 +1,118 @@
+//! The body of a search ('Search API').
+
+ghost use Rattle.std.specs.Prelude.{◌≡◌, ◌≤◌, codes};
+ghost use Rattle.serde_json.specs.Find.{get_member};
+ghost use Rattle.serde_json.specs.View.{view, members_view};
+ghost use Rattle.agg_reading.specs.Outcome.{Gives};
+ghost use Rattle.agg_reading.specs.Request.{query_or_all, search_in, search_value_at, search_of};
+ghost use Rattle.agg_mapping.specs.Paths.{IsOrdered};
+
+use crate::parts::has_both;
+use crate::tree::aggregations_in;
+use agg_model::aggregation::Search;
+use agg_model::mapping::Mapping;
+use agg_model::query::Query;
+use agg_query::query::counted_query_at;
+use agg_reading::fault::RequestFault;
+use json_walk::at::At;
+use json_walk::bytes::json;
+use json_walk::members::{check_names, member, object};
+use serde_json::{Map, Value};
+use std::alloc::Global;
+
+/// The query of the search, where so many were begun before it; `match_all` where it is absent.
+fn query_or_all(
+    alloc: Global,
+    mapping: &Mapping,
+    before: u32,
+    members: &Map<String, Value>,
+) -> Result<Query, RequestFault>
+    requires ordered { IsOrdered mapping.now }
+    requires count { before ≤ 1024 }
+    ensures { Gives (λ q. q) result (query_or_all mapping.now before (get_member (codes "query") (members_view members.now.entries))) }
+{
+    match member(members, "query") {
+        None => Ok(Query::All),
+        Some(value) => {
+            let at = At::Start("");
+            let at = At::Member(&at, "query");
+            let (query, _) = counted_query_at(alloc, mapping, 0, before, &at, value)?;
+            Ok(query)
+        }
+    }
+}
+
+/// The search of the members, whose body has so many bytes.
+#[tactic(auto, unfolding(agg_reading::specs::Request::search_in))]
+fn search_in(
+    alloc: Global,
+    mapping: &Mapping,
+    body_bytes: u64,
+    members: &Map<String, Value>,
+) -> Result<Search, RequestFault>
+    requires { IsOrdered mapping.now }
+    ensures { Gives (λ s. s) result (search_in mapping.now body_bytes (members_view members.now.entries)) }
+{
+    let (aggs, counts) = aggregations_in(alloc, mapping, &At::Start(""), members)?;
+    let query = query_or_all(alloc, mapping, counts.queries, members)?;
+    Ok(Search {
+        query,
+        aggs,
+        body_bytes,
+    })
+}
+
+/// The search that a value is.
+#[tactic(auto, unfolding(agg_reading::specs::Request::search_value_at))]
+fn search_value(
+    alloc: Global,
+    mapping: &Mapping,
+    body_bytes: u64,
+    value: &Value,
+) -> Result<Search, RequestFault>
+    requires { IsOrdered mapping.now }
+    ensures { Gives (λ s. s) result (search_value_at mapping.now body_bytes (view value.now)) }
+{
+    let at = At::Start("");
+    let members = object(alloc, 100, &at, value)?;
+    if has_both(members) {
+        return at.refuse(alloc, 107);
+    }
+    check_names(
+        alloc,
+        101,
+        &at,
+        members,
+        &[
+            "_source",
+            "aggregations",
+            "aggs",
+            "docvalue_fields",
+            "explain",
+            "fields",
+            "from",
+            "query",
+            "seq_no_primary_term",
+            "size",
+            "sort",
+            "stored_fields",
+            "timeout",
+            "track_scores",
+            "track_total_hits",
+            "version",
+        ],
+    )?;
+    search_in(alloc, mapping, body_bytes, members)
+}
+
+/// The search that the bytes of a body are: `aggs` or `aggregations`, and `query`. Bytes that `serde_json` does not read
+/// are `NotJson`. Else the first thing in the walk that breaks a rule is refused with its number, 100 to 113, and its
+/// pointer.
+#[tactic(auto, unfolding(agg_reading::specs::Request::search_of))]
+pub fn search_of(alloc: Global, body: &[u8], mapping: &Mapping) -> Result<Search, RequestFault>
+    requires { IsOrdered mapping.now }
+    ensures { Gives (λ s. s) result (search_of mapping.now body.now) }
+{
+    let value = json(alloc, body)?;
+    search_value(alloc, mapping, body.len() as u64, &value)
+}

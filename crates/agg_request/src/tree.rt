@@ -1,0 +1,236 @@
+//! Aggregations and those below them.
+
+ghost use Rattle.std.specs.Prelude.{◌≡◌, ◌≤◌, ◌<◌, ◌+◌, [], IfOk, true, false, length};
+ghost use Rattle.serde_json.specs.View.{view, members_view};
+ghost use Rattle.json_walk.specs.Places.{pointer};
+ghost use Rattle.agg_reading.specs.Outcome.{Gives};
+ghost use Rattle.agg_reading.specs.Request.{aggregations_from, aggregations_at, children_in, aggregation_of, aggregation_at, no_counts};
+ghost use Rattle.agg_mapping.specs.Paths.{IsOrdered};
+
+use crate::names::is_aggregation_name;
+use crate::parts::{assembled, children_name, kind_member};
+use agg_model::aggregation::Agg;
+use agg_model::list::List;
+use agg_model::mapping::Mapping;
+use agg_reading::fault::RequestFault;
+use agg_reading::parts::Counts;
+use aggregation_kinds::kind::{kind_at, kind_name};
+use json_walk::at::At;
+use json_walk::members::{member, object};
+use serde_json::{Map, Value};
+use std::alloc::Global;
+
+/// At most so many aggregations in a search.
+const MAX_AGGREGATIONS: u32 = 256;
+
+/// So many levels of aggregations may nest.
+const MAX_LEVELS: u32 = 16;
+
+/// What the walk of aggregations always has in hand.
+#[derive(Drop)]
+struct Reader<'m> {
+    alloc: Global,
+    mapping: &'m Mapping,
+}
+
+impl Reader<'_> {
+    /// The aggregations of the members, over rows of this context, and the counts after them.
+    #[cycle(tree)]
+    #[tactic(auto, unfolding(agg_reading::specs::Request::aggregations_from))]
+    fn all(
+        &self,
+        left: u32,
+        top: bool,
+        context: u32,
+        at: &At<'_>,
+        before: Counts,
+        members: &Map<String, Value>,
+    ) -> Result<(List<Agg>, Counts), RequestFault>
+        requires ordered { IsOrdered self.now.mapping.now }
+        requires queries { before.queries ≤ 1024 }
+        requires aggregations { before.aggregations ≤ 256 }
+        ensures value { Gives (λ x. x) result
+            (aggregations_from (aggregation_at left self.now.mapping.now top) context (pointer at.now) [] before (members_view members.now.entries)) }
+        ensures queries { IfOk result (λ x. x.1.queries ≤ 1024) }
+        ensures aggregations { IfOk result (λ x. x.1.aggregations ≤ 256) }
+        ensures added { IfOk result (λ x. before.aggregations + length x.0 ≤ x.1.aggregations) }
+    {
+        let mut done = List::new(self.alloc);
+        let mut counts = before;
+        for (name, value) in members {
+            let at = At::Member(&*at, name.as_str());
+            if !is_aggregation_name(name.as_str()) {
+                return at.refuse(self.alloc, 112);
+            }
+            let (agg, after) = self.aggregation(
+                left,
+                top,
+                context,
+                name.as_str(),
+                &at,
+                counts,
+                value,
+            )?;
+            done.push(agg)?;
+            counts = after;
+        }
+        Ok((done, counts))
+    }
+
+    /// The aggregations of an object.
+    #[cycle(tree)]
+    #[tactic(auto, unfolding(agg_reading::specs::Request::aggregations_at))]
+    fn aggregations(
+        &self,
+        left: u32,
+        top: bool,
+        context: u32,
+        at: &At<'_>,
+        before: Counts,
+        value: &Value,
+    ) -> Result<(List<Agg>, Counts), RequestFault>
+        requires ordered { IsOrdered self.now.mapping.now }
+        requires queries { before.queries ≤ 1024 }
+        requires aggregations { before.aggregations ≤ 256 }
+        ensures value { Gives (λ x. x) result
+            (aggregations_at (aggregation_at left self.now.mapping.now top) context (pointer at.now) before (view value.now)) }
+        ensures queries { IfOk result (λ x. x.1.queries ≤ 1024) }
+        ensures aggregations { IfOk result (λ x. x.1.aggregations ≤ 256) }
+        ensures added { IfOk result (λ x. before.aggregations + length x.0 ≤ x.1.aggregations) }
+    {
+        let members = object(self.alloc, 103, &*at, value)?;
+        self.all(left, top, context, &*at, before, members)
+    }
+
+    /// The aggregations of the member `aggs` or `aggregations`; none where it is absent.
+    #[cycle(tree)]
+    #[tactic(auto, unfolding(agg_reading::specs::Request::children_in))]
+    fn children_in(
+        &self,
+        left: u32,
+        top: bool,
+        context: u32,
+        at: &At<'_>,
+        before: Counts,
+        members: &Map<String, Value>,
+    ) -> Result<(List<Agg>, Counts), RequestFault>
+        requires ordered { IsOrdered self.now.mapping.now }
+        requires queries { before.queries ≤ 1024 }
+        requires aggregations { before.aggregations ≤ 256 }
+        ensures value { Gives (λ x. x) result
+            (children_in (aggregation_at left self.now.mapping.now top) context (pointer at.now) before (members_view members.now.entries)) }
+        ensures queries { IfOk result (λ x. x.1.queries ≤ 1024) }
+        ensures aggregations { IfOk result (λ x. x.1.aggregations ≤ 256) }
+        ensures added { IfOk result (λ x. before.aggregations + length x.0 ≤ x.1.aggregations) }
+    {
+        let name = children_name(members);
+        match member(members, name) {
+            None => Ok((List::new(self.alloc), before)),
+            Some(value) => {
+                let at = At::Member(&*at, name);
+                self.aggregations(left, top, context, &at, before, value)
+            }
+        }
+    }
+
+    /// An aggregation within its limits: the kind, then the children, where so many levels may nest below.
+    #[cycle(tree)]
+    #[tactic(auto, unfolding(agg_reading::specs::Request::aggregation_of))]
+    fn aggregation_of(
+        &self,
+        left: u32,
+        top: bool,
+        context: u32,
+        name: &str,
+        at: &At<'_>,
+        before: Counts,
+        value: &Value,
+    ) -> Result<(Agg, Counts), RequestFault>
+        requires ordered { IsOrdered self.now.mapping.now }
+        requires queries { before.queries ≤ 1024 }
+        requires aggregations { before.aggregations < 256 }
+        ensures value { Gives (λ x. x) result
+            (aggregation_of (aggregation_at left self.now.mapping.now false) self.now.mapping.now top context name.now (pointer at.now) before (view value.now)) }
+        ensures queries { IfOk result (λ x. x.1.queries ≤ 1024) }
+        ensures aggregations { IfOk result (λ x. x.1.aggregations ≤ 256) }
+        ensures added { IfOk result (λ x. before.aggregations < x.1.aggregations) }
+    {
+        let members = object(self.alloc, 103, &*at, value)?;
+        let (said, inner) = kind_member(self.alloc, &*at, members)?;
+        let place = At::Member(&*at, said);
+        let Some(kind) = kind_name(said) else {
+            return place.refuse(self.alloc, 106);
+        };
+        let found = kind_at(
+            self.alloc,
+            kind,
+            self.mapping,
+            context,
+            before.queries,
+            &place,
+            inner,
+        )?;
+        let counts = Counts {
+            queries: found.queries,
+            aggregations: before.aggregations + 1,
+        };
+        let (children, counts) = self.children_in(
+            left,
+            false,
+            found.within,
+            &*at,
+            counts,
+            members,
+        )?;
+        assembled(
+            self.alloc, top, kind, name, &*at, members, found, children, counts,
+        )
+    }
+
+    /// An aggregation, where so many levels may still nest. One too deep or too many is refused with 111.
+    #[cycle(tree)]
+    fn aggregation(
+        &self,
+        left: u32,
+        top: bool,
+        context: u32,
+        name: &str,
+        at: &At<'_>,
+        before: Counts,
+        value: &Value,
+    ) -> Result<(Agg, Counts), RequestFault>
+        requires ordered { IsOrdered self.now.mapping.now }
+        requires queries { before.queries ≤ 1024 }
+        requires aggregations { before.aggregations ≤ 256 }
+        ensures value { Gives (λ x. x) result
+            (aggregation_at left self.now.mapping.now top context name.now (pointer at.now) before (view value.now)) }
+        ensures queries { IfOk result (λ x. x.1.queries ≤ 1024) }
+        ensures aggregations { IfOk result (λ x. x.1.aggregations ≤ 256) }
+        ensures added { IfOk result (λ x. before.aggregations < x.1.aggregations) }
+    {
+        if left == 0 || MAX_AGGREGATIONS <= before.aggregations {
+            return at.refuse(self.alloc, 111);
+        }
+        self.aggregation_of(left - 1, top, context, name, &*at, before, value)
+    }
+}
+
+/// The aggregations of a search, at most 256, nested at most 16 deep, and how many queries and aggregations were begun.
+pub fn aggregations_in(
+    alloc: Global,
+    mapping: &Mapping,
+    at: &At<'_>,
+    members: &Map<String, Value>,
+) -> Result<(List<Agg>, Counts), RequestFault>
+    requires { IsOrdered mapping.now }
+    ensures value { Gives (λ x. x) result
+        (children_in (aggregation_at 16 mapping.now true) 0 (pointer at.now) no_counts (members_view members.now.entries)) }
+    ensures queries { IfOk result (λ x. x.1.queries ≤ 1024) }
+{
+    let reader = Reader { alloc, mapping };
+    let none = Counts {
+        queries: 0,
+        aggregations: 0,
+    };
+    reader.children_in(MAX_LEVELS, true, 0, at, none, members)
+}

@@ -1,0 +1,29 @@
+//! Names of filters and sources, which aggregations too are held to.
+
+ghost use Rattle.std.specs.Prelude.{◌≡◌};
+ghost use Rattle.json_walk.specs.Places.{pointer};
+ghost use Rattle.agg_reading.specs.Outcome.{Gives};
+ghost use Rattle.agg_reading.specs.Filters.{is_name, name_at};
+
+use agg_reading::fault::RequestFault;
+use json_walk::at::At;
+use std::alloc::Global;
+
+/// Whether a name has 1 to 512 bytes.
+pub fn is_name(name: &str) -> bool
+    ensures { result ≡ is_name name.now }
+{
+    0 < name.len() && name.len() <= 512
+}
+
+/// Refuses, with 112 at `at`, a name that does not have 1 to 512 bytes.
+#[tactic(auto, unfolding(agg_reading::specs::Filters::name_at))]
+pub fn check_name(alloc: Global, at: &At<'_>, name: &str) -> Result<(), RequestFault>
+    ensures { Gives (λ u. u) result (name_at (pointer at.now) name.now) }
+{
+    if is_name(name) {
+        Ok(())
+    } else {
+        at.refuse(alloc, 112)
+    }
+}
