@@ -17,7 +17,8 @@ use std::alloc::Global;
 ///
 /// The first refusal in the walk of the source counts: 20 for what is no JSON object, 21 for a wrong type, 22 for a number
 /// out of range, 23 for a keyword above 32,766 bytes, 24 for more than 10,000 nested objects, 25 for more than 1,024 values
-/// of a field in a row, 27 for a name that a strict mapping lacks.
+/// of a field in a row, 27 for a name that a strict mapping lacks. JSON is that of RFC 8259. `Memory` may come in the
+/// place of any of them.
 pub fn document_of(
     alloc: Global,
     mapping: &Mapping,
