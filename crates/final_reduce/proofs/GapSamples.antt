@@ -20,7 +20,7 @@ use Rattle.agg_evaluation.specs.Trees.{is_ascending, have_children, pass_each, i
 use Rattle.agg_evaluation.specs.Whole.{by_key, parts_at}
 use Rattle.agg_evaluation.proofs.NodeForms.{out-Keyed}
 use Rattle.final_reduce.specs.Finishable.{is_finishable, is_finishable_at, is_histogram_key, has_interval, has_intervals, fits_at}
-use Rattle.final_reduce.specs.SampleGaps.{counted_bucket, rises, IsHistogram}
+use Rattle.final_reduce.specs.SampleGaps.{counted_bucket, no_bounds, rises, IsHistogram}
 use Rattle.final_reduce.proofs.AggLaws.{fold_agg-level}
 use Rattle.final_reduce.proofs.Filled.{whole_cmp}
 use Rattle.final_reduce.proofs.FinishableLaws.{is_finishable-level}
@@ -44,25 +44,25 @@ no_children : (ps : List (ℤ × ℕ)) → have_children [] (map counted_bucket 
 no_children [] = refl
 no_children (p ∷ ps) = no_children ps
 
-module _ (interval offset : ℕ) (extended hard : Bounds) (positive : 0 < interval) (agg : Agg) where
-  pub has-interval : (children : List Agg) → IsHistogram interval offset extended hard children (out-Agg agg) → list_all has_intervals children ≡ true → has_intervals agg ≡ true
+module _ (interval offset : ℕ) (extended : Bounds) (positive : 0 < interval) (agg : Agg) where
+  pub has-interval : (children : List Agg) → IsHistogram interval offset extended children (out-Agg agg) → list_all has_intervals children ≡ true → has_intervals agg ≡ true
   has-interval children is have =
       fold_agg-level (λ a. has_interval a.kind && list_all (λ has. has) a.children) agg
       ∙ and_from _ _ (ap has_interval is.0 ∙ lt-ltb _ _ positive) (list_all-map (λ has. has) has_intervals (out-Agg agg).children ∙ ap (list_all has_intervals) is.1 ∙ have)
 
   -- with these keys
-  pub keys-finishable : (ps : List (ℤ × ℕ)) → IsHistogram interval offset extended hard [] (out-Agg agg) → rises ps ≡ true → list_all (λ p. is_histogram_key interval offset hard (Whole p.0)) ps ≡ true
+  pub keys-finishable : (ps : List (ℤ × ℕ)) → IsHistogram interval offset extended [] (out-Agg agg) → rises ps ≡ true → list_all (λ p. is_histogram_key interval offset no_bounds (Whole p.0)) ps ≡ true
       → is_finishable agg (Keyed (map counted_bucket ps) 0 0 0) ≡ true
   keys-finishable ps is up made =
       let bs = map counted_bucket ps in
       is_finishable-level agg (Keyed bs 0 0 0)
       ∙ (λ i. is_finishable_at (map is_finishable (is.1 i)) (is.0 i) (Keyed bs 0 0 0))
-      ∙ ap (λ l. is_tree_at [] (fixed_keys (kind.Histogram 0 interval offset 0 extended hard false [] None)) by_key l && fits_at (kind.Histogram 0 interval offset 0 extended hard false [] None) (parts_at l)) (out-Keyed bs 0 0 0)
-      ∙ and_from _ _ (and_from _ _ (ascending ps up) (no_children ps)) (list_all-map (λ (b : Bucket). is_histogram_key interval offset hard (bucket_key b)) counted_bucket ps ∙ made)
+      ∙ ap (λ l. is_tree_at [] (fixed_keys (kind.Histogram 0 interval offset 0 extended no_bounds false [] None)) by_key l && fits_at (kind.Histogram 0 interval offset 0 extended no_bounds false [] None) (parts_at l)) (out-Keyed bs 0 0 0)
+      ∙ and_from _ _ (and_from _ _ (ascending ps up) (no_children ps)) (list_all-map (λ (b : Bucket). is_histogram_key interval offset no_bounds (bucket_key b)) counted_bucket ps ∙ made)
 
   -- with no bucket
-  pub nothing-finishable : (children : List Agg) → IsHistogram interval offset extended hard children (out-Agg agg) → is_finishable agg (Keyed [] 0 0 0) ≡ true
+  pub nothing-finishable : (children : List Agg) → IsHistogram interval offset extended children (out-Agg agg) → is_finishable agg (Keyed [] 0 0 0) ≡ true
   nothing-finishable children is =
       is_finishable-level agg (Keyed [] 0 0 0)
       ∙ ap (λ k. is_finishable_at (map is_finishable (out-Agg agg).children) k (Keyed [] 0 0 0)) is.0
-      ∙ ap (λ l. is_tree_at (map is_finishable (out-Agg agg).children) (fixed_keys (kind.Histogram 0 interval offset 0 extended hard false [] None)) by_key l && fits_at (kind.Histogram 0 interval offset 0 extended hard false [] None) (parts_at l)) (out-Keyed [] 0 0 0)
+      ∙ ap (λ l. is_tree_at (map is_finishable (out-Agg agg).children) (fixed_keys (kind.Histogram 0 interval offset 0 extended no_bounds false [] None)) by_key l && fits_at (kind.Histogram 0 interval offset 0 extended no_bounds false [] None) (parts_at l)) (out-Keyed [] 0 0 0)

@@ -1,5 +1,5 @@
 -- The samples of the tests can be finished.
-use Rattle.std.specs.Prelude.{◌≡◌, refl, ℕ, ◌+◌, ◌<◌, ◌≤◌, ◌^◌, nat_lt, nat_le, ◌&&◌, true, [], ◌∷◌, codes, map}
+use Rattle.std.specs.Prelude.{◌≡◌, refl, ℕ, ◌+◌, ◌<◌, ◌≤◌, ◌^◌, nat_lt, nat_le, ◌&&◌, true, List, [], ◌∷◌, codes, map}
 use Rattle.std.proofs.Common.{◌∙◌, ap, arith}
 use Rattle.std.proofs.lemmas.Bool.{and_from, lt-ltb, le-leb}
 use Rattle.agg_model.specs.declared.partial.Node.{Node}
@@ -8,9 +8,25 @@ use Rattle.agg_model.specs.declared.aggregation.Kind.{Kind}
 use Rattle.agg_model.specs.declared.aggregation.Kind.TheVariants as kind
 use Rattle.agg_model.specs.declared.aggregation.Agg.{Agg, out-Agg}
 use Rattle.agg_evaluation.proofs.Computing.{computing}
-use Rattle.final_reduce.specs.Finishable.{is_finishable, is_finishable_at}
+use Rattle.agg_evaluation.specs.Trees.{pass_each}
+use Rattle.std.specs.List.{list_all}
+use Rattle.final_reduce.specs.Finishable.{has_interval, has_intervals, is_finishable, is_finishable_at}
 use Rattle.final_reduce.specs.SampleTerms.{IsTermsAlone, IsTermsKind, returned_bucket}
+use Rattle.final_reduce.proofs.AggLaws.{fold_agg-level}
 use Rattle.final_reduce.proofs.FinishableLaws.{is_finishable-level}
+
+-- a search for one aggregation
+pub one_can_finish : (aggs : List Agg) (nodes : List Node) (agg : Agg) (node : Node) → aggs ≡ agg ∷ [] → nodes ≡ node ∷ [] → has_intervals agg ≡ true → is_finishable agg node ≡ true
+    → (list_all has_intervals aggs && pass_each (map is_finishable aggs) nodes) ≡ true
+one_can_finish aggs nodes agg node is_agg is_node have finishable =
+    (λ i. list_all has_intervals (is_agg i) && pass_each (map is_finishable (is_agg i)) (is_node i))
+    ∙ and_from (list_all has_intervals (agg ∷ [])) _ (and_from (has_intervals agg) _ have refl) (and_from (is_finishable agg node) _ finishable refl)
+
+-- an aggregation with none below it
+pub alone_has_intervals : (agg : Agg) → has_interval (out-Agg agg).kind ≡ true → (out-Agg agg).children ≡ [] → has_intervals agg ≡ true
+alone_has_intervals agg have alone =
+    fold_agg-level (λ a. has_interval a.kind && list_all (λ has. has) a.children) agg
+    ∙ and_from (has_interval (out-Agg agg).kind) _ have (ap (λ children. list_all (λ has. has) (map has_intervals children)) alone)
 
 abbrev sample : ℕ → ℕ → ℕ → ℕ → ℕ → Node
 sample ca va cb vb cut = Keyed (returned_bucket (codes "a") ca va ∷ returned_bucket (codes "b") cb vb ∷ []) (va + vb) 2 cut

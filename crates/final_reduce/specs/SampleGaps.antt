@@ -15,5 +15,8 @@ abbrev pub rises : List (ℤ × ℕ) → Bool
 rises [] = true
 rises (p ∷ ps) = list_all (λ later. int_lt p.0 later.0) ps && rises ps
 
-abbrev pub IsHistogram : ℕ → ℕ → Bounds → Bounds → List Agg → Agg-F Agg → Type 0
-IsHistogram interval offset extended hard children a = (a.kind ≡ kind.Histogram 0 interval offset 0 extended hard false [] None) × (a.children ≡ children)
+abbrev pub no_bounds : Bounds
+no_bounds = record { min = None; max = None }
+
+abbrev pub IsHistogram : ℕ → ℕ → Bounds → List Agg → Agg-F Agg → Type 0
+IsHistogram interval offset extended children a = (a.kind ≡ kind.Histogram 0 interval offset 0 extended no_bounds false [] None) × (a.children ≡ children)

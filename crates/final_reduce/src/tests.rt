@@ -2,7 +2,7 @@ ghost use Rattle.std.specs.Prelude.{◌≡◌, ◌+◌, ◌∷◌, [], IfOk, IsT
 ghost use Rattle.agg_model.specs.declared.key.Key.TheVariants.{Word};
 ghost use Rattle.agg_model.specs.declared.aggregation.Agg.{out-Agg};
 ghost use Rattle.agg_model.specs.declared.partial.Node.TheVariants.{Keyed};
-ghost use Rattle.final_reduce.specs.Finishable.{can_finish};
+ghost use Rattle.final_reduce.specs.Finishable.{can_finish, has_interval, has_intervals, is_finishable};
 ghost use Rattle.final_reduce.specs.SampleTerms.{IsTermsAlone, returned_bucket};
 
 use crate::finish::finish;
@@ -18,17 +18,36 @@ use std::test::Fail;
 
 /// A search and the whole of its shard answers.
 #[derive(Drop)]
-struct Sample {
-    search: Search,
-    whole: Partial,
+pub(crate) struct Sample {
+    pub(crate) search: Search,
+    pub(crate) whole: Partial,
 }
 
-fn one<T: Drop>(alloc: Global, item: T) -> Result<List<T>, AllocError>
+pub(crate) fn one<T: Drop>(alloc: Global, item: T) -> Result<List<T>, AllocError>
     ensures { IfOk result (λ items. items ≡ item ∷ []) }
 {
     let mut items = List::new(alloc);
     items.push(item)?;
     Ok(items)
+}
+
+/// A search for one aggregation, of which the whole has this node.
+pub(crate) fn of_one(alloc: Global, agg: Agg, node: Node) -> Result<Sample, AllocError>
+    requires intervals { IsTrue (has_intervals agg) }
+    requires node { IsTrue (is_finishable agg node) }
+    ensures { IfOk result (λ sample. IsTrue (can_finish sample.search sample.whole)) }
+{
+    Ok(Sample {
+        search: Search {
+            query: Query::All,
+            aggs: one(alloc, agg)?,
+            body_bytes: 0,
+        },
+        whole: Partial {
+            hits: 9,
+            nodes: one(alloc, node)?,
+        },
+    })
 }
 
 fn bucket(alloc: Global, word: &str, count: u32, covered: u32) -> Result<Bucket, AllocError>
@@ -65,7 +84,8 @@ fn both(
 }
 
 fn first_term(alloc: Global, order: Order) -> Result<Agg, AllocError>
-    ensures { IfOk result (λ agg. IsTermsAlone (out-Agg agg)) }
+    ensures terms { IfOk result (λ agg. IsTermsAlone (out-Agg agg)) }
+    ensures interval { IfOk result (λ agg. IsTrue (has_interval (out-Agg agg).kind)) }
 {
     Ok(Agg {
         name: Text::of(alloc, "t")?,
@@ -95,17 +115,9 @@ fn sample_of(
 ) -> Result<Sample, AllocError>
     ensures { IfOk result (λ sample. IsTrue (can_finish sample.search sample.whole)) }
 {
-    Ok(Sample {
-        search: Search {
-            query: Query::All,
-            aggs: one(alloc, first_term(alloc, order)?)?,
-            body_bytes: 0,
-        },
-        whole: Partial {
-            hits: 9,
-            nodes: one(alloc, both(alloc, a, a_covered, b, b_covered, cut)?)?,
-        },
-    })
+    let agg = first_term(alloc, order)?;
+    let node = both(alloc, a, a_covered, b, b_covered, cut)?;
+    of_one(alloc, agg, node)
 }
 
 /// Whether the answer has this one term, with these errors and this number of other documents.
