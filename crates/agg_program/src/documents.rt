@@ -13,12 +13,12 @@ use crate::reading::{is_empty_line, not_built_here, take_line};
 use crate::stop::Stop;
 use agg_base::lines::Lines;
 use agg_base::source::Source;
-use keyword_documents::document::ItemFault;
-use keyword_documents::store::Store;
 use agg_model::bulk::{Action, ActionKind};
 use agg_model::bytes::Bytes;
 use agg_model::copying::Copying;
 use agg_model::text::Text;
+use keyword_documents::document::ItemFault;
+use keyword_documents::store::Store;
 use std::alloc::{AllocError, Global};
 
 /// The one index that is built so far.

@@ -1,6 +1,8 @@
 //! Each read and each write of a run fails, one after another.
 
-use super::{FailedCalls, INDEX, ONE_ANSWER, ONE_BODY, answered, are_first_lines, is_front, joined};
+use super::{
+    FailedCalls, INDEX, ONE_ANSWER, ONE_BODY, answered, are_first_lines, is_front, joined,
+};
 use std::alloc::Global;
 use std::process::Abort;
 use std::test::Fail;
@@ -81,9 +83,15 @@ fn no_fault_is_swallowed(rt: HostRuntime) -> Result<(), Fail> {
             let reads = input.len().div_ceil(piece) as u64;
             let writes = case.output.len().div_ceil(piece) as u64;
             let failed = failed_reads(&rt, rt.alloc(), case, piece)?;
-            assert!(rt; reads < failed && failed < MANY, "{failed} of reads of {piece}");
+            assert!(rt;
+                reads < failed && failed < MANY,
+                "{failed} of reads of {piece}"
+            );
             let failed = failed_writes(&rt, rt.alloc(), case, piece)?;
-            assert!(rt; writes <= failed && failed < MANY, "{failed} of writes of {piece}");
+            assert!(rt;
+                writes <= failed && failed < MANY,
+                "{failed} of writes of {piece}"
+            );
         }
     }
     Ok(())

@@ -15,7 +15,9 @@ const EMPTY_ANSWER: &str =
 
 /// Lines, and behind them the refusal at a line.
 fn refused_after(alloc: Global, before: &str, line: u64) -> Result<Bytes, AllocError> {
-    let refusal = format!(in alloc; "{{\"error\":{{\"line\":{line},\"number\":29,\"type\":\"not_built\"}},\"status\":5}}\n")?;
+    let refusal = format!(in alloc;
+        "{{\"error\":{{\"line\":{line},\"number\":29,\"type\":\"not_built\"}},\"status\":5}}\n"
+    )?;
     joined(alloc, before, refusal.as_str())
 }
 
@@ -30,7 +32,10 @@ fn refuses(
     let (status, written) = answered(alloc, input, 100, NO_FAULT)?;
     let wanted = refused_after(alloc, before, line)?;
     assert_eq!(rt; status, 5);
-    assert!(rt; written.as_slice() == wanted.as_slice(), "not refused at {line}");
+    assert!(rt;
+        written.as_slice() == wanted.as_slice(),
+        "not refused at {line}"
+    );
     Ok(())
 }
 
@@ -125,7 +130,13 @@ fn the_first_line_of_another_form_is_refused(rt: HostRuntime) -> Result<(), Fail
         ),
     ];
     for (rest, before, line) in rows {
-        refuses(&rt, rt.alloc(), joined(rt.alloc(), INDEX, rest)?, before, line)?;
+        refuses(
+            &rt,
+            rt.alloc(),
+            joined(rt.alloc(), INDEX, rest)?,
+            before,
+            line,
+        )?;
     }
     Ok(())
 }
@@ -152,13 +163,23 @@ fn the_longest_keyword_line_and_name_are_answered(rt: HostRuntime) -> Result<(),
     let body_end = "\":{\"terms\":{\"field\":\"t\"}}}}\n";
     let one_item =
         "{\"errors\":false,\"items\":[{\"index\":{\"_id\":\"_auto_0\",\"_index\":\"i\",\"result\":\"created\",\"status\":201}}],\"took\":0}\n";
-    let refused_at_4 = "{\"error\":{\"line\":4,\"number\":29,\"type\":\"not_built\"},\"status\":5}\n";
-    let named = "{\"errors\":false,\"items\":[],\"took\":0}\n{\"_shards\":{\"failed\":0,\"skipped\":0,\"successful\":1,\"total\":1},\"aggregations\":{\"tttt";
+    let refused_at_4 =
+        "{\"error\":{\"line\":4,\"number\":29,\"type\":\"not_built\"},\"status\":5}\n";
+    let named =
+        "{\"errors\":false,\"items\":[],\"took\":0}\n{\"_shards\":{\"failed\":0,\"skipped\":0,\"successful\":1,\"total\":1},\"aggregations\":{\"tttt";
     let refused_at_5 =
         "{\"errors\":false,\"items\":[],\"took\":0}\n{\"error\":{\"line\":5,\"number\":29,\"type\":\"not_built\"},\"status\":5}\n";
     // The front, the byte and how often, the back, and then the status, a front of the output, and its length.
     let rows = [
-        (keyword, b'a', 32_766usize, "\"}\n\n", 0u8, one_item, 109usize),
+        (
+            keyword,
+            b'a',
+            32_766usize,
+            "\"}\n\n",
+            0u8,
+            one_item,
+            109usize,
+        ),
         (keyword, b'a', 32_767, "\"}\n\n", 5, refused_at_4, 63),
         (blanks, b' ', 1_048_567, "\n\n", 0, one_item, 109),
         (blanks, b' ', 1_048_568, "\n\n", 5, refused_at_4, 63),
