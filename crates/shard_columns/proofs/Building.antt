@@ -1,11 +1,10 @@
 -- A shard from its rows: the words of each row are in the dictionaries, and entries with their values are the rows.
-use Rattle.std.proofs.Common.{Bool, true, false, cond, eqb, T, zero, suc, ◌≡◌, refl, ℕ, ◌+◌, ◌<◌, ◌≤◌, List, [], ◌∷◌, ◌++◌, map, length, get_or, take, sym, ◌∙◌, ap, subst, arith, length-append, append_assoc, Contains, filter, ◌==◌, inl, inr}
-use Rattle.std.proofs.lemmas.List.{append-nil, map-append, get_or_past, length-map, get_or-map, take_more, length-take}
+use Rattle.std.proofs.Common.{Bool, true, false, cond, eqb, T, ◌≡◌, refl, ℕ, ◌+◌, ◌<◌, ◌≤◌, List, [], ◌∷◌, ◌++◌, map, length, get_or, sym, ◌∙◌, ap, subst, arith, append_assoc, Contains, inl, inr}
+use Rattle.std.proofs.lemmas.List.{append-nil, map-append, get_or_past, length-map, get_or-map}
 use Rattle.std.proofs.lemmas.Bool.{cases_lt}
 use Rattle.std.specs.Prelude.{sum, sum_by}
 use Rattle.std.proofs.lemmas.List.Sums.{sum-map, sum_by-cons, sum_by-append}
 use Rattle.std.proofs.Math.Facts.{eqb_yes}
-use Rattle.std.proofs.Math.Seq.{get_or-append_seam}
 use Rattle.std.specs.List.{zip}
 use Rattle.agg_model.specs.declared.row.FieldValues.{FieldValues}
 use Rattle.agg_evaluation.specs.Rows.{PlacedRow}

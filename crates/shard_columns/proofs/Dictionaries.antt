@@ -1,10 +1,10 @@
 -- The dictionary of a field: the distinct words of its values, ascending.
-use Rattle.std.proofs.Common.{◌≡◌, ◌≢◌, refl, ℕ, ◌+◌, ◌<◌, ◌≤◌, zero, suc, true, false, Bool, T, cond, eqb, eq-eqb, List, [], ◌∷◌, ◌++◌, Option, Some, None, length, get_or, map, find, flat_map, filter, unwrap_or, option_map, sym, ◌∙◌, ap, subst, arith, Contains, inl, inr, length-append, append_assoc}
-use Rattle.std.specs.Prelude.{◌||◌, ◌&&◌, sum}
-use Rattle.std.specs.List.{list_any, list_all, AllByRecursion}
+use Rattle.std.proofs.Common.{◌≡◌, ◌≢◌, refl, ℕ, ◌+◌, ◌<◌, zero, suc, true, false, Bool, T, cond, eqb, List, [], ◌∷◌, ◌++◌, Some, length, get_or, map, find, flat_map, unwrap_or, option_map, sym, ◌∙◌, ap, subst, arith, Contains, inl, inr}
+use Rattle.std.specs.Prelude.{◌||◌, sum}
+use Rattle.std.specs.List.{list_all, AllByRecursion}
 use Rattle.std.specs.declared.cmp.Ordering.{Ordering}
 use Rattle.std.specs.declared.cmp.Ordering.TheVariants.{Less, Equal, Greater}
-use Rattle.std.specs.Ordering.{nat_cmp, is_lt, is_eq, match_ordering}
+use Rattle.std.specs.Ordering.{nat_cmp, is_lt, match_ordering}
 use Rattle.std.specs.Cmp.Lexicographic.{slice_cmp}
 use Rattle.std.specs.List.Sorted.{IsStrictlySortedBy, IsStrictlyIncreasing}
 use Rattle.std.proofs.lemmas.List.{append-nil, get_or_past}
@@ -24,14 +24,14 @@ use Rattle.agg_evaluation.specs.Rows.{PlacedRow, values_of}
 use Rattle.agg_evaluation.specs.Sorting.{ascending, insert_once}
 use Rattle.agg_evaluation.specs.Trees.{is_ascending}
 use Rattle.agg_evaluation.proofs.Computing.{computing}
-use Rattle.agg_evaluation.proofs.KeyLists.{and_left, and_right, both, key_eq-self, key_eq-exact, less_is, same_keys, ascending-distinct_keys, has_key-distinct_keys, true_is}
+use Rattle.agg_evaluation.proofs.KeyLists.{and_left, and_right, both, key_eq-self, key_eq-exact, less_is, same_keys, ascending-distinct_keys, has_key-distinct_keys}
 use Rattle.shard_columns.specs.declared.layout.Laid.{Laid}
 use Rattle.shard_columns.specs.Dictionary.{all_words, words_of, word_bytes, dictionary_bytes}
 use Rattle.shard_columns.specs.Layout.{values_of_laid, row_of, no_row}
-use Rattle.shard_columns.specs.Values.{Words, word_in, words_in, words_at, words_for, AllAmong}
-use Rattle.shard_columns.specs.Words.{SameWords, AreDictionaries, row_words}
+use Rattle.shard_columns.specs.Values.{Words, word_in, words_in, words_for, AllAmong}
+use Rattle.shard_columns.specs.Words.{SameWords, row_words}
 use Rattle.shard_columns.proofs.Storing.{Contains-flat_map}
-use Rattle.shard_columns.proofs.Searching.{rises-far, rises-by, map-same}
+use Rattle.shard_columns.proofs.Searching.{rises-by, map-same}
 
 word_cmp : (v w : List ℕ) → key_cmp (key.Word v) (key.Word w) ≡ slice_cmp nat_cmp v w
 unfolding computing

@@ -1,8 +1,7 @@
 -- Which rows lie within which: those from a row's number to before its end.
-use Rattle.std.proofs.Common.{◌≡◌, ◌≢◌, refl, ℕ, ◌+◌, ◌-◌, ◌*◌, ◌<◌, ◌≤◌, zero, suc, true, false, Bool, T, cond, List, [], ◌∷◌, ◌++◌, length, get_or, take, map, sym, ◌∙◌, ap, subst, arith, inl, inr, length-append, append_assoc}
+use Rattle.std.proofs.Common.{◌≡◌, ◌≢◌, refl, ℕ, ◌+◌, ◌-◌, ◌<◌, ◌≤◌, zero, suc, true, false, Bool, T, List, [], ◌∷◌, ◌++◌, length, get_or, map, sym, ◌∙◌, ap, arith, inl, inr, length-append, append_assoc}
 use Rattle.std.specs.Prelude.{◌&&◌, ◌%◌, nat_le, nat_lt, nat_eq}
 use Rattle.std.specs.List.{starts_with, flat_map, enumerate_from}
-use Rattle.std.specs.Cmp.Lexicographic.{pointwise}
 use Rattle.std.proofs.lemmas.List.{get_or_append_left, get_or-append-add}
 use Rattle.std.proofs.lemmas.Bool.{cases_lt}
 use Rattle.std.proofs.Math.Facts.{leb_yes}
@@ -11,7 +10,7 @@ use Rattle.agg_model.specs.declared.row.Row.{Row, Row', Row_of-Children, end_of-
 use Rattle.agg_model.specs.declared.row.Children.{Children, Children', Row_of-Row, end_of-Row, more_of-Row}
 use Rattle.agg_model.specs.declared.row.Document.{Document}
 use Rattle.agg_evaluation.specs.Folds.{fold_rows, fold_all_children}
-use Rattle.agg_evaluation.specs.Rows.{PlacedRow, Walk, rows_of, walk_row, walk_children, is_within, shard_rows}
+use Rattle.agg_evaluation.specs.Rows.{PlacedRow, rows_of, walk_row, walk_children, is_within}
 use Rattle.agg_evaluation.proofs.KeyLists.{and_left, and_right}
 use Rattle.shard_columns.specs.Ends.{each, row_ends, children_ends, ends_row, ends_children, root_ends}
 use Rattle.shard_columns.specs.Layout.{no_row, row_of, children_of, rows_of_documents}
@@ -203,6 +202,7 @@ low-yes m n h = leb_yes h
 
 mutual
   unfolding each
+
   pub row-laid : (r : Row) (context : ℕ) (id place p : List ℕ) (k first : ℕ) → T (paths_rise r) → Odd place → place ≡ p ++ k ∷ [] → IsLaid p (λ q. q ≡ k) first (rows_of r context id place) (row_ends r first)
   row-laid (Row' values n children) context id place p k first rise odd is =
       IsLaid-self p place k (λ q. 0 ≤ q) first (record { place = place; context = context; id = id; values = values })

@@ -1,6 +1,6 @@
 -- The row around a row, and all that enclose it.
-use Rattle.std.proofs.Common.{◌≡◌, ◌≢◌, refl, ℕ, ◌+◌, ◌<◌, ◌≤◌, zero, suc, true, false, Bool, T, eqb, eq-eqb, List, [], ◌∷◌, ◌++◌, map, length, get_or, take, sym, ◌∙◌, ap, subst, arith, inl, inr, length-append, append_assoc}
-use Rattle.std.specs.Prelude.{◌&&◌, ◌||◌, ◌%◌, ◌⊎◌, nat_le, nat_lt, nat_eq}
+use Rattle.std.proofs.Common.{◌≡◌, refl, ℕ, ◌+◌, ◌<◌, zero, suc, true, false, Bool, T, eqb, eq-eqb, List, [], ◌∷◌, ◌++◌, map, length, get_or, take, sym, ◌∙◌, ap, subst, arith, inl, inr, length-append, append_assoc}
+use Rattle.std.specs.Prelude.{◌||◌, ◌%◌, ◌⊎◌, nat_le, nat_eq}
 use Rattle.std.specs.List.{starts_with, zip}
 use Rattle.std.proofs.lemmas.List.{append-nil, get_or-map, length-map, get_or-take, get_or_past, length-take, take-append-le, take_all}
 use Rattle.std.proofs.lemmas.Bool.{cases_lt}
@@ -8,21 +8,18 @@ use Rattle.std.proofs.Math.Facts.{eqb_yes, leb_yes}
 use Rattle.std.proofs.Math.Seq.{get_or-append_seam}
 use Rattle.agg_model.specs.declared.row.FieldValues.{FieldValues}
 use Rattle.agg_evaluation.specs.Rows.{PlacedRow, is_within}
-use Rattle.agg_evaluation.proofs.KeyLists.{and_left, and_right, both, true_is}
+use Rattle.agg_evaluation.proofs.KeyLists.{and_left, and_right, both}
 use Rattle.shard_columns.specs.declared.layout.Entry.{Entry}
-use Rattle.shard_columns.specs.declared.layout.Origin.{Origin}
 use Rattle.shard_columns.specs.declared.layout.Origin.TheVariants.{Root, Nested}
 use Rattle.shard_columns.specs.declared.shard.Shard.TheInside.{Inside}
 use Rattle.shard_columns.specs.Columns.{Columns}
-use Rattle.shard_columns.specs.Contexts.{AreEnclosed}
-use Rattle.shard_columns.specs.Layout.{placed, row_at, place_at, context_of, no_row, row_of}
+use Rattle.shard_columns.specs.Layout.{placed, row_at, place_at, no_row, row_of}
 use Rattle.shard_columns.specs.Shard.{columns_of, placed_rows, IsSound}
 use Rattle.shard_columns.specs.Values.{row_values}
-use Rattle.shard_columns.specs.Beneath.{IsDirectlyBeneath, IsEnclosedBy}
-use Rattle.shard_columns.proofs.Building.{zip-first, size-is}
+use Rattle.shard_columns.proofs.Building.{zip-first}
 use Rattle.shard_columns.proofs.Dictionaries.{same-test}
 use Rattle.shard_columns.proofs.Enclosing.{begins-self}
-use Rattle.shard_columns.proofs.Reading.{rows-are, len-is, in-range, context-is, enclosed-are}
+use Rattle.shard_columns.proofs.Reading.{rows-are, in-range, enclosed-are}
 
 placed-more : (ids : List (List ℕ)) (rows : List PlacedRow) (es : List (Entry × List FieldValues)) → (more : List PlacedRow) × (placed ids rows es ≡ rows ++ more)
 unfolding placed

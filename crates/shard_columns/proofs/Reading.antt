@@ -1,12 +1,12 @@
 -- What the fields of a shard say of the rows that it shows.
 use Rattle.std.proofs.Common.{◌≡◌, refl, zero, suc, true, false, Bool, T, cond, ℕ, ℤ, ◌+◌, ◌-◌, ◌<◌, ◌≤◌, ◌^◌, List, [], ◌∷◌, map, length, get_or, Some, None, eqb, filter, find, unwrap_or, option_map, sym, ◌∙◌, ap, subst, arith}
-use Rattle.std.specs.Prelude.{◌&&◌, nat_le, nat_lt, sum, sum_by}
+use Rattle.std.specs.Prelude.{◌&&◌, ◌==◌, nat_le, nat_lt, sum, sum_by}
 use Rattle.std.proofs.lemmas.List.{length-map, get_or-map, get_or_read}
 use Rattle.std.proofs.lemmas.Option.{slice_get-get_or, same_Some}
 use Rattle.std.specs.List.{slice_get, list_all, range_with_len}
 use Rattle.std.proofs.Math.Facts.{eqb_yes}
 use Rattle.std.specs.List.Sorted.{IsStrictlyIncreasing}
-use Rattle.agg_evaluation.specs.Rows.{PlacedRow, roots, values_of, beneath}
+use Rattle.agg_evaluation.specs.Rows.{PlacedRow, roots, values_of, beneath, is_within}
 use Rattle.shard_columns.specs.declared.values.Span.{Span}
 use Rattle.shard_columns.specs.Contexts.{AreEnclosed}
 use Rattle.shard_columns.specs.declared.layout.Entry.{Entry}
@@ -49,6 +49,27 @@ word-at : (ws : Words) (p : ℕ) → is_of_kind Keyword (shown ws (stored.Word p
 word-at [] p e = absurd (cc e)
 word-at (w ∷ ws) zero e = (omega arith, refl)
 word-at (w ∷ ws) (suc p) e = let rest = word-at ws p e in (omega (arith, rest.0), rest.1)
+
+filter-few : (p : PlacedRow → Bool) (rows : List PlacedRow) → length (filter p rows) ≤ length rows
+filter-few p [] = omega arith
+filter-few p (r ∷ rs) = pick (p r) (filter-few p rs)
+  where
+    pick : (b : Bool) → length (filter p rs) ≤ length rs → length (cond b (r ∷ filter p rs) (filter p rs)) ≤ suc (length rs)
+    pick true few = omega arith
+    pick false few = omega arith
+
+pub beneath-few : (rows : List PlacedRow) (context : ℕ) (outer : PlacedRow) → length (beneath rows context outer) ≤ length rows
+beneath-few rows context outer = filter-few (λ r. (r.context == context) && is_within r outer) rows
+
+-- the rows beneath a row, by their numbers
+pub child-row : (rows : List PlacedRow) (context : ℕ) (outer : PlacedRow) (place : ℕ) (ns : List ℕ) → map (row_of rows) ns ≡ beneath rows context outer → place < length (beneath rows context outer) →
+    (place < length ns) × (slice_get (beneath rows context outer) place ≡ Some (row_of rows (get_or ns place 0)))
+child-row rows context outer place ns are there =
+    let within : place < length ns = omega (arith, ap length are, length-map ns (row_of rows)) in (
+      within,
+      slice_get-get_or (beneath rows context outer) place no_row there
+          ∙ ap Some (ap (λ (rs : List PlacedRow). get_or rs place no_row) (sym are) ∙ get_or-map (row_of rows) ns place 0 no_row within),
+    )
 
 heads-map : (words : List Words) (stored : List Stored) (hs : List Held) → map (λ (f : FieldValues). f.field) (map (field_at words stored) hs) ≡ map (λ (h : Held). h.field) hs
 heads-map words stored [] = refl
@@ -94,31 +115,17 @@ module _ (s : Inside) (v : Columns) (view : columns_of s ≡ v) (sound : IsSound
 
   module _ (context n : ℕ) (ns : List ℕ) (below : n < length v.rows) (are : ns ≡ numbers_at context 0 s.rows.items) (stop : ℕ) (stop_is : stop ≡ get_or s.ends.items n stop) (span : Span) (part : IsPart (length ns) span)
       (between : cut ns span ≡ filter (λ j. nat_le n j && nat_lt j stop) ns) where
-    children-are : beneath v.rows context (row_of v.rows n) ≡ map (row_of v.rows) (cut ns span)
+    pub children-are : map (row_of v.rows) (cut ns span) ≡ beneath v.rows context (row_of v.rows n)
     children-are =
         let ends : stop ≡ get_or s.ends.items n 0 = get_or_read s.ends.items n stop (omega (arith, enclosed-are.sizes)) stop_is 0 in
-        beneath-are context n ns below are ∙ ap (map (row_of v.rows)) (ap (λ (k : ℕ). filter (λ j. nat_le n j && nat_lt j k) ns) (sym ends) ∙ sym between)
+        sym (beneath-are context n ns below are ∙ ap (map (row_of v.rows)) (ap (λ (k : ℕ). filter (λ j. nat_le n j && nat_lt j k) ns) (sym ends) ∙ sym between))
 
-    pub children-count : length (beneath v.rows context (row_of v.rows n)) ≡ span.end - span.start
-    children-count = ap length children-are ∙ (length-map (cut ns span) (row_of v.rows) ∙ length-cut ns span part)
-
-    pub children-few : span.end - span.start < 2 ^ 32
-    children-few = omega (arith, part.0, part.1, ap length are, numbers-few context 0 s.rows.items, len-is, rows-few)
-
-    pub child-in : (place : ℕ) → place < length (beneath v.rows context (row_of v.rows n)) → span.start + place < length ns
-    child-in place there = omega (arith, children-count, part.0, part.1)
-
-    pub child-number : (place : ℕ) → place < length (beneath v.rows context (row_of v.rows n)) → get_or ns (span.start + place) 0 < length v.rows
-    child-number place there =
-        let at = numbers-below context 0 s.rows.items (span.start + place) 0 (subst (λ (xs : List ℕ). span.start + place < length xs) are (child-in place there)) in
-        omega (arith, at, ap (λ (xs : List ℕ). get_or xs (span.start + place) 0) are, len-is)
-
-    pub child-row : (place : ℕ) → place < length (beneath v.rows context (row_of v.rows n)) → slice_get (beneath v.rows context (row_of v.rows n)) place ≡ Some (row_of v.rows (get_or ns (span.start + place) 0))
-    child-row place there =
-        slice_get-get_or (beneath v.rows context (row_of v.rows n)) place no_row there
-        ∙ ap Some (ap (λ (rs : List PlacedRow). get_or rs place no_row) children-are
-        ∙ (get_or-map (row_of v.rows) (cut ns span) place 0 no_row (omega (arith, children-count, length-cut ns span part))
-        ∙ ap (row_of v.rows) (get_or-cut ns span place 0 (omega (arith, children-count)))))
+    pub child-number : (k : ℕ) → k < length (cut ns span) → get_or (cut ns span) k 0 < length v.rows
+    child-number k below =
+        let size = length-cut ns span part in
+        let place : span.start + k < length ns = omega (arith, size, part.0, part.1) in
+        let at = numbers-below context 0 s.rows.items (span.start + k) 0 (subst (λ (xs : List ℕ). span.start + k < length xs) are place) in
+        omega (arith, at, get_or-cut ns span k 0 (omega (arith, size)), ap (λ (xs : List ℕ). get_or xs (span.start + k) 0) are, len-is)
 
   -- the numbers that the shard keeps for a context
   pub numbers-are : (context : ℕ) (numbers : List (List ℕ)) (ns : List ℕ) → numbers ≡ s.numbers.items → ns ≡ get_or numbers context [] → ns ≡ numbers_at context 0 s.rows.items

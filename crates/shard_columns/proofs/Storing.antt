@@ -1,7 +1,6 @@
 -- Flat arrays that grow: what they stood for stays, and what is put behind is added.
-use Rattle.std.proofs.Common.{Bool, cond, eq-eqb, flat_map, Some, zero, suc, ◌≡◌, refl, ℕ, ◌+◌, ◌-◌, ◌<◌, ◌≤◌, List, [], ◌∷◌, ◌++◌, map, length, get_or, take, drop, slice_range, slice_index_or, sym, ◌∙◌, ap, subst, arith, length-append, append_assoc, Contains, inl, inr, None, Option, true, false, eqb, find, unwrap_or, option_map, IfSome, T, length-drop}
-use Rattle.std.proofs.lemmas.List.{map-append, append-nil, length-map, take-append-le, drop_at, length-take, get_or-take, get_or-drop, at_drop_more}
-use Rattle.std.proofs.Math.Facts.{eqb_yes}
+use Rattle.std.proofs.Common.{Bool, cond, eq-eqb, flat_map, Some, zero, suc, ◌≡◌, refl, ℕ, ◌+◌, ◌-◌, ◌<◌, ◌≤◌, List, [], ◌∷◌, ◌++◌, map, length, get_or, take, drop, slice_range, slice_index_or, sym, ◌∙◌, ap, subst, arith, length-append, append_assoc, Contains, inl, inr, None, Option, true, false, eqb, find, unwrap_or, option_map, IfSome, length-drop}
+use Rattle.std.proofs.lemmas.List.{map-append, append-nil, length-map, take-append-le, drop_at, length-take, get_or-take, get_or-drop}
 use Rattle.std.proofs.lemmas.List.Elements.{Contains-append_left, Contains-append_right}
 use Rattle.std.proofs.lemmas.Grind.{flat_map-append}
 use Rattle.std.proofs.lemmas.List.Sums.{sum_by-cons, sum_by-append}

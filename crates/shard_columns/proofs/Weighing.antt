@@ -1,5 +1,5 @@
 -- What the weight of rows bounds.
-use Rattle.std.proofs.Common.{◌≡◌, refl, ℕ, ◌+◌, ◌<◌, ◌≤◌, zero, suc, true, false, Bool, cond, eqb, List, [], ◌∷◌, ◌++◌, Option, Some, None, length, get_or, take, map, find, flat_map, unwrap_or, option_map, sym, ◌∙◌, ap, subst, arith, length-append}
+use Rattle.std.proofs.Common.{◌≡◌, refl, ℕ, ◌+◌, ◌<◌, ◌≤◌, zero, suc, true, false, Bool, cond, eqb, List, [], ◌∷◌, ◌++◌, Some, length, get_or, take, map, find, flat_map, unwrap_or, option_map, sym, ◌∙◌, ap, arith}
 use Rattle.std.specs.Prelude.{nat_lt, sum, sum_by}
 use Rattle.std.specs.declared.cmp.Ordering.{Ordering}
 use Rattle.std.specs.declared.cmp.Ordering.TheVariants.{Less, Equal, Greater}
@@ -18,7 +18,7 @@ use Rattle.agg_evaluation.specs.Ceiling.{greatest_of}
 use Rattle.agg_evaluation.specs.Rows.{PlacedRow, values_of}
 use Rattle.agg_evaluation.specs.Sorting.{ascending, insert_once}
 use Rattle.shard_columns.specs.Dictionary.{all_words, words_of, longest_word, value_count, dictionary_bytes}
-use Rattle.shard_columns.specs.Layout.{row_of, no_row}
+use Rattle.shard_columns.specs.Layout.{row_of}
 use Rattle.shard_columns.specs.Values.{Words, word_in, words_in}
 use Rattle.shard_columns.specs.Weight.{scalar_weight, field_weight, row_weight, rows_weight}
 use Rattle.shard_columns.proofs.Dictionaries.{found_values, sum-cons, dictionary_bytes-words}

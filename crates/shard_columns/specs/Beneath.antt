@@ -1,5 +1,5 @@
 -- Rows within rows, by their numbers.
-use Rattle.std.specs.Prelude.{◌≡◌, ℕ, ◌+◌, ◌<◌, ◌==◌, ◌||◌, Bool, false, List, [], ◌∷◌, ◌++◌, length, Option}
+use Rattle.std.specs.Prelude.{◌≡◌, ℕ, ◌+◌, ◌<◌, ◌==◌, ◌||◌, false, List, [], ◌∷◌, ◌++◌, length, Option}
 use Rattle.std.specs.Option.{option_map_or}
 use Rattle.agg_evaluation.specs.Rows.{PlacedRow, is_within}
 use Rattle.shard_columns.specs.Layout.{row_of}

@@ -1,5 +1,5 @@
 -- The words of a field in a shard, and what the columns of a shard weigh.
-use Rattle.std.specs.Prelude.{◌≡◌, ℕ, ◌+◌, ◌*◌, ◌<◌, List, map, flat_map, length, sum, Contains}
+use Rattle.std.specs.Prelude.{ℕ, ◌+◌, ◌*◌, List, map, flat_map, length, sum, Contains}
 use Rattle.std.specs.List.{range_with_len}
 use Rattle.std.specs.Ordering.{nat_cmp}
 use Rattle.std.specs.Cmp.Lexicographic.{slice_cmp}

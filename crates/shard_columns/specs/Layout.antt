@@ -1,5 +1,5 @@
 -- The rows that a list of entries stands for: an entry tells a row's document and its place beneath an earlier row.
-use Rattle.std.specs.Prelude.{◌≡◌, ℕ, ◌+◌, ◌==◌, if◌then◌else◌, List, [], ◌∷◌, ◌++◌, map, length, slice_index_or}
+use Rattle.std.specs.Prelude.{◌≡◌, ℕ, ◌+◌, ◌==◌, if◌then◌else◌, List, [], ◌∷◌, ◌++◌, map, slice_index_or}
 use Rattle.agg_model.specs.declared.row.FieldValues.{FieldValues}
 use Rattle.agg_model.specs.declared.row.Row.{Row}
 use Rattle.agg_model.specs.declared.row.Children.{Children}

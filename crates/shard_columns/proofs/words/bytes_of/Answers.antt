@@ -1,6 +1,5 @@
-use Rattle.std.proofs.Common.{length, take, sym, ◌∙◌, ap, arith}
-use Rattle.std.specs.Prelude.{sum_by}
-use Rattle.std.proofs.lemmas.List.Sums.{sum_by_more, sum_by_more_le}
+use Rattle.std.proofs.Common.{length, ap, arith}
+use Rattle.std.proofs.lemmas.List.Sums.{sum_by_more_le}
 use Rattle.shard_columns.proofs.words.bytes_of.Goals as goal
 
 pub overflow_add-bytes : goal.overflow_add-bytes

@@ -1,7 +1,3 @@
-use Rattle.std.proofs.Common.{length, map, ◌∙◌, ap}
-use Rattle.agg_evaluation.specs.Ceiling.{greatest_of}
-use Rattle.shard_columns.specs.Values.{Words}
-use Rattle.shard_columns.proofs.Laying.{all-taken}
 use Rattle.shard_columns.proofs.Weighing.{longest-more}
 use Rattle.shard_columns.proofs.words.longest_of.Goals as goal
 

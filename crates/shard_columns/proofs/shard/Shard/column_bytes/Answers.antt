@@ -1,4 +1,4 @@
-use Rattle.std.proofs.Common.{◌+◌, ◌*◌, sym, ◌∙◌, arith}
+use Rattle.std.proofs.Common.{◌+◌, ◌*◌, ◌∙◌, arith}
 use Rattle.shard_columns.proofs.Reading.{stored-are, stored-few, bytes-are, bytes-light, few-dictionaries}
 use Rattle.shard_columns.proofs.shard.Shard.column_bytes.Goals as goal
 

@@ -1,5 +1,4 @@
-use Rattle.std.proofs.Common.{◌+◌, refl, sym, ◌∙◌, ap, arith}
-use Rattle.shard_columns.specs.declared.layout.Entry.{Entry}
+use Rattle.std.proofs.Common.{refl, ◌∙◌, ap, arith}
 use Rattle.shard_columns.specs.Layout.{context_of}
 use Rattle.shard_columns.proofs.Reading.{in-range, context-is, rows-few}
 use Rattle.shard_columns.proofs.Parents.{around, enclosed-nested, enclosed-root}
