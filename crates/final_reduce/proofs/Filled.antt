@@ -1,5 +1,5 @@
 -- Buckets put among the keys of a histogram: where a key has none an empty one stands.
-use Rattle.std.specs.Prelude.{◌≡◌, refl, ℕ, zero, suc, ◌+◌, ◌*◌, ◌<◌, ◌≤◌, ℤ, pos, ◌+ℤ◌, ◌≤ℤ◌, ◌<ℤ◌, Bool, true, false, ◌&&◌, cond, List, [], ◌∷◌, map, length, sum_by, Some, unwrap_or, find}
+use Rattle.std.specs.Prelude.{◌≡◌, refl, ℕ, zero, suc, ◌+◌, ◌*◌, ◌<◌, ◌≤◌, ℤ, pos, ◌+ℤ◌, ◌≤ℤ◌, ◌<ℤ◌, true, false, cond, List, [], ◌∷◌, map, length, sum_by, Some, unwrap_or, find}
 use Rattle.std.specs.List.{list_all, AllByRecursion}
 use Rattle.std.specs.Ordering.{is_eq, is_lt}
 use Rattle.std.specs.declared.cmp.Ordering.TheVariants.{Less, Greater}
@@ -22,7 +22,7 @@ use Rattle.agg_spec.specs.Filling.{bucket_at}
 use Rattle.agg_spec.specs.GapCount.{step_count}
 use Rattle.partial_result.proofs.KeyLists.{less_is}
 use Rattle.final_reduce.specs.Steps.{keys_from}
-use Rattle.final_reduce.proofs.Intervals.{next_start, start-next, no_steps, one_step}
+use Rattle.final_reduce.proofs.Intervals.{next_start, start-next, one_step}
 
 pub whole_cmp : (m n : ℤ) → m <ℤ n → key_cmp (Whole m) (Whole n) ≡ Less
 unfolding computing

@@ -1,7 +1,6 @@
 -- What holds of the buckets of a histogram, and of each empty one, holds of all buckets that it has with its gaps filled.
 use Rattle.std.specs.Prelude.{◌≡◌, refl, ℕ, ◌==◌, nat_le, Bool, true, false, cond, List, [], ◌∷◌, map, Some, unwrap_or, find}
 use Rattle.std.specs.List.{list_all}
-use Rattle.std.proofs.Common.{sym, ap}
 use Rattle.std.proofs.lemmas.Bool.{and_parts, and_from}
 use Rattle.agg_model.specs.declared.key.Key.{Key}
 use Rattle.agg_model.specs.declared.partial.Bucket.{Bucket}

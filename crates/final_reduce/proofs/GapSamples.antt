@@ -2,21 +2,19 @@
 use Rattle.std.specs.Prelude.{◌≡◌, refl, ℕ, ℤ, ◌<◌, ◌<ℤ◌, int_lt, ◌&&◌, true, false, List, [], ◌∷◌, map, None}
 use Rattle.std.specs.List.{list_all}
 use Rattle.std.specs.Ordering.{is_lt}
-use Rattle.std.proofs.Common.{sym, ◌∙◌, ap, subst, arith}
+use Rattle.std.proofs.Common.{◌∙◌, ap, arith}
 use Rattle.std.proofs.lemmas.Bool.{and_from, and_parts, lt-ltb}
 use Rattle.std.proofs.lemmas.Int.{ints}
 use Rattle.agg_model.specs.declared.key.Key.TheVariants.{Whole}
 use Rattle.agg_model.specs.declared.partial.Bucket.{Bucket}
-use Rattle.agg_model.specs.declared.partial.Node.{Node, out-Node}
 use Rattle.agg_model.specs.declared.partial.Node.TheVariants.{Keyed}
 use Rattle.agg_model.specs.declared.aggregation.Bounds.{Bounds}
 use Rattle.agg_model.specs.declared.aggregation.Kind.TheVariants as kind
 use Rattle.agg_model.specs.declared.aggregation.Agg.{Agg, out-Agg}
-use Rattle.agg_model.specs.declared.aggregation.Agg.TheOpen.{Agg-F}
 use Rattle.agg_evaluation.specs.KeyOrder.{key_cmp}
 use Rattle.agg_evaluation.specs.Orders.{bucket_key}
 use Rattle.agg_evaluation.specs.Shard.{fixed_keys}
-use Rattle.agg_evaluation.specs.Trees.{is_ascending, have_children, pass_each, is_tree_at}
+use Rattle.agg_evaluation.specs.Trees.{is_ascending, have_children, is_tree_at}
 use Rattle.agg_evaluation.specs.Whole.{by_key, parts_at}
 use Rattle.agg_evaluation.proofs.NodeForms.{out-Keyed}
 use Rattle.final_reduce.specs.Finishable.{is_finishable, is_finishable_at, is_histogram_key, has_interval, has_intervals, fits_at}

@@ -1,5 +1,5 @@
 -- The keys of a histogram whose gaps are filled are so many from the first on.
-use Rattle.std.specs.Prelude.{◌≡◌, refl, ℕ, zero, suc, ◌+◌, ◌-◌, ◌<◌, ℤ, pos, ◌+ℤ◌, ◌-ℤ◌, ◌*ℤ◌, ◌≤ℤ◌, ◌<ℤ◌, int_le, Bool, true, false, ◌&&◌, cond, List, [], ◌∷◌, ◌++◌, map, filter, Option, Some, None, option_map, option_to_list, unwrap_or, is_some, unsigned_abs}
+use Rattle.std.specs.Prelude.{◌≡◌, refl, ℕ, zero, suc, ◌+◌, ◌-◌, ◌<◌, ℤ, pos, ◌+ℤ◌, ◌-ℤ◌, ◌*ℤ◌, ◌≤ℤ◌, ◌<ℤ◌, int_le, Bool, true, false, ◌&&◌, cond, List, [], ◌∷◌, map, filter, Option, Some, None, unwrap_or, is_some, unsigned_abs}
 use Rattle.std.specs.List.{range_with_len, reduce, fold, AllByRecursion}
 use Rattle.std.specs.Option.{option_map_or}
 use Rattle.std.specs.Int.{int_min, int_max, int_div_euclid}
@@ -13,7 +13,7 @@ use Rattle.agg_evaluation.specs.Keys.{interval_start, is_between}
 use Rattle.agg_spec.specs.Filling.{steps_between, least_key, greatest_key, has_buckets, filled_keys}
 use Rattle.agg_spec.specs.GapCount.{step_count, key_from, keys_between, filled_count}
 use Rattle.final_reduce.specs.Steps.{keys_from}
-use Rattle.final_reduce.proofs.Intervals.{start, at_most, above, start-start, next_start, start-next, first-from, first-least, last-greatest, no_steps, one_step}
+use Rattle.final_reduce.proofs.Intervals.{at_most, start-start, next_start, start-next, first-from, first-least, last-greatest, no_steps, one_step}
 
 abbrev low_passes : Option ℤ → ℤ → Bool
 low_passes low k = option_map_or (λ least. int_le least k) low true

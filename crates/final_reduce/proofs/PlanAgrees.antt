@@ -1,8 +1,7 @@
 -- The number of buckets that is planned on the whole is that of the final answer.
-use Rattle.std.specs.Prelude.{◌≡◌, refl, ℕ, zero, suc, ◌+◌, ◌-◌, ◌*◌, ◌<◌, ◌≤◌, ◌==◌, ◌&&◌, Bool, true, false, cond, nat_le, nat_lt, List, [], ◌∷◌, map, take, length, sum, sum_by, min, ℤ, pos, drop, Option, Some, None, ◌⊎◌}
+use Rattle.std.specs.Prelude.{◌≡◌, refl, ℕ, zero, suc, ◌+◌, ◌-◌, ◌*◌, ◌<◌, ◌==◌, ◌&&◌, Bool, true, false, cond, nat_le, List, [], ◌∷◌, map, take, length, sum, sum_by, min, ℤ, pos, drop, Option, Some, None}
 use Rattle.std.specs.List.{list_all, enumerate_from, range_with_len}
 use Rattle.std.specs.Option.{option_map_or}
-use Rattle.std.specs.declared.cmp.Ordering.{Ordering}
 use Rattle.std.proofs.Common.{sym, ◌∙◌, ap, subst, arith, ⊎_elim}
 use Rattle.std.proofs.lemmas.Bool.{and_parts, and_from, false≢true, eqb-true, ltb-true}
 use Rattle.std.proofs.Math.Nat.{add-mul}
@@ -14,8 +13,6 @@ use Rattle.agg_model.specs.declared.key.Key.TheVariants as key
 use Rattle.agg_model.specs.declared.partial.Bucket.{Bucket}
 use Rattle.agg_model.specs.declared.partial.Metric.{Metric}
 use Rattle.agg_model.specs.declared.partial.Node.{Node, out-Node}
-use Rattle.agg_model.specs.declared.partial.Node.TheOpen.{Node-F}
-use Rattle.agg_model.specs.declared.partial.Node.TheVariants.{Keyed, Fixed, Number}
 use Rattle.agg_model.specs.declared.partial.Partial.{Partial}
 use Rattle.agg_model.specs.declared.answer.BucketAnswer.{BucketAnswer, out-BucketAnswer, out-roll-BucketAnswer}
 use Rattle.agg_model.specs.declared.answer.BucketAnswer.TheOpen.{NodeAnswer-F, BucketAnswer-F}
@@ -28,12 +25,12 @@ use Rattle.agg_model.specs.declared.aggregation.Order.{Order}
 use Rattle.agg_model.specs.declared.aggregation.Kind.{Kind}
 use Rattle.agg_model.specs.declared.aggregation.Kind.TheVariants as kind
 use Rattle.agg_model.specs.declared.aggregation.Search.{Search}
-use Rattle.agg_evaluation.specs.Folds.{fold_agg, fold_aggs}
+use Rattle.agg_evaluation.specs.Folds.{fold_aggs}
 use Rattle.agg_evaluation.specs.Sorting.{sorted}
 use Rattle.agg_evaluation.specs.Orders.{bucket_cmp, bucket_key, bucket_count, composite_cmp}
 use Rattle.agg_evaluation.specs.Shard.{fixed_keys}
 use Rattle.agg_evaluation.specs.Trees.{are_same_keys, is_ascending, is_tree_at, have_children, pass_each}
-use Rattle.agg_evaluation.specs.Whole.{Parts, parts, parts_at, whole_by, whole_bucket, children_at, shape_of, Shape, by_key, from_start, a_number, metric_sum}
+use Rattle.agg_evaluation.specs.Whole.{Parts, parts, parts_at, whole_by, whole_bucket, children_at, shape_of, by_key, from_start, a_number, metric_sum}
 use Rattle.agg_evaluation.proofs.KeyLists.{true_is}
 use Rattle.agg_evaluation.proofs.ListLaws.{sum_by-map}
 use Rattle.agg_evaluation.proofs.NodeForms.{out-Keyed, out-Fixed, out-Number}
@@ -47,7 +44,7 @@ use Rattle.agg_spec.specs.GapCount.{Plan, plan, plan_of, plan_at, plan_each, bel
 use Rattle.agg_spec.proofs.SumLaws.{sum_by-sorted}
 use Rattle.bucket_order.proofs.SameOrder.{list_all-sorted}
 use Rattle.final_reduce.specs.Finishable.{is_finishable, is_finishable_at, is_histogram_key, fits_at, has_interval, has_intervals, can_finish}
-use Rattle.final_reduce.specs.Steps.{key_numbers, keys_from}
+use Rattle.final_reduce.specs.Steps.{key_numbers}
 use Rattle.final_reduce.specs.Planned.{returned_at, gap_count, gaps_of, planned_below, planned_at, planned_of_nothing, member_number, fixed_count}
 use Rattle.bucket_order.specs.Kinds.{child_kinds}
 use Rattle.final_reduce.proofs.AggLaws.{fold_agg-level}

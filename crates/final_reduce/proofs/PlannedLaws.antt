@@ -1,9 +1,7 @@
 -- The number of buckets of an answer, as it is counted on the whole.
-use Rattle.std.specs.Prelude.{◌≡◌, refl, ℕ, zero, suc, ◌+◌, ◌-◌, ◌*◌, ◌<◌, ◌≤◌, ◌==◌, ◌&&◌, Bool, true, false, cond, nat_le, nat_lt, List, [], ◌∷◌, map, take, length, sum, sum_by, ℤ, Option, Some, None}
-use Rattle.std.specs.List.{list_all, enumerate_from}
+use Rattle.std.specs.Prelude.{◌≡◌, refl, ℕ, ◌+◌, ◌-◌, ◌*◌, ◌==◌, Bool, true, false, cond, List, [], ◌∷◌, map, take, length, sum}
 use Rattle.std.proofs.Common.{sym, ◌∙◌, ap, subst, arith}
-use Rattle.std.proofs.lemmas.Bool.{and_parts, and_from, false≢true, eqb-true, le-leb}
-use Rattle.std.proofs.lemmas.List.Sums.{sum_by-cons}
+use Rattle.std.proofs.lemmas.Bool.{eqb-true, le-leb}
 use Rattle.agg_model.specs.declared.partial.Bucket.{Bucket}
 use Rattle.agg_model.specs.declared.aggregation.Kind.{Kind}
 use Rattle.agg_model.specs.declared.aggregation.Kind.TheVariants as kind
@@ -11,11 +9,10 @@ use Rattle.agg_evaluation.specs.Sorting.{sorted}
 use Rattle.agg_evaluation.specs.Orders.{bucket_cmp, bucket_key, bucket_count, composite_cmp}
 use Rattle.agg_evaluation.specs.Whole.{Parts}
 use Rattle.agg_evaluation.proofs.ListLaws.{sum_by-map}
-use Rattle.agg_spec.specs.BucketCount.{member_count}
 use Rattle.agg_spec.specs.Filling.{frequent}
 use Rattle.agg_spec.specs.GapCount.{Plan, plan_each, plan_at, with_children, below_empty, filled_count}
 use Rattle.final_reduce.specs.Steps.{key_numbers}
-use Rattle.final_reduce.specs.Planned.{returned_at, gap_count, planned_below, planned_at}
+use Rattle.final_reduce.specs.Planned.{planned_below, planned_at}
 
 -- no bucket has a count below 0
 pub all_frequent : (bs : List Bucket) → frequent 0 bs ≡ bs
@@ -39,6 +36,7 @@ plan_at-is children (kind.Histogram f interval offset m extended hard keyed orde
   where
     gaps : ℕ
     gaps = filled_count interval offset extended hard (key_numbers p.buckets) - length p.buckets
+
     by_minimum : (b : Bool) → (m == 0) ≡ b → cond b (with_children children p.buckets + gaps * (1 + below_empty children)) (with_children children (frequent m p.buckets))
         ≡ (length (frequent m p.buckets) + planned_below children (frequent m p.buckets)) + cond b gaps 0 * (1 + below_empty children)
     by_minimum true e =

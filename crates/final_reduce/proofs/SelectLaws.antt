@@ -1,18 +1,12 @@
 -- Selections and the answers that are made of them.
-use Rattle.std.specs.Prelude.{◌≡◌, refl, ℕ, ◌<◌, ◌==◌, ◌&&◌, Bool, true, false, length, List, [], ◌∷◌, map, take, filter}
+use Rattle.std.specs.Prelude.{◌≡◌, refl, ℕ, ◌&&◌, Bool, true, false, length, List, [], ◌∷◌, map, take, filter}
 use Rattle.std.specs.List.{list_all}
-use Rattle.std.proofs.Common.{sym, ◌∙◌, ap, subst, cond, ⊎_elim, zero, suc, arith}
-use Rattle.std.proofs.lemmas.Bool.{cases_Bool, and_parts, and_from, cond-false, ne_eqb}
-use Rattle.agg_model.specs.declared.key.Key.{Key}
-use Rattle.agg_model.specs.declared.partial.Bucket.{Bucket}
-use Rattle.agg_model.specs.declared.aggregation.Bounds.{Bounds}
-use Rattle.agg_model.specs.declared.aggregation.Order.{Order}
+use Rattle.std.proofs.Common.{sym, ◌∙◌, ap, subst, cond, ⊎_elim, zero, suc}
+use Rattle.std.proofs.lemmas.Bool.{cases_Bool, and_parts, and_from}
 use Rattle.agg_model.specs.declared.aggregation.Agg.{Agg}
 use Rattle.std.specs.declared.cmp.Ordering.{Ordering}
 use Rattle.std.specs.Ordering.{is_le}
 use Rattle.agg_evaluation.specs.Sorting.{sorted, insert_sorted}
-use Rattle.agg_evaluation.specs.Orders.{bucket_cmp}
-use Rattle.agg_spec.specs.Filling.{frequent, filled}
 use Rattle.agg_spec.specs.Final.{Finisher, finisher, finisher_of}
 use Rattle.bucket_order.specs.Kinds.{kind_of, child_kinds}
 use Rattle.final_reduce.proofs.AggLaws.{fold_agg-level}

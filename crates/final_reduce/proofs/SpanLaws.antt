@@ -1,14 +1,13 @@
 -- What a span says of the keys of a histogram, and that each histogram with a bucket has one.
-use Rattle.std.specs.Prelude.{◌≡◌, refl, ℕ, ◌+◌, ◌-◌, ◌^◌, ◌<◌, ℤ, pos, ◌+ℤ◌, ◌-ℤ◌, ◌≤ℤ◌, ◌<ℤ◌, Bool, true, false, cond, ◌&&◌, ◌==◌, length, List, [], ◌∷◌, ◌++◌, map, filter, filter_map, Option, Some, None, is_some, option_to_list, option_map, unwrap_or, ◌⊎◌, ⊤, int_le, int_lt}
+use Rattle.std.specs.Prelude.{◌≡◌, refl, ℕ, ◌-◌, ◌^◌, ◌<◌, ℤ, pos, ◌+ℤ◌, ◌-ℤ◌, ◌≤ℤ◌, ◌<ℤ◌, Bool, true, false, cond, ◌&&◌, ◌==◌, length, List, [], ◌∷◌, ◌++◌, map, filter, Option, Some, None, is_some, option_to_list, option_map, unwrap_or, ◌⊎◌, int_le, int_lt}
 use Rattle.std.specs.List.{list_all, AllByRecursion, reduce, cons_option, fold}
-use Rattle.std.specs.Ordering.{int_eq}
 use Rattle.std.specs.Option.{option_map_or}
 use Rattle.std.specs.Int.{int_min, int_max}
-use Rattle.std.proofs.Common.{sym, ◌∙◌, ap, subst, arith, inl, inr, ⊎_elim}
-use Rattle.std.proofs.lemmas.Bool.{and_parts, false≢true, cases_Bool}
+use Rattle.std.proofs.Common.{sym, ◌∙◌, ap, subst, arith, inl, inr}
+use Rattle.std.proofs.lemmas.Bool.{and_parts, false≢true}
 use Rattle.std.proofs.lemmas.Bool.Decides.{Decides-int_eq}
 use Rattle.std.proofs.lemmas.Int.{ints, clamps, by_lt_z}
-use Rattle.agg_model.specs.declared.key.Key.{Key, out-Key}
+use Rattle.agg_model.specs.declared.key.Key.{Key}
 use Rattle.agg_model.specs.declared.key.Key.TheVariants as key
 use Rattle.agg_model.specs.declared.key.Key.TheVariants.{Whole}
 use Rattle.agg_model.specs.declared.partial.Bucket.{Bucket}
@@ -22,7 +21,7 @@ use Rattle.final_reduce.specs.Finishable.{is_histogram_key, is_near}
 use Rattle.final_reduce.specs.Steps.{IsSpan, keys_from, key_numbers, first_within, last_within}
 use Rattle.final_reduce.proofs.Intervals.{start-start, first-least, last-greatest}
 use Rattle.final_reduce.proofs.KeySteps.{filled-at, of_reduced}
-use Rattle.final_reduce.proofs.Filled.{IsAt, AreAt}
+use Rattle.final_reduce.proofs.Filled.{AreAt}
 
 -- a key of a histogram, as a number
 pub record IsMade (interval offset : ℕ) (hard : Bounds) (k : Key) : Type 0 where
@@ -192,8 +191,7 @@ module _ (interval offset : ℕ) (positive : 0 < interval) (extended hard : Boun
         let m = made interval offset hard (bucket_key c) parts.0 in
         let there : number_of_key (bucket_key c) ≡ Some m.number = ap number_of_key m.is in
         let low' = subst (λ o. AllByRecursion (λ x. span.least ≤ℤ x) (cons_option o (key_numbers cs) ++ more)) there low in
-        let high' = subst (λ o. AllByRecursion (λ x. x ≤ℤ span.greatest) (cons_option o (key_numbers cs) ++ more')) there high in
-        (
+        let high' = subst (λ o. AllByRecursion (λ x. x ≤ℤ span.greatest) (cons_option o (key_numbers cs) ++ more')) there high in (
           record { number = m.number; is = m.is; start = m.start; at_least = first-at_most m.number m.start m.within low'.0; at_most = last-at_least m.number m.start m.within high'.0 },
           each-at cs parts.1 more more' low'.1 high'.1,
         )
@@ -221,9 +219,12 @@ module _ (interval offset : ℕ) (positive : 0 < interval) (extended hard : Boun
       none lacks =
           inl (
             ap (λ b. cond b (filter (is_between hard) (map Whole (steps_between interval (least_key interval offset extended []) (greatest_key interval offset extended [])))) []) lacks,
-            (ap (λ b. cond b (keys_between interval offset hard (least_key interval offset extended []) (greatest_key interval offset extended [])) 0) lacks,
-            refl),
+            (
+              ap (λ b. cond b (keys_between interval offset hard (least_key interval offset extended []) (greatest_key interval offset extended [])) 0) lacks,
+              refl,
+            ),
           )
+
       by_bounds : (low high : Option ℤ) → extended.min ≡ low → extended.max ≡ high → Bounded []
       by_bounds None high e f = none (ap (λ o. is_some o && is_some extended.max) e)
       by_bounds (Some l) None e f = none (λ i. is_some (e i) && is_some (f i))

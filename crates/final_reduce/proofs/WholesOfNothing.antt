@@ -1,9 +1,8 @@
 -- The trees over no rows.
 use Rattle.std.specs.Prelude.{◌≡◌, refl, List, [], ◌∷◌, map}
-use Rattle.std.proofs.Common.{sym, ◌∙◌, ap}
+use Rattle.std.proofs.Common.{◌∙◌, ap}
 use Rattle.agg_model.specs.declared.partial.Node.{Node}
 use Rattle.agg_model.specs.declared.aggregation.Agg.{Agg, Agg', Row_of-Agg, end_of-Agg, more_of-Agg}
-use Rattle.agg_model.specs.declared.aggregation.Kind.{Kind}
 use Rattle.agg_evaluation.specs.Folds.{fold_aggs}
 use Rattle.agg_evaluation.specs.Whole.{whole_by, whole_node, shape_of, empty_node}
 use Rattle.agg_evaluation.proofs.AloneLaws.{whole_node-empty}

@@ -1,5 +1,5 @@
 -- Histograms as the tests have them.
-use Rattle.std.specs.Prelude.{◌≡◌, ℕ, ℤ, int_lt, Bool, true, false, ◌&&◌, List, [], ◌∷◌, map, None}
+use Rattle.std.specs.Prelude.{◌≡◌, ℕ, ℤ, int_lt, Bool, true, false, ◌&&◌, List, [], ◌∷◌, None}
 use Rattle.std.specs.List.{list_all}
 use Rattle.agg_model.specs.declared.key.Key.TheVariants.{Whole}
 use Rattle.agg_model.specs.declared.partial.Bucket.{Bucket}

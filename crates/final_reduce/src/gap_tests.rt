@@ -177,7 +177,9 @@ fn an_offset_moves_the_keys(rt: HostRuntime) -> Result<(), Fail> {
 fn ten_thousand_million_gaps_are_refused_at_once(rt: HostRuntime) -> Result<(), Fail> {
     let Sample { search, whole } = of_keys(rt.alloc(), 1, 0, &[(0, 1), (10_000_000_000, 1)])?;
     match finish(rt.alloc(), &search, 100, whole) {
-        Err(FinalFault::TooManyBuckets { count, max }) => assert!(rt; count == 10_000_000_001 && max == 100),
+        Err(FinalFault::TooManyBuckets { count, max }) => assert!(rt;
+            count == 10_000_000_001 && max == 100
+        ),
         _ => assert!(rt; false),
     }
     Ok(())

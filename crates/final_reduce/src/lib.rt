@@ -8,13 +8,13 @@ mod count;
 mod errors;
 mod filling;
 pub mod finish;
+#[cfg(test)]
+mod gap_tests;
 mod lent;
 mod parts;
 mod range;
 mod select;
 mod spans;
 mod terms;
-#[cfg(test)]
-mod gap_tests;
 #[cfg(test)]
 mod tests;

@@ -10,7 +10,7 @@ use Rattle.agg_spec.specs.GapCount.{below_empty, plan}
 use Rattle.bucket_order.specs.Kinds.{child_kinds}
 use Rattle.final_reduce.specs.Counts.{planned_from, below_from}
 use Rattle.final_reduce.specs.Finishable.{has_histogram_keys, is_finishable}
-use Rattle.final_reduce.specs.Planned.{gap_count, has_composite_keys, member_number, planned_at, planned_below, returned_at}
+use Rattle.final_reduce.specs.Planned.{gap_count, has_composite_keys, member_number, planned_below, returned_at}
 use Rattle.final_reduce.proofs.AggSizes.{children_less}
 use Rattle.final_reduce.proofs.CountLaws.{planned_from-min, below_from-min}
 use Rattle.final_reduce.proofs.FinishableLaws.{intervals-at, keys_fit, opened, returned-pass}
@@ -41,7 +41,7 @@ planned-planned_below-requires t c =
       (
         (intervals-at c.args.agg.now c.requires.intervals).1,
         ap (λ bs. have_children tests (map now bs)) c.as_slice-lent.ensures.value ∙ ap (have_children tests) (c.in_ok-returned.ensures ∙ ap (returned_at kinds a.kind) c.buckets_of-buckets.ensures)
-        ∙ returned-pass tests kinds a.kind (parts c.args.node.now).buckets (opened c.args.agg.now c.args.node.now c.requires.node).0,
+            ∙ returned-pass tests kinds a.kind (parts c.args.node.now).buckets (opened c.args.agg.now c.args.node.now c.requires.node).0,
       ),
     )
 

@@ -13,8 +13,7 @@ returns-then-count-max_buckets-clause-fault c =
 
 pub returns-in-Some-clause-fault : goal.returns-in-Some-clause-fault
 returns-in-Some-clause-fault c =
-    let count : c.in_ok-count.count ≡ total_buckets c.args.search.now (final c.args.search.now c.args.whole) = c.in_ok-count.ensures ∙ planned-is-total c.args.search.now c.args.whole c.requires in
-    (
+    let count : c.in_ok-count.count ≡ total_buckets c.args.search.now (final c.args.search.now c.args.whole) = c.in_ok-count.ensures ∙ planned-is-total c.args.search.now c.args.whole c.requires in (
       omega (arith, count, c.if-count-max_buckets.false),
       ap (λ ns. first_path (check_each (map checker c.args.search.now.aggs) ns)) (sym c.in_ok-nodes.ensures) ∙ sym c.in_ok-path.ensures ∙ ap (option_map string_bytes) c.in-Some.is ∙ ap Some (sym c.from_string.ensures),
     )

@@ -1,5 +1,5 @@
 use Rattle.std.proofs.Common.{◌≡◌, ◌∙◌, ap, sym, map, arith, List, None, Bool, [], take}
-use Rattle.std.specs.Prelude.{sum_by, length, nat_le}
+use Rattle.std.specs.Prelude.{sum_by, length}
 use Rattle.std.specs.List.{list_all}
 use Rattle.std.proofs.lemmas.Result.{IfOk-weaker}
 use Rattle.agg_model.specs.declared.aggregation.Agg.{Agg, out-Agg}

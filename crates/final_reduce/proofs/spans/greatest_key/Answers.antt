@@ -1,5 +1,5 @@
-use Rattle.std.proofs.Common.{◌≡◌, refl, ◌∙◌, ◌^◌, sym, ap, subst, arith, List}
-use Rattle.std.specs.Prelude.{ℤ, pos, ◌-ℤ◌, ◌≤ℤ◌, Option, Some, None}
+use Rattle.std.proofs.Common.{◌≡◌, refl, ◌∙◌, ◌^◌, sym, subst, arith}
+use Rattle.std.specs.Prelude.{ℤ, pos, ◌≤ℤ◌, Option, Some, None}
 use Rattle.std.specs.Option.{IfSome, option_map_or}
 use Rattle.std.specs.Int.{int_max}
 use Rattle.std.proofs.lemmas.Int.{ints, clamps}

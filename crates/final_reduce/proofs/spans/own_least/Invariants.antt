@@ -1,5 +1,4 @@
-use Rattle.std.proofs.Common.{◌≡◌, ◌++◌, List, drop, option_to_list}
-use Rattle.std.specs.Prelude.{ℤ}
+use Rattle.std.proofs.Common.{◌≡◌, ◌++◌, drop, option_to_list}
 use Rattle.std.specs.List.{reduce}
 use Rattle.std.specs.Int.{int_min}
 use Rattle.final_reduce.specs.Steps.{key_numbers}

@@ -10,5 +10,5 @@ of_one-requires c =
     record {
       intervals = alone_has_intervals agg c.in_ok-agg.ensures.interval terms.1;
       node = ap (is_finishable agg) c.in_ok-node.ensures
-      ∙ sample_can_finish agg c.args.a c.args.a_covered c.args.b c.args.b_covered c.args.cut terms (omega (arith, c.ranges.a.fits)) (omega (arith, c.ranges.a_covered.fits)) (omega (arith, c.ranges.b.fits)) (omega (arith, c.ranges.b_covered.fits)) (omega (arith, c.ranges.cut.fits));
+          ∙ sample_can_finish agg c.args.a c.args.a_covered c.args.b c.args.b_covered c.args.cut terms (omega (arith, c.ranges.a.fits)) (omega (arith, c.ranges.a_covered.fits)) (omega (arith, c.ranges.b.fits)) (omega (arith, c.ranges.b_covered.fits)) (omega (arith, c.ranges.cut.fits));
     }
