@@ -8,6 +8,4 @@
 pub mod body;
 pub mod names;
 pub mod parts;
-#[cfg(test)]
-mod tests;
 pub mod tree;
