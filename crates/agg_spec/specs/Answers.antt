@@ -1,4 +1,4 @@
--- The answers to the requests of a session, wave after wave ('Multi search API').
+-- The answers to the requests of a script, wave after wave ('Multi search API').
 use Rattle.std.specs.Prelude.{◌≡◌, ◌⊎◌, ⊤, ℕ, ◌==◌, ◌&&◌, ◌/◌, Bool, true, false, List, [], ◌∷◌, ◌++◌, map, flat_map, length, take, zip, Option, Some, None, is_some, codes}
 use Rattle.std.specs.List.{list_all}
 use Rattle.agg_model.specs.declared.settings.Settings.{Settings}

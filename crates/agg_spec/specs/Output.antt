@@ -16,7 +16,7 @@ use Rattle.agg_spec.specs.EndLines.{usage_line, script_line}
 use Rattle.agg_spec.specs.StatisticsLine.{statistics_line}
 use Rattle.agg_spec.specs.Columns.{columns_refusal}
 use Rattle.agg_spec.specs.Statistics.{Round, solo_totals, IsStatistics}
-use Rattle.agg_spec.specs.Requests.{Session, session_of}
+use Rattle.agg_spec.specs.Requests.{LoadedScript, loaded_script}
 use Rattle.agg_spec.specs.Answers.{ended_line, outcomes_text, all_have_lines, is_solo, waves_of, full_waves, AreAllAnswers, all_rounds}
 
 -- the first text is the front of the second
@@ -28,7 +28,7 @@ refusal_text r = ended_line (script_line r.number r.line r.path)
 
 module _ (settings : Settings) where
   -- the bulk line, and the lines of the answers
-  abbrev pub answers_text : Session → List (List Outcome) → List ℕ
+  abbrev pub answers_text : LoadedScript → List (List Outcome) → List ℕ
   answers_text s answers = ended_line (bulk_line s.index.name s.items (is_some settings.generate)) ++ outcomes_text (flat_map (λ os. os) answers)
 
   -- the waves that are answered: where the script ends by a refusal, only full ones
@@ -37,11 +37,11 @@ module _ (settings : Settings) where
   waves_before (Some r) requests = full_waves settings.width requests
 
   -- the answers of these waves, none of which wants memory
-  pub record HasAnswers (s : Session) (waves : List (List Request)) (answers : List (List Outcome)) : Type 0 where
+  pub record HasAnswers (s : LoadedScript) (waves : List (List Request)) (answers : List (List Outcome)) : Type 0 where
     pub allowed : AreAllAnswers settings s.index s.held waves answers
     pub complete : IsTrue (all_have_lines (flat_map (λ os. os) answers))
 
-  abbrev pub AreTotals : Session → List Round → Totals → Type 0
+  abbrev pub AreTotals : LoadedScript → List Round → Totals → Type 0
   AreTotals s rounds t =
       elim (is_solo settings) [
         | true ↦ t ≡ solo_totals settings s.index s.held (flat_map (λ r. r.requests) rounds)
@@ -49,7 +49,7 @@ module _ (settings : Settings) where
       ]
 
   -- all requests are answered, and the statistics follow
-  pub record EndsWell (s : Session) (text : List ℕ) : Type 0 where
+  pub record EndsWell (s : LoadedScript) (text : List ℕ) : Type 0 where
     pub answers : List (List Outcome)
     pub totals : Totals
     pub answered : HasAnswers s (waves_of settings.width s.requests) answers
@@ -57,53 +57,53 @@ module _ (settings : Settings) where
     pub written : text ≡ answers_text s answers ++ ended_line (statistics_line totals)
 
   -- the full waves are answered, and some text follows
-  pub record EndsWith (s : Session) (last : List ℕ) (text : List ℕ) : Type 0 where
+  pub record EndsWith (s : LoadedScript) (last : List ℕ) (text : List ℕ) : Type 0 where
     pub answers : List (List Outcome)
     pub answered : HasAnswers s (full_waves settings.width s.requests) answers
     pub written : text ≡ answers_text s answers ++ last
 
   -- the first waves are answered, up to the first that wants memory
-  pub record HasBegun (s : Session) (text : List ℕ) : Type 0 where
+  pub record HasBegun (s : LoadedScript) (text : List ℕ) : Type 0 where
     pub count : ℕ
     pub answers : List (List Outcome)
     pub answered : AreAllAnswers settings s.index s.held (take count (waves_before s.refused s.requests)) answers
     pub written : text ≡ answers_text s answers
 
   -- a script that is read to its end, or to a refusal in its third section
-  abbrev pub EndsSession : Session → Option ScriptRefusal → List ℕ → ℕ → Type 0
-  EndsSession s None text status = (status ≡ 0) × EndsWell s text
-  EndsSession s (Some r) text status = (status ≡ 5) × EndsWith s (refusal_text r) text
+  abbrev pub EndsScript : LoadedScript → Option ScriptRefusal → List ℕ → ℕ → Type 0
+  EndsScript s None text status = (status ≡ 0) × EndsWell s text
+  EndsScript s (Some r) text status = (status ≡ 5) × EndsWith s (refusal_text r) text
 
   -- columns beyond a limit end the run
-  abbrev pub EndsLoaded : Session → Option Tripped → List ℕ → ℕ → Type 0
+  abbrev pub EndsLoaded : LoadedScript → Option Tripped → List ℕ → ℕ → Type 0
   EndsLoaded s (Some t) text status = (status ≡ 6) × (text ≡ ended_line (exception_line t (codes "columns") 6))
-  EndsLoaded s None text status = EndsSession s s.refused text status
+  EndsLoaded s None text status = EndsScript s s.refused text status
 
-  abbrev pub refusal_of_columns : Session → Option Tripped
+  abbrev pub refusal_of_columns : LoadedScript → Option Tripped
   refusal_of_columns s = columns_refusal settings.limits s.held
 
   -- the output of a script that is read to its end or to a refusal
   abbrev pub Ends : Result Loaded ScriptRefusal → List ℕ → ℕ → Type 0
   Ends (Err r) text status = (status ≡ 5) × (text ≡ refusal_text r)
-  Ends (Ok l) text status = EndsLoaded (session_of l) (refusal_of_columns (session_of l)) text status
+  Ends (Ok l) text status = EndsLoaded (loaded_script l) (refusal_of_columns (loaded_script l)) text status
 
   -- the output where the source failed, by the lines that were read: nothing follows the full waves
-  abbrev pub StopsLoaded : Session → Option Tripped → List ℕ → Type 0
+  abbrev pub StopsLoaded : LoadedScript → Option Tripped → List ℕ → Type 0
   StopsLoaded s (Some t) text = text ≡ []
   StopsLoaded s None text = EndsWith s [] text
 
   abbrev pub Stops : Result Loaded ScriptRefusal → List ℕ → Type 0
   Stops (Err r) text = text ≡ []
-  Stops (Ok l) text = StopsLoaded (session_of l) (refusal_of_columns (session_of l)) text
+  Stops (Ok l) text = StopsLoaded (loaded_script l) (refusal_of_columns (loaded_script l)) text
 
-  abbrev pub BeginsLoaded : Session → Option Tripped → List ℕ → Type 0
+  abbrev pub BeginsLoaded : LoadedScript → Option Tripped → List ℕ → Type 0
   BeginsLoaded s (Some t) text = text ≡ ended_line (exception_line t (codes "columns") 6)
-  BeginsLoaded s None text = HasBegun s text ⊎ ((status : ℕ) × EndsSession s s.refused text status)
+  BeginsLoaded s None text = HasBegun s text ⊎ ((status : ℕ) × EndsScript s s.refused text status)
 
   -- what an output may begin with
   abbrev pub Begins : Result Loaded ScriptRefusal → List ℕ → Type 0
   Begins (Err r) text = text ≡ refusal_text r
-  Begins (Ok l) text = BeginsLoaded (session_of l) (refusal_of_columns (session_of l)) text
+  Begins (Ok l) text = BeginsLoaded (loaded_script l) (refusal_of_columns (loaded_script l)) text
 
   -- a generated script takes the place of the input
   abbrev pub script_of : List ℕ → List ℕ

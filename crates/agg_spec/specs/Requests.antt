@@ -34,7 +34,7 @@ abbrev pub request_of : Index → List ℕ → Request
 request_of index body = record { bytes = length body; search = or_refused (search_of index.mapping body) }
 
 -- what is there once the bulk lines are loaded: the requests that follow, and the refusal that ends them
-pub record Session : Type 0 where
+pub record LoadedScript : Type 0 where
   pub index : Index
   pub items : List Item
   -- the columns' charge
@@ -42,8 +42,8 @@ pub record Session : Type 0 where
   pub requests : List Request
   pub refused : Option ScriptRefusal
 
-abbrev pub session_of : Loaded → Session
-session_of l =
+abbrev pub loaded_script : Loaded → LoadedScript
+loaded_script l =
     let index = loaded_index l in
     let following = pairs l.place l.rest in
     (record {
