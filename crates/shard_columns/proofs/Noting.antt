@@ -1,13 +1,13 @@
 -- Words that are collected field by field, and the dictionary of a field.
-use Rattle.std.proofs.Common.{T, Bool, true, false, cond, eqb, eq-eqb, flat_map, zero, suc, ◌≡◌, ◌≢◌, refl, ℕ, ◌+◌, ◌-◌, ◌<◌, List, [], ◌∷◌, ◌++◌, map, length, get_or, set, sym, ◌∙◌, ap, subst, arith, length-append, append_assoc, Contains, IsSorted, inl, inr}
-use Rattle.std.proofs.lemmas.List.{append-nil, get_or_append_left, get_or-append-add, length-set, get_or-set_same, get_or-set_other}
+use Rattle.std.proofs.Common.{T, Bool, true, false, cond, eqb, eq-eqb, flat_map, zero, suc, ◌≡◌, ◌≢◌, refl, ℕ, ◌+◌, ◌-◌, ◌<◌, List, [], ◌∷◌, ◌++◌, map, length, get_or, set, sym, ◌∙◌, ap, subst, arith, length-append, append_assoc, Contains, IsSorted, inl, inr, Bor}
+use Rattle.std.proofs.lemmas.List.{append-nil, length-map, map-set, get_or-map, get_or_append_left, get_or-append-add, length-set, get_or-set_same, get_or-set_other}
 use Rattle.std.proofs.lemmas.Grind.{flat_map-append}
 use Rattle.std.specs.Ordering.{nat_cmp, is_lt, ordering_reverse}
 use Rattle.std.specs.declared.cmp.Ordering.TheVariants.{Less}
 use Rattle.std.specs.Cmp.Lexicographic.{slice_cmp, pointwise, texts_ties, nat_list_eq_equiv}
-use Rattle.std.specs.List.{dedup}
+use Rattle.std.specs.List.{dedup, dedup_from, AllByRecursion}
 use Rattle.std.specs.List.Sorted.{IsPermutation, IsStrictlySortedBy}
-use Rattle.std.proofs.lemmas.List.Sorted.{IsPermutation-sym, Contains-permutation}
+use Rattle.std.proofs.lemmas.List.Sorted.{IsPermutation-map, IsPermutation-sym, Contains-permutation}
 use Rattle.std.proofs.lemmas.Map.Keys.{Less-from_sorted}
 use Rattle.std.proofs.lemmas.Map.Views.{tells_apart}
 use Rattle.std.proofs.lemmas.Map.Lookups.{exact_bytes}
@@ -15,13 +15,18 @@ use Rattle.std.proofs.Math.Facts.{eqb_yes}
 use Rattle.std.proofs.Math.Seq.{get_or-append_seam}
 use Rattle.std.proofs.lemmas.Bool.{cases_lt}
 use Rattle.std.specs.List.Retain.{IsFiltered, DiffersFromLast}
-use Rattle.std.proofs.lemmas.Cmp.{nat_list_cmp_total}
+use Rattle.std.proofs.lemmas.Cmp.{nat_list_cmp_total, on_total}
 use Rattle.std.proofs.lemmas.List.Filters.{dedup_is}
 use Rattle.std.proofs.lemmas.List.Kept.{Contains-dedup, Contains-from_dedup, IsStrictlySortedBy-dedup}
+use Rattle.std.specs.Prelude.{Vec}
+use Rattle.std.specs.declared.alloc.Global.{Global}
 use Rattle.agg_model.specs.declared.row.FieldValues.{FieldValues}
 use Rattle.shard_columns.specs.declared.layout.Laid.{Laid}
 use Rattle.shard_columns.specs.Values.{Words, words_in, words_at, words_for, FieldsBelow}
-use Rattle.shard_columns.specs.Words.{Notes, NotesRows, SameWords, row_words, AllFieldsBelow, AllSame, AreEmpty, AreDictionaries}
+use Rattle.shard_columns.specs.Words.{lent, lent_by_field, Notes, NotesRows, SameWords, row_words, AllFieldsBelow, AllSame, AreEmpty, AreDictionaries}
+
+pub lent_by_field-length : (lists : List (Vec (Bor (List ℕ)) Global)) → length (lent_by_field lists) ≡ length lists
+lent_by_field-length lists = length-map lists (λ (l : Vec (Bor (List ℕ)) Global). lent l.items)
 
 pub Notes-none : (old : List Words) → Notes old old []
 Notes-none old = record { sizes = refl; words_are = λ f below. sym (append-nil (get_or old f [])) }
@@ -58,15 +63,45 @@ ascend-strict ws strict k d from below =
     let less : slice_cmp nat_cmp (get_or ws k d) (get_or ws (k + 1) d) ≡ Less = Less-from_sorted (slice_cmp nat_cmp) ws k (k + 1) d strict (omega arith) below in
     ap is_lt (nat_list_cmp_total.antisymm (get_or ws (k + 1) d) (get_or ws k d) ∙ ap ordering_reverse less)
 
-pub SameWords-sorted : (words sorted distinct : Words) → IsPermutation words sorted → IsSorted (slice_cmp nat_cmp) sorted → IsFiltered (DiffersFromLast (pointwise eqb)) [] sorted distinct → SameWords words distinct
-SameWords-sorted words sorted distinct permutation ascend filtered =
-    let is : distinct ≡ dedup (pointwise eqb) sorted = dedup_is (pointwise eqb) sorted distinct filtered in
-    let strict : IsStrictlySortedBy (slice_cmp nat_cmp) distinct = subst (IsStrictlySortedBy (slice_cmp nat_cmp)) (sym is) (IsStrictlySortedBy-dedup nat_list_cmp_total texts_ties sorted ascend) in
+abbrev Word : Type 0
+Word = Bor (List ℕ)
+
+abbrev same_word : Word → Word → Bool
+same_word x y = pointwise eqb x.now y.now
+
+lent-cond : (b : Bool) (us vs : List Word) → lent (cond b us vs) ≡ cond b (lent us) (lent vs)
+lent-cond true us vs = refl
+lent-cond false us vs = refl
+
+lent-dedup_from : (ws : List Word) (k : Word) → lent (dedup_from same_word k ws) ≡ dedup_from (pointwise eqb) k.now (lent ws)
+lent-dedup_from [] k = refl
+lent-dedup_from (w ∷ ws) k = rw (lent-cond, lent-dedup_from ws k, lent-dedup_from ws w)
+
+lent-dedup : (ws : List Word) → lent (dedup same_word ws) ≡ dedup (pointwise eqb) (lent ws)
+lent-dedup [] = refl
+lent-dedup (w ∷ ws) = lent-dedup_from ws w
+
+after-lent : (w : Word) (ws : List Word) → AllByRecursion (λ v. slice_cmp nat_cmp w.now v.now ≡ Less) ws → AllByRecursion (λ v. slice_cmp nat_cmp w.now v ≡ Less) (lent ws)
+after-lent w [] after = after
+after-lent w (v ∷ vs) after = (after.0, after-lent w vs after.1)
+
+lent-strict : (ws : List Word) → IsStrictlySortedBy (λ v w. slice_cmp nat_cmp v.now w.now) ws → IsStrictlySortedBy (slice_cmp nat_cmp) (lent ws)
+unfolding IsStrictlySortedBy
+lent-strict [] strict = strict
+lent-strict (w ∷ ws) strict = (after-lent w ws strict.0, lent-strict ws strict.1)
+
+pub SameWords-lent : (words sorted distinct : List Word) → IsPermutation words sorted → IsSorted (λ v w. slice_cmp nat_cmp v.now w.now) sorted → IsFiltered (DiffersFromLast same_word) [] sorted distinct → SameWords (lent words) (lent distinct)
+SameWords-lent words sorted distinct permutation ascend filtered =
+    let left : distinct ≡ dedup same_word sorted = dedup_is same_word sorted distinct filtered in
+    let is : lent distinct ≡ dedup (pointwise eqb) (lent sorted) = ap lent left ∙ lent-dedup sorted in
+    let moved : IsPermutation (lent words) (lent sorted) = IsPermutation-map (λ (w : Word). w.now) words sorted permutation in
+    let strict : IsStrictlySortedBy (slice_cmp nat_cmp) (lent distinct) =
+    lent-strict distinct (subst (IsStrictlySortedBy (λ v w. slice_cmp nat_cmp v.now w.now)) (sym left) (IsStrictlySortedBy-dedup (on_total (λ (w : Word). w.now) nat_list_cmp_total) (λ v w. texts_ties v.now w.now) sorted ascend)) in
     record {
       strict = strict;
-      ascend = ascend-strict distinct strict;
-      kept = λ w has. subst (λ (ws : Words). Contains ws w) (sym is) (Contains-dedup nat_list_eq_equiv same_text sorted w (Contains-permutation words sorted w permutation has));
-      nothing_else = λ w has. Contains-permutation sorted words w (IsPermutation-sym words sorted permutation) (Contains-from_dedup (pointwise eqb) sorted w (subst (λ (ws : Words). Contains ws w) is has));
+      ascend = ascend-strict (lent distinct) strict;
+      kept = λ w has. subst (λ (ws : Words). Contains ws w) (sym is) (Contains-dedup nat_list_eq_equiv same_text (lent sorted) w (Contains-permutation (lent words) (lent sorted) w moved has));
+      nothing_else = λ w has. Contains-permutation (lent sorted) (lent words) w (IsPermutation-sym (lent words) (lent sorted) moved) (Contains-from_dedup (pointwise eqb) (lent sorted) w (subst (λ (ws : Words). Contains ws w) is has));
     }
 
 pub NotesRows-none : (old : List Words) → NotesRows old old []
@@ -86,6 +121,14 @@ unfolding AllFieldsBelow
 AllFieldsBelow-at m [] n d below has = absurd (omega arith)
 AllFieldsBelow-at m (l ∷ ls) zero d below has = has.0
 AllFieldsBelow-at m (l ∷ ls) (suc n) d below has = AllFieldsBelow-at m ls n d (omega arith) has.1
+
+pub Notes-lent : (old new : List (Vec (Bor (List ℕ)) Global)) (field : FieldValues) (here noted : Vec (Bor (List ℕ)) Global) → field.field < length old → here ≡ get_or old field.field here →
+    lent noted.items ≡ lent here.items ++ words_in field.values → new ≡ set old field.field noted → Notes (lent_by_field old) (lent_by_field new) (field ∷ [])
+Notes-lent old new field here noted below read more is =
+    let lend = λ (l : Vec (Bor (List ℕ)) Global). lent l.items in
+    let at : get_or (lent_by_field old) field.field [] ≡ lent here.items = get_or-map lend old field.field here [] below ∙ ap lend (sym read) in
+    subst (λ (ws : List Words). Notes (lent_by_field old) ws (field ∷ [])) (sym (ap lent_by_field is ∙ map-set lend old field.field noted))
+    (Notes-set (lent_by_field old) field (lent noted.items) (subst (λ (n : ℕ). field.field < n) (sym (lent_by_field-length old)) below) (more ∙ ap (λ (ws : Words). ws ++ words_in field.values) (sym at)))
 
 pub AllSame-none : AllSame [] []
 AllSame-none = record { sizes = refl; same = λ f below. absurd (omega arith) }

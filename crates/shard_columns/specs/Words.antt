@@ -1,11 +1,21 @@
 -- The words that are met in rows, field by field.
-use Rattle.std.specs.Prelude.{◌≡◌, ℕ, ◌<◌, List, [], ◌∷◌, ◌++◌, length, slice_index_or, flat_map}
+use Rattle.std.specs.Prelude.{◌≡◌, ℕ, ◌<◌, List, [], ◌∷◌, ◌++◌, length, slice_index_or, flat_map, map, Vec}
+use Rattle.std.specs.Borrow.{Bor}
+use Rattle.std.specs.declared.alloc.Global.{Global}
 use Rattle.agg_model.specs.declared.row.FieldValues.{FieldValues}
 use Rattle.std.specs.Ordering.{nat_cmp}
 use Rattle.std.specs.Cmp.Lexicographic.{slice_cmp}
 use Rattle.std.specs.List.Sorted.{IsStrictlySortedBy}
 use Rattle.shard_columns.specs.declared.layout.Laid.{Laid}
 use Rattle.shard_columns.specs.Values.{Words, words_for, AllAmong, IsAscending, FieldsBelow}
+
+-- the words that are lent
+abbrev pub lent : List (Bor (List ℕ)) → Words
+lent words = map (λ w. w.now) words
+
+-- those of each field
+abbrev pub lent_by_field : List (Vec (Bor (List ℕ)) Global) → List Words
+lent_by_field lists = map (λ l. lent l.items) lists
 
 pub record AreEmpty (count : ℕ) (words : List Words) : Type 0 where
   pub sizes : length words ≡ count

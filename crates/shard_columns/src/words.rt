@@ -2,7 +2,7 @@
 ghost use Rattle.std.specs.Prelude.{◌≡◌, ◌++◌, ◌∷◌, ◌<◌, ◌≤◌, ◌*◌, ◌^◌, ℕ, [], OnOk, IfOk, length, map, sum_by, slice_index_or};
 ghost use Rattle.agg_evaluation.specs.Ceiling.{greatest_of};
 ghost use Rattle.shard_columns.specs.Values.{IsAscending, AllAmong, words_in, word_in, FieldsBelow};
-ghost use Rattle.shard_columns.specs.Words.{Notes, AllFieldsBelow, NotesRows, SameWords, AllSame, AreEmpty, AreDictionaries};
+ghost use Rattle.shard_columns.specs.Words.{lent, lent_by_field, Notes, AllFieldsBelow, NotesRows, SameWords, AllSame, AreEmpty, AreDictionaries};
 
 use crate::layout::Laid;
 use agg_model::copying::Copying;
@@ -11,90 +11,91 @@ use agg_model::row::{FieldValues, Scalar};
 use agg_model::text::Text;
 use std::alloc::{AllocError, Global};
 
-fn note_value(alloc: Global, words: &mut List<Text>, value: &Scalar) -> Result<(), AllocError>
-    ensures { OnOk result (words.new ≡ words.old ++ word_in value.now) }
+fn note_value<'a>(words: &mut Vec<&'a Text>, value: &'a Scalar) -> Result<(), AllocError>
+    ensures { OnOk result (lent words.new.items ≡ lent words.old.items ++ word_in value.now) }
 {
     if let Scalar::Word(word) = value {
-        words.push(word.copy(alloc)?)?;
+        words.push(word)?;
     }
     Ok(())
 }
 
-fn note_values(
-    alloc: Global,
-    words: &mut List<Text>,
-    values: &List<Scalar>,
-) -> Result<(), AllocError>
-    ensures { OnOk result (words.new ≡ words.old ++ words_in values.now) }
+fn note_values<'a>(words: &mut Vec<&'a Text>, values: &'a List<Scalar>) -> Result<(), AllocError>
+    ensures { OnOk result (lent words.new.items ≡ lent words.old.items ++ words_in values.now) }
 {
     for value in values.as_slice() {
-        note_value(alloc, words, value)?;
+        note_value(words, value)?;
     }
     Ok(())
 }
 
-fn note_field(
-    alloc: Global,
-    words: &mut Vec<List<Text>>,
-    field: &FieldValues,
-) -> Result<(), AllocError>
+fn note_field<'a>(words: &mut Vec<Vec<&'a Text>>, field: &'a FieldValues) -> Result<(), AllocError>
     requires { field.now.field < length words.old.items }
-    ensures { OnOk result (Notes words.old.items words.new.items (field.now ∷ [])) }
+    ensures { OnOk result (Notes (lent_by_field words.old.items) (lent_by_field words.new.items) (field.now ∷ [])) }
 {
-    note_values(alloc, &mut words[field.field as usize], &field.values)?;
+    note_values(&mut words[field.field as usize], &field.values)?;
     Ok(())
 }
 
-fn note_fields(
-    alloc: Global,
-    words: &mut Vec<List<Text>>,
-    fields: &List<FieldValues>,
+fn note_fields<'a>(
+    words: &mut Vec<Vec<&'a Text>>,
+    fields: &'a List<FieldValues>,
 ) -> Result<(), AllocError>
     requires { FieldsBelow (length words.old.items) fields.now }
-    ensures { OnOk result (Notes words.old.items words.new.items fields.now) }
+    ensures { OnOk result (Notes (lent_by_field words.old.items) (lent_by_field words.new.items) fields.now) }
 {
     for field in fields.as_slice() {
-        note_field(alloc, words, field)?;
+        note_field(words, field)?;
     }
     Ok(())
 }
 
-/// The distinct words of a list in ascending order.
-fn dictionary(words: List<Text>) -> Result<List<Text>, AllocError>
-    ensures { IfOk result (λ d. SameWords words d) }
+fn copied(alloc: Global, words: &[&Text]) -> Result<List<Text>, AllocError>
+    ensures { IfOk result (λ copies. copies ≡ lent words.now) }
 {
-    let mut words = words.into_vec();
-    words.sort()?;
-    words.dedup();
-    Ok(List::from_vec(words))
+    let mut copies = List::new(alloc);
+    for word in words {
+        copies.push(word.copy(alloc)?)?;
+    }
+    Ok(copies)
 }
 
-fn note_rows(alloc: Global, words: &mut Vec<List<Text>>, rows: &[Laid]) -> Result<(), AllocError>
+/// The distinct words of a list in ascending order. Of equal words one alone is copied.
+fn dictionary(alloc: Global, words: Vec<&Text>) -> Result<List<Text>, AllocError>
+    ensures { IfOk result (λ d. SameWords (lent words.entry.items) d) }
+{
+    let mut distinct = words;
+    distinct.sort()?;
+    distinct.dedup();
+    copied(alloc, distinct.as_slice())
+}
+
+fn note_rows<'a>(words: &mut Vec<Vec<&'a Text>>, rows: &[Laid<'a>]) -> Result<(), AllocError>
     requires { AllFieldsBelow (length words.old.items) rows.now }
-    ensures { OnOk result (NotesRows words.old.items words.new.items rows.now) }
+    ensures { OnOk result (NotesRows (lent_by_field words.old.items) (lent_by_field words.new.items) rows.now) }
 {
     for row in rows {
-        note_fields(alloc, words, row.values)?;
+        note_fields(words, row.values)?;
     }
     Ok(())
 }
 
-fn empty_lists(alloc: Global, count: usize) -> Result<Vec<List<Text>>, AllocError>
-    ensures { IfOk result (λ words. AreEmpty count words.items) }
+fn empty_lists<'a>(alloc: Global, count: usize) -> Result<Vec<Vec<&'a Text>>, AllocError>
+    ensures { IfOk result (λ words. AreEmpty count (lent_by_field words.items)) }
 {
     let mut words = Vec::new(alloc);
     for _place in 0..count {
-        words.push(List::new(alloc))?;
+        words.push(Vec::new(alloc))?;
     }
     Ok(words)
 }
 
-fn sort_all(alloc: Global, words: Vec<List<Text>>) -> Result<Vec<List<Text>>, AllocError>
-    ensures { IfOk result (λ distinct. AllSame words.items distinct.items) }
+fn sort_all(alloc: Global, words: Vec<Vec<&Text>>) -> Result<Vec<List<Text>>, AllocError>
+    ensures { IfOk result (λ distinct. AllSame (lent_by_field words.entry.items) distinct.items) }
 {
     let mut distinct = Vec::new(alloc);
     for list in words {
-        distinct.push(dictionary(list)?)?;
+        distinct.push(dictionary(alloc, list)?)?;
     }
     Ok(distinct)
 }
@@ -109,7 +110,7 @@ pub fn dictionaries(
     ensures { IfOk result (λ words. AreDictionaries count rows.now words.items) }
 {
     let mut words = empty_lists(alloc, count)?;
-    note_rows(alloc, &mut words, rows)?;
+    note_rows(&mut words, rows)?;
     let distinct = sort_all(alloc, words)?;
     Ok(distinct)
 }
