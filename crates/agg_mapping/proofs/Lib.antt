@@ -1,3 +1,4 @@
+pub mod Beneath
 pub mod CollectedLemmas
 pub mod Finding
 pub mod Placing

@@ -1,6 +1,7 @@
-//! Items with a path, and the search for one among many.
+//! Paths, items that have one, and the search for one among many.
 
 ghost use Rattle.std.specs.Prelude.{◌≡◌, ◌<◌, [], ℕ, List, IfOk, IfSome, length, option_map};
+ghost use Rattle.agg_reading.specs.Fields.{is_beneath};
 ghost use Rattle.agg_mapping.specs.Arranged.{placed};
 ghost use Rattle.agg_mapping.specs.Paths.{AscendsBy, first_from};
 
@@ -58,6 +59,13 @@ impl HasPath for Text {
     fn path(&self) -> &[u8] {
         self.as_str().as_bytes()
     }
+}
+
+/// Whether a path lies strictly beneath another: the other's names come first, then a dot. No path lies beneath itself.
+pub fn is_beneath(outer: &[u8], path: &[u8]) -> bool
+    ensures { result ≡ is_beneath outer.now path.now }
+{
+    path.starts_with(outer) && path[outer.len()..].starts_with(b".")
 }
 
 /// The items in byte order of their paths; those with one path keep their order.

@@ -1,6 +1,6 @@
 //! Where a value stands. A place lives on the stack of the walk and is written only when something is refused.
 
-ghost use Rattle.std.specs.Prelude.{◌≡◌, ◌++◌, OnOk, string_bytes};
+ghost use Rattle.std.specs.Prelude.{◌≡◌, ◌++◌, IfOk, OnOk, string_bytes};
 ghost use Rattle.std.specs.List.{flat_map};
 ghost use Rattle.std.specs.Str.{chars};
 ghost use Rattle.agg_reading.specs.Pointer.{escaped};
@@ -57,15 +57,22 @@ impl At<'_> {
         }
     }
 
+    /// The pointer as a text.
+    pub fn text(&self, alloc: Global) -> Result<Text, AllocError>
+        ensures { IfOk result (λ t. t ≡ pointer self.now) }
+    {
+        let mut out = String::new(alloc);
+        self.write(&mut out)?;
+        Ok(Text::from_string(out))
+    }
+
     /// A refusal of this number at this place, or `Memory` where the pointer cannot be written.
     pub fn refuse<T>(&self, alloc: Global, code: u16) -> Result<T, RequestFault>
         ensures { Gives (λ x. x) result (refuse code (pointer self.now)) }
     {
-        let mut out = String::new(alloc);
-        self.write(&mut out)?;
         Err(RequestFault::Bad {
             code,
-            path: Text::from_string(out),
+            path: self.text(alloc)?,
         })
     }
 }
