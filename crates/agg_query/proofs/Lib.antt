@@ -1,2 +1,2 @@
-mod Beneath
 mod Levels
+mod NestedPlaces
