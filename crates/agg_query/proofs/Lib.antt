@@ -1,2 +1,3 @@
-mod Beneath
 mod Levels
+mod NestedPlaces
+mod Readable

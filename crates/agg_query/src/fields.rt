@@ -1,16 +1,16 @@
 //! Fields and nested paths that a search names.
 
-ghost use Rattle.std.specs.Prelude.{◌≡◌, ◌<◌, ◌∷◌, ◌++◌, [], IfOk, nat_eq};
-ghost use Rattle.std.specs.List.{starts_with};
+ghost use Rattle.std.specs.Prelude.{◌≡◌, ◌<◌, IfOk};
 ghost use Rattle.serde_json.specs.View.{members_view};
 ghost use Rattle.json_walk.specs.Places.{pointer};
 ghost use Rattle.agg_reading.specs.Outcome.{Gives};
-ghost use Rattle.agg_reading.specs.Fields.{field_at, is_beneath, is_in_context};
+ghost use Rattle.agg_reading.specs.Fields.{field_at, is_in_context};
 ghost use Rattle.agg_reading.specs.Leaves.{field_in};
 ghost use Rattle.agg_reading.specs.Query.{nested_at, path_in};
 ghost use Rattle.agg_mapping.specs.Paths.{IsOrdered};
 
 use agg_mapping::lookup::{find_field, find_nested};
+use agg_mapping::paths::is_beneath;
 use agg_model::mapping::{Field, Mapping, NestedPath};
 use agg_reading::fault::RequestFault;
 use json_walk::at::At;
@@ -51,13 +51,6 @@ pub fn field_in<'m>(
     let at = At::Member(at, "field");
     let path = text(alloc, 103, &at, value)?;
     field(alloc, mapping, &at, path)
-}
-
-/// Whether a path lies strictly beneath another: the other's names come first, then a dot.
-fn is_beneath(outer: &[u8], path: &[u8]) -> bool
-    ensures { result ≡ starts_with nat_eq path.now (outer.now ++ 46 ∷ []) }
-{
-    path.starts_with(outer) && path[outer.len()..].starts_with(b".")
 }
 
 /// Whether a path lies strictly beneath a context: 0 is the root, i + 1 the i-th nested path.

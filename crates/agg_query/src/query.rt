@@ -1,8 +1,9 @@
 //! Queries, with those that hold others: `bool` and `nested` ('Query DSL': compound and joining queries).
 
-ghost use Rattle.std.specs.Prelude.{◌≡◌, ◌≤◌, [], IfOk, codes};
+ghost use Rattle.std.specs.Prelude.{◌≡◌, ◌≢◌, ◌≤◌, [], Err, IfOk, codes};
 ghost use Rattle.serde_json.specs.View.{view, items_view, members_view};
 ghost use Rattle.json_walk.specs.Places.{pointer};
+ghost use Rattle.agg_reading.specs.declared.fault.RequestFault.TheVariants.{NotJson};
 ghost use Rattle.agg_reading.specs.Outcome.{Gives};
 ghost use Rattle.agg_reading.specs.Json.{optional, sole_at};
 ghost use Rattle.agg_reading.specs.Numbers.{whole_at};
@@ -342,7 +343,8 @@ impl Reader<'_> {
 
 /// The query that a value within a search is, over rows of this context (0 for the root, i + 1 for the i-th nested
 /// path), and how many queries of the search were begun up to its end, where so many were begun before it. Refused with
-/// the pointer of the first thing that breaks a rule: a query nests at most 32 deep, and a search has at most 1,024.
+/// the pointer of the first thing that breaks a rule: a query nests at most 32 deep, and a search has at most 1,024. Never
+/// `NotJson`, since the value was read.
 #[tactic(auto, unfolding(agg_reading::specs::Query::top_query_at))]
 pub fn counted_query_at(
     alloc: Global,
@@ -356,6 +358,7 @@ pub fn counted_query_at(
     requires count { before ≤ 1024 }
     ensures value { Gives (λ x. x) result
         (top_query_at mapping.now context before (pointer at.now) (view value.now)) }
+    ensures json { result ≢ Err NotJson }
     ensures count { IfOk result (λ x. x.1 ≤ 1024) }
 {
     let reader = Reader { alloc, mapping };
@@ -374,7 +377,8 @@ pub fn query_of(
 ) -> Result<Query, RequestFault>
     requires ordered { IsOrdered mapping.now }
     requires count { before ≤ 1024 }
-    ensures { Gives (λ q. q) result (query_from mapping.now context before at.now (view value.now)) }
+    ensures value { Gives (λ q. q) result (query_from mapping.now context before at.now (view value.now)) }
+    ensures json { result ≢ Err NotJson }
 {
     let at = At::Start(at.as_str());
     let (query, _) = counted_query_at(alloc, mapping, context, before, &at, value)?;

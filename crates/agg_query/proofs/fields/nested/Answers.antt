@@ -1,5 +1,5 @@
 use Rattle.std.proofs.Common.{arith, sym}
-use Rattle.agg_query.proofs.Beneath.{place_below}
+use Rattle.agg_query.proofs.NestedPlaces.{place_below}
 use Rattle.agg_query.proofs.fields.nested.Goals as goal
 
 pub returns-clause-few : goal.returns-clause-few

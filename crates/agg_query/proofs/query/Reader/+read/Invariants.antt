@@ -1,4 +1,4 @@
-use Rattle.std.proofs.Common.{◌≡◌, ℕ, ◌+◌, ◌*◌, ◌≤◌, drop}
+use Rattle.std.proofs.Common.{◌≡◌, ◌+◌, ◌*◌, ◌≤◌, drop}
 use Rattle.serde_json.specs.View.{items_view}
 use Rattle.json_walk.specs.Places.{pointer}
 use Rattle.agg_reading.specs.Query.{queries_from, query_at}

@@ -1,25 +1,9 @@
--- Nested paths: what lies beneath another, and how many places there are.
-use Rattle.std.proofs.Common.{◌≡◌, refl, ℕ, ◌+◌, ◌<◌, zero, suc, Bool, true, false, List, [], ◌∷◌, ◌++◌, length, drop, cond, arith, ap, ◌∙◌, Option, Some, None}
-use Rattle.std.specs.Prelude.{◌&&◌, nat_eq}
+-- How many places of nested paths there are.
+use Rattle.std.proofs.Common.{◌≡◌, ℕ, ◌+◌, ◌<◌, suc, Bool, true, false, List, [], ◌∷◌, length, cond, arith, ap, Option, Some}
 use Rattle.std.specs.Option.{option_map_or}
-use Rattle.std.specs.List.{starts_with}
 use Rattle.std.specs.Str.{bytes_eq}
 use Rattle.agg_model.specs.declared.mapping.NestedPath.{NestedPath}
 use Rattle.agg_reading.specs.Fields.{nested_from}
-
--- whether a path has a dot at this place
-abbrev pub has_dot : List ℕ → ℕ → Bool
-has_dot path n = starts_with nat_eq (drop n path) (46 ∷ [])
-
-regrouped : (a b c d : Bool) → b ≡ (c && d) → (a && b) ≡ ((a && c) && d)
-regrouped true b c d e = e
-regrouped false b c d e = refl
-
-pub beneath_is : (outer path : List ℕ) → starts_with nat_eq path (outer ++ 46 ∷ []) ≡ (starts_with nat_eq path outer && has_dot path (length outer))
-beneath_is [] [] = refl
-beneath_is [] (c ∷ cs) = refl
-beneath_is (b ∷ bs) [] = refl
-beneath_is (b ∷ bs) (c ∷ cs) = regrouped (nat_eq b c) _ _ _ (beneath_is bs cs)
 
 below_all : (b : Bool) (n m : ℕ) (p : NestedPath) (later : Option (ℕ × NestedPath)) (q : ℕ × NestedPath) → (later ≡ Some q → q.0 < (n + 1) + m) → cond b (Some (n, p)) later ≡ Some q → q.0 < n + suc m
 below_all true n m p later q h e =
