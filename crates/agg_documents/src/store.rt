@@ -101,8 +101,12 @@ impl Store {
     {
         self.live
     }
-    /// The live document at a place counted from 0, in the order of the ids; none where there are fewer. It goes through
-    /// the ids before it, so that whoever wants all documents takes `into_shards`.
+
+    /// The live document at a place counted from 0, in the order of the ids; none where there are fewer.
+    ///
+    /// It takes time in proportion to the ids up to that document, deleted ones included: a place among the live
+    /// documents is nowhere kept, since a deletion moves all behind it. So it serves to look at single documents;
+    /// whoever wants all of them takes `into_shards`, which goes through the store once.
     pub fn get(&self, place: usize) -> Option<&Document>
         ensures { option_copied result ≡ slice_get (live_documents self.now) place }
     {

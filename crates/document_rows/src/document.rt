@@ -7,10 +7,11 @@ ghost use Rattle.document_values.specs.Faults.{Gives};
 ghost use Rattle.document_rows.specs.States.{root_at};
 
 use crate::draft::RowDraft;
-use crate::walk::{Walked, members, refuse};
+use crate::walk::{Walked, members};
 use agg_model::mapping::Mapping;
 use agg_model::row::Row;
 use document_values::fault::ItemFault;
+use document_values::refusal::refuse;
 use json_walk::bytes::reading;
 use serde_json::{Map, Value};
 use std::alloc::Global;

@@ -6,7 +6,6 @@ ghost use Rattle.std.specs.Str.{IsCharBoundary};
 ghost use Rattle.serde_json.specs.Data.{object};
 ghost use Rattle.serde_json.specs.View.{view, items_view, members_view};
 ghost use Rattle.agg_model.specs.declared.mapping.Field.{Field};
-ghost use Rattle.agg_reading.specs.Outcome.{refuse};
 ghost use Rattle.agg_reading.specs.Document.{with_scalar, leaf_at, around, value_at, items_at, members_at, member_at};
 ghost use Rattle.agg_mapping.specs.Paths.{IsOrdered};
 ghost use Rattle.document_values.specs.Faults.{Gives};
@@ -16,12 +15,11 @@ ghost use Rattle.document_rows.specs.States.{state_of, nested_at};
 
 use crate::draft::RowDraft;
 use crate::roles::role_of;
-use agg_model::bulk::ItemRefusal;
 use agg_model::mapping::Mapping;
 use agg_model::row::Scalar;
-use agg_model::text::Text;
 use agg_reading::parts::Role;
 use document_values::fault::ItemFault;
+use document_values::refusal::refuse;
 use document_values::values::scalar;
 use serde_json::{Map, Value};
 use std::alloc::{AllocError, Global};
@@ -41,16 +39,6 @@ pub(crate) struct Walked {
     pub(crate) met: u32,
     /// The path of the value that is walked. It grows on the way down and is cut back on the way up.
     pub(crate) path: String,
-}
-
-/// A refusal of this number at this path.
-pub(crate) fn refuse<T>(alloc: Global, number: u8, path: &str) -> Result<T, ItemFault>
-    ensures { Gives (λ x. x) result (refuse number path.now) }
-{
-    Err(ItemFault::Refused(ItemRefusal {
-        number,
-        path: Text::of(alloc, path)?,
-    }))
 }
 
 /// One more value of a field, unless `ignore_above` left it out; the value past the last that a row may have is

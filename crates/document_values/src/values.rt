@@ -2,16 +2,14 @@
 
 ghost use Rattle.std.specs.Prelude.{◌≡◌};
 ghost use Rattle.serde_json.specs.View.{view};
-ghost use Rattle.agg_reading.specs.Outcome.{refuse};
 ghost use Rattle.agg_reading.specs.Scalars.{whole, word};
 ghost use Rattle.agg_reading.specs.Document.{number_value, word_value, is_ignored, document_flag, scalar_at};
 ghost use Rattle.document_values.specs.Faults.{Gives};
 
 use crate::fault::ItemFault;
-use agg_model::bulk::ItemRefusal;
+use crate::refusal::refuse;
 use agg_model::mapping::FieldKind;
 use agg_model::row::Scalar;
-use agg_model::text::Text;
 use json_walk::ranges::{fits_kind, is_longer};
 use json_walk::scalars::{flag, whole, word};
 use serde_json::Value;
@@ -19,16 +17,6 @@ use std::alloc::Global;
 
 /// The bytes that a keyword may have.
 const MAX_KEYWORD: usize = 32_766;
-
-/// A refusal of this number at this path.
-pub(crate) fn refuse<T>(alloc: Global, number: u8, path: &str) -> Result<T, ItemFault>
-    ensures { Gives (λ x. x) result (refuse number path.now) }
-{
-    Err(ItemFault::Refused(ItemRefusal {
-        number,
-        path: Text::of(alloc, path)?,
-    }))
-}
 
 /// The value of a whole-number field: 21 where the value is no whole number or decimal text, 22 where it lies outside
 /// the range of the kind.
