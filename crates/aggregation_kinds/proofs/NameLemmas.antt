@@ -1,7 +1,6 @@
 -- Names among the members of an object, and names in two parts.
 use Rattle.std.proofs.Common.{◌≡◌, ◌≤◌, ◌<◌, ℕ, List, [], ◌∷◌, ◌++◌, length, take, drop, Bool, true, false, Option, Some, None, Ordering, Less, Equal, Greater, is_eq, nat_cmp, bytes_eq, refl, sym, ap, ◌∙◌, arith}
 use Rattle.std.specs.Prelude.{is_some, ◌&&◌, ◌||◌, nat_eq}
-use Rattle.std.specs.List.{starts_with}
 use Rattle.std.specs.Ordering.{match_ordering}
 use Rattle.std.specs.Cmp.Lexicographic.{slice_cmp}
 use Rattle.std.proofs.lemmas.Map.Text.{is_eq-slice_cmp}
@@ -37,10 +36,3 @@ too_short (b ∷ name) (c ∷ front) ending h = ap (λ r. nat_eq b c && r) (too_
     never : (b : Bool) → (b && false) ≡ false
     never true = refl
     never false = refl
-
-pub starts_with-append : (path front ending : List ℕ) → starts_with nat_eq path (front ++ ending) ≡ (starts_with nat_eq path front && starts_with nat_eq (drop (length front) path) ending)
-starts_with-append [] [] ending = refl
-starts_with-append (b ∷ path) [] ending = refl
-starts_with-append [] (c ∷ front) ending = refl
-starts_with-append (b ∷ path) (c ∷ front) ending =
-    ap (λ r. nat_eq c b && r) (starts_with-append path front ending) ∙ regrouped (nat_eq c b) (starts_with nat_eq path front) (starts_with nat_eq (drop (length front) path) ending)

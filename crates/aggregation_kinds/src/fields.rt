@@ -5,11 +5,12 @@ ghost use Rattle.serde_json.specs.View.{members_view};
 ghost use Rattle.json_walk.specs.Places.{pointer};
 ghost use Rattle.agg_reading.specs.Outcome.{Gives};
 ghost use Rattle.agg_reading.specs.Scalars.{is_whole_kind};
-ghost use Rattle.agg_reading.specs.Fields.{is_beneath, encloses};
+ghost use Rattle.agg_reading.specs.Fields.{encloses};
 ghost use Rattle.agg_reading.specs.Histogram.{whole_field_in};
 ghost use Rattle.agg_reading.specs.Metrics.{enclosing_at};
 ghost use Rattle.agg_mapping.specs.Paths.{IsOrdered};
 
+use agg_mapping::paths::is_beneath;
 use agg_model::mapping::{Field, FieldKind, Mapping};
 use agg_query::fields::{field_in, nested};
 use agg_reading::fault::RequestFault;
@@ -44,13 +45,6 @@ pub fn whole_field_in<'m>(
         return At::Member(at, "field").refuse(alloc, 108);
     }
     Ok((place, field))
-}
-
-/// Whether a path lies strictly beneath another: the other's names come first, then a dot.
-fn is_beneath(outer: &[u8], path: &[u8]) -> bool
-    ensures { result ≡ is_beneath outer.now path.now }
-{
-    path.starts_with(outer) && path[outer.len()..].starts_with(b".")
 }
 
 /// Whether a context is strictly beneath a path.

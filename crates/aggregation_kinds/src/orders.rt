@@ -1,6 +1,6 @@
 //! Orders of buckets as written ('Terms aggregation': order).
 
-ghost use Rattle.std.specs.Prelude.{◌≡◌, ◌∷◌, [], IfOk, Ok, codes, unwrap_or, nat_le, ◌&&◌};
+ghost use Rattle.std.specs.Prelude.{◌≡◌, ◌∷◌, [], IfOk, codes, unwrap_or, nat_le, ◌&&◌};
 ghost use Rattle.serde_json.specs.View.{view, items_view, members_view};
 ghost use Rattle.json_walk.specs.Places.{pointer};
 ghost use Rattle.agg_reading.specs.Outcome.{Gives};
@@ -16,9 +16,6 @@ use json_walk::members::{member, object, sole_member};
 use json_walk::numbers::choice;
 use serde_json::{Map, Value};
 use std::alloc::{AllocError, Global};
-
-/// The number of an order that names no fitting child.
-pub(crate) const NO_SUCH_CHILD: u16 = 113;
 
 /// Whether a direction, `asc` or `desc`, is descending.
 #[tactic(auto, unfolding(agg_reading::specs::Orders::direction_at))]
@@ -44,18 +41,8 @@ pub fn direction_in(
     }
 }
 
-/// The pointer of a place. An order keeps it, since its name is refused only after the children were read.
-fn pointer_of(alloc: Global, at: &At<'_>) -> Result<Text, RequestFault>
-    ensures { Gives (λ t. t) result (Ok (pointer at.now)) }
-{
-    match at.refuse::<Text>(alloc, NO_SUCH_CHILD) {
-        Ok(text) => Ok(text),
-        Err(RequestFault::Bad { path, .. }) => Ok(path),
-        Err(fault) => Err(fault),
-    }
-}
-
-/// An order: an object of one member, from a name to a direction.
+/// An order: an object of one member, from a name to a direction. It keeps its pointer, since its name is refused only
+/// after the children were read.
 #[tactic(auto, unfolding(agg_reading::specs::Orders::order_at, agg_reading::specs::Json::sole_at))]
 fn order(
     alloc: Global,
@@ -72,7 +59,7 @@ fn order(
     Ok(NamedOrder {
         name: Text::of(alloc, name)?,
         descending,
-        at: pointer_of(alloc, &at)?,
+        at: at.text(alloc)?,
     })
 }
 

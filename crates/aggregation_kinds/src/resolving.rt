@@ -5,7 +5,6 @@ ghost use Rattle.std.specs.Str.{bytes_eq};
 ghost use Rattle.agg_reading.specs.Outcome.{Gives};
 ghost use Rattle.agg_reading.specs.Orders.{is_sortable, child_from, child_named, compared_by, resolved, with_order};
 
-use crate::orders::NO_SUCH_CHILD;
 use agg_model::aggregation::{Agg, Kind, Order, OrderBy};
 use agg_model::list::List;
 use agg_reading::fault::RequestFault;
@@ -73,7 +72,7 @@ fn compared_by(alloc: Global, children: &[Agg], order: &NamedOrder) -> Result<Or
         "_key" => Ok(OrderBy::Key),
         name => match child_named(children, name) {
             Some(place) => Ok(OrderBy::Child(place)),
-            None => At::Start(order.at.as_str()).refuse(alloc, NO_SUCH_CHILD),
+            None => At::Start(order.at.as_str()).refuse(alloc, 113),
         },
     }
 }
