@@ -1,5 +1,5 @@
 -- The worked example of the tests: three documents over the fields `b`, `items.s`, `n` and `t`, with nested `items`.
-use Rattle.std.specs.Prelude.{ℕ, ℤ, pos, negsuc, Bool, true, false, List, [], ◌∷◌}
+use Rattle.std.specs.Prelude.{ℕ, pos, negsuc, true, false, List, [], ◌∷◌}
 use Rattle.agg_model.specs.declared.mapping.FieldKind.{FieldKind}
 use Rattle.agg_model.specs.declared.mapping.FieldKind.TheVariants.{Boolean, Keyword, Long}
 use Rattle.agg_model.specs.declared.row.Document.{Document}
