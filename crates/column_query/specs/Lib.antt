@@ -1,3 +1,4 @@
 pub mod Wanted
 pub mod Numbers
 pub mod Prepared
+pub mod Example

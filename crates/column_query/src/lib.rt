@@ -8,4 +8,6 @@ pub mod matching;
 mod numbers;
 pub mod prepared;
 pub mod preparing;
+#[cfg(test)]
+mod tests;
 mod values;

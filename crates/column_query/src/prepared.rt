@@ -6,6 +6,7 @@ ghost use Rattle.std.specs.Ordering.{nat_cmp, is_eq};
 ghost use Rattle.std.specs.Cmp.Lexicographic.{slice_cmp};
 ghost use Rattle.shard_columns.specs.Layout.{row_of};
 ghost use Rattle.column_query.specs.Numbers.{numbers_of};
+ghost use Rattle.column_query.specs.Prepared.{is_among as is_number_among, within_all as within_all_bounds, passes_number, says, reads_below};
 
 use crate::bounds::{Bound, allows_number};
 use crate::numbers::number;
@@ -50,8 +51,6 @@ pub enum Prepared {
         query: Boxed<Prepared>,
     },
 }
-
-ghost use Rattle.column_query.specs.Prepared.{is_among as is_number_among, within_all as within_all_bounds, passes_number, says, reads_below};
 
 fn is_among(numbers: &BTreeSet<i128>, number: i128) -> bool
     ensures { result ≡ is_number_among numbers.now.keys number }

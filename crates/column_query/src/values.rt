@@ -6,6 +6,7 @@ ghost use Rattle.agg_evaluation.specs.Matching.{allows as allows_order, passes a
 ghost use Rattle.agg_evaluation.specs.Rows.{values_of};
 ghost use Rattle.shard_columns.specs.Cell.{scalar_of};
 ghost use Rattle.shard_columns.specs.Layout.{row_of};
+ghost use Rattle.column_query.specs.Wanted.{wants as wants_value};
 
 use agg_model::query::{Probe, RangeOp, RangeTest};
 use shard_columns::shard::{Cell, Shard};
@@ -68,8 +69,6 @@ pub enum Wanted<'q> {
     OneOf(&'q [Probe]),
     Within(&'q [RangeTest]),
 }
-
-ghost use Rattle.column_query.specs.Wanted.{wants as wants_value};
 
 fn wants(wanted: Wanted<'_>, cell: Cell<'_>) -> bool
     ensures { result ≡ wants_value wanted.entry (scalar_of cell.entry) }
