@@ -16,17 +16,36 @@ use document_values::fault::ItemFault;
 use std::alloc::{AllocError, Global};
 use std::test::Fail;
 
+/// What is read of an index line.
+fn line_of(alloc: Global, bytes: &[u8]) -> Result<IndexLine, Fail>
+    ensures { IfOk result (λ line. IsOrdered line.mapping) }
+{
+    match index_line_of(alloc, bytes) {
+        Ok(line) => Ok(line),
+        Err(_) => Err(Fail::new("no index line")),
+    }
+}
+
 /// An index line with the keyword `t`.
 fn keyword_line(alloc: Global) -> Result<IndexLine, Fail>
     ensures { IfOk result (λ line. IsOrdered line.mapping) }
 {
-    match index_line_of(
+    line_of(
         alloc,
         b"{\"index\":\"i\",\"mappings\":{\"properties\":{\"t\":{\"type\":\"keyword\"}}}}",
-    ) {
-        Ok(line) => Ok(line),
-        Err(_) => Err(Fail::new("no index line")),
+    )
+}
+
+/// An index line with the 1,000 numbers `n0` to `n999`.
+fn wide_line(alloc: Global) -> Result<IndexLine, Fail>
+    ensures { IfOk result (λ line. IsOrdered line.mapping) }
+{
+    let mut text = String::from_str(alloc, "{\"index\":\"i\",\"mappings\":{\"properties\":{")?;
+    for place in 0..999u32 {
+        text.push_str(format!(in alloc; "\"n{place}\":{{\"type\":\"long\"}},")?.as_str())?;
     }
+    text.push_str("\"n999\":{\"type\":\"long\"}}}}")?;
+    line_of(alloc, text.as_bytes())
 }
 
 /// What an action whose routing is its id did, or the number of its refusal, 0 for want of memory.
@@ -257,4 +276,83 @@ fn a_document_has_the_given_id_and_routing(rt: HostRuntime) -> Result<(), Fail> 
         }
         Err(_) => Err(Fail::new("no document")),
     }
+}
+
+/// Whether the document of a number is created, with values of three of the 1,000 fields.
+fn is_created(
+    alloc: Global,
+    store: &mut Store,
+    mapping: &Mapping,
+    number: u32,
+) -> Result<bool, AllocError>
+    requires { IsOrdered mapping.now }
+{
+    let id = format!(in alloc; "{number}")?;
+    let first = number % 1_000;
+    let second = (number / 1_000) % 1_000;
+    let source = format!(in alloc; "{{\"n{first}\":{number},\"n{second}\":[1,2],\"n999\":-1}}")?;
+    Ok(does(
+        alloc,
+        store,
+        mapping,
+        ActionKind::Index,
+        id.as_str(),
+        source.as_bytes(),
+        Ok(Applied::Created),
+    ))
+}
+
+/// Whether the document of a number is deleted.
+fn is_deleted(
+    alloc: Global,
+    store: &mut Store,
+    mapping: &Mapping,
+    number: u32,
+) -> Result<bool, AllocError>
+    requires { IsOrdered mapping.now }
+{
+    let id = format!(in alloc; "{number}")?;
+    Ok(does(
+        alloc,
+        store,
+        mapping,
+        ActionKind::Delete,
+        id.as_str(),
+        b"",
+        Ok(Applied::Deleted),
+    ))
+}
+
+/// The number of documents of each shard.
+fn sizes_of(alloc: Global, shards: &List<List<Document>>) -> Result<Vec<usize>, AllocError> {
+    let mut sizes = Vec::new(alloc);
+    for documents in shards.as_slice() {
+        sizes.push(documents.len())?;
+    }
+    Ok(sizes)
+}
+
+#[test]
+fn every_tenth_of_100_000_documents_with_1_000_fields_is_deleted_and_the_others_are_dealt(
+    rt: HostRuntime,
+) -> Result<(), Fail> {
+    let alloc = rt.alloc();
+    let line = wide_line(alloc)?;
+    let mut store = Store::new(alloc);
+    for number in 0..100_000u32 {
+        assert!(rt;
+            is_created(alloc, &mut store, &line.mapping, number)?,
+            "at {number}"
+        );
+    }
+    for tenth in 0..10_000u32 {
+        assert!(rt;
+            is_deleted(alloc, &mut store, &line.mapping, tenth * 10)?,
+            "at {tenth}"
+        );
+    }
+    assert!(rt; store.len() == 90_000);
+    let sizes = sizes_of(alloc, &store.into_shards(4)?)?;
+    assert!(rt; sizes.as_slice() == [22_500, 22_499, 22_500, 22_501].as_slice());
+    Ok(())
 }
