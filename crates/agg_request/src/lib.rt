@@ -8,4 +8,6 @@
 pub mod body;
 pub mod names;
 pub mod parts;
+#[cfg(test)]
+mod tests;
 pub mod tree;
