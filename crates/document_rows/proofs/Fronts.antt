@@ -1,6 +1,6 @@
 -- Whether a path leads deeper can be seen from the fronts of its parts.
 use Rattle.std.specs.Prelude.{◌≡◌, refl, ℕ, zero, suc, ◌+◌, ◌<◌, ◌≤◌, Bool, true, false, ◌&&◌, ◌||◌, ◌==◌, List, [], ◌∷◌, ◌++◌, length, take, drop, slice_index, is_some, Some, nat_eq, cond}
-use Rattle.std.specs.List.{list_any, starts_with}
+use Rattle.std.specs.List.{list_any}
 use Rattle.std.specs.Str.{bytes_eq}
 use Rattle.std.specs.Cmp.Lexicographic.{same_text}
 use Rattle.std.proofs.Common.{sym, ◌∙◌, ap, arith, ⊎_elim}
@@ -49,23 +49,6 @@ front-and f true bs = ap (λ g. any_front g bs) (λ i q. and-true (f q) i) ∙ s
     and-true true = refl
     and-true false = refl
 front-and f false bs = ap (λ g. any_front g bs) (λ i q. and-false (f q) i) ∙ no_front bs ∙ sym (and-false (any_front f bs))
-
-and-swap : (a b c : Bool) → (a && (b && c)) ≡ (b && (a && c))
-and-swap true b c = refl
-and-swap false b c = sym (and-false b)
-
-pub beneath_short : (outer path : List ℕ) → length path ≤ length outer → is_beneath outer path ≡ false
-beneath_short [] [] h = refl
-beneath_short [] (b ∷ bs) h = absurd (omega (arith, h))
-beneath_short (x ∷ outer) [] h = refl
-beneath_short (x ∷ outer) (b ∷ bs) h = ap (λ a. nat_eq x b && a) (beneath_short outer bs (omega arith)) ∙ and-false (nat_eq x b)
-
-pub beneath_long : (outer path : List ℕ) → length outer < length path → is_beneath outer path ≡ ((slice_index path (length outer) == 46) && starts_with nat_eq path outer)
-beneath_long [] [] h = absurd (omega (arith, h))
-beneath_long [] (b ∷ bs) h = ap (λ a. a && true) (nat_eq_equiv.symm 46 b)
-beneath_long (x ∷ outer) [] h = absurd (omega (arith, h))
-beneath_long (x ∷ outer) (b ∷ bs) h =
-    ap (λ a. nat_eq x b && a) (beneath_long outer bs (omega arith)) ∙ and-swap (nat_eq x b) (slice_index bs (length outer) == 46) (starts_with nat_eq bs outer)
 
 -- a path is another or lies beneath it where the other is one of its fronts
 front_is : (outer path : List ℕ) → (bytes_eq outer path || is_beneath outer path) ≡ any_front (bytes_eq outer) path

@@ -1,25 +1,15 @@
 //! What a path is to the rows of a context.
 
 ghost use Rattle.std.specs.Prelude.{◌≡◌};
-ghost use Rattle.agg_reading.specs.Fields.{is_beneath, is_in_context};
+ghost use Rattle.agg_reading.specs.Fields.{is_in_context};
 ghost use Rattle.agg_reading.specs.Document.{leads_deeper, inner_role, role_of};
 ghost use Rattle.agg_mapping.specs.Paths.{IsOrdered};
 ghost use Rattle.document_rows.specs.Roles.{is_deeper, IsRoleIn};
 
 use agg_mapping::lookup::{find_field, find_nested, is_object, nested};
+use agg_mapping::paths::is_beneath;
 use agg_model::mapping::Mapping;
 use agg_reading::parts::Role;
-
-/// Whether a path lies strictly beneath another: the names of the other come first, and more follow.
-#[tactic(auto, using(crate::proofs::Fronts::beneath_short, crate::proofs::Fronts::beneath_long))]
-fn is_beneath(outer: &[u8], path: &[u8]) -> bool
-    ensures { result ≡ is_beneath outer.now path.now }
-{
-    if path.len() <= outer.len() {
-        return false;
-    }
-    path[outer.len()] == b'.' && path.starts_with(outer)
-}
 
 /// Whether a path lies strictly beneath a context.
 #[tactic(auto, unfolding(agg_reading::specs::Fields::is_in_context))]
