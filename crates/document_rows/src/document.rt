@@ -55,7 +55,8 @@ fn row_of(alloc: Global, mapping: &Mapping, value: &Value) -> Result<Row, ItemFa
 /// a field in a row, 27 an unmapped member where the mapping is strict. 20, with no path, is a source that is no JSON
 /// object (RFC 8259) or nests deeper than 127. Want of memory may come in the place of any answer.
 ///
-/// It takes time in proportion to the bytes of the source times the logarithm of the size of the mapping.
+/// It takes time in proportion to the bytes of the source, and for each member the comparison of its path, with the names
+/// around it, to as many paths as the logarithm of the size of the mapping.
 #[tactic(auto, unfolding(agg_reading::specs::Document::document_at))]
 pub fn root_row_of(alloc: Global, mapping: &Mapping, source: &[u8]) -> Result<Row, ItemFault>
     requires { IsOrdered mapping.now }
