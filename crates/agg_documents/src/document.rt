@@ -3,14 +3,14 @@
 ghost use Rattle.std.specs.Prelude.{◌≡◌, IfOk};
 ghost use Rattle.agg_mapping.specs.Paths.{IsOrdered};
 ghost use Rattle.agg_reading.specs.Document.{document_at};
-ghost use Rattle.document_values.specs.Faults.{Gives};
+ghost use Rattle.document_rows.specs.Faults.{Gives};
 
 use agg_model::copying::Copying;
 use agg_model::mapping::Mapping;
 use agg_model::row::Document;
 use agg_model::text::Text;
 use document_rows::document::root_row_of;
-use document_values::fault::ItemFault;
+use document_rows::fault::ItemFault;
 use std::alloc::Global;
 
 /// The document of a source line with this id and this routing ('Bulk API', 'Mapping' of Elasticsearch Reference 8).

@@ -3,6 +3,7 @@
 #![tactic(auto)]
 
 pub mod document;
+mod routing;
 pub mod shards;
 mod slot;
 pub mod store;

@@ -6,7 +6,7 @@ ghost use Rattle.agg_documents.specs.Shards.{cut};
 
 use agg_model::list::List;
 use agg_model::row::Document;
-pub use document_values::routing::shard_of;
+use crate::routing::shard_of;
 use std::alloc::{AllocError, Global};
 
 /// An empty list for each shard.

@@ -12,7 +12,7 @@ use agg_model::mapping::Mapping;
 use agg_model::row::{Document, Scalar};
 use agg_model::text::Text;
 use agg_reading::parts::IndexLine;
-use document_values::fault::ItemFault;
+use document_rows::fault::ItemFault;
 use std::alloc::{AllocError, Global};
 use std::test::Fail;
 

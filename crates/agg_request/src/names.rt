@@ -4,7 +4,7 @@ ghost use Rattle.std.specs.Prelude.{◌≡◌, ◌==◌, ◌||◌};
 ghost use Rattle.std.specs.List.{list_any};
 ghost use Rattle.agg_reading.specs.Aggregations.{is_aggregation_name};
 
-use aggregation_kinds::names::is_name;
+use request_kinds::names::is_name;
 use json_walk::members::is_one_of;
 
 /// Whether a name holds `[`, `]` or `>`, which paths to aggregations are written with.

@@ -14,7 +14,7 @@ use agg_model::text::Text;
 use agg_reading::fault::RequestFault;
 use agg_reading::names::KindName;
 use agg_reading::parts::{Counts, ReadKind};
-use aggregation_kinds::resolving::{resolved, with_order};
+use request_kinds::resolving::{resolved, with_order};
 use json_walk::at::At;
 use json_walk::members::{member, sole_besides};
 use serde_json::{Map, Value};

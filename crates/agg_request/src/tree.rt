@@ -14,7 +14,7 @@ use agg_model::list::List;
 use agg_model::mapping::Mapping;
 use agg_reading::fault::RequestFault;
 use agg_reading::parts::Counts;
-use aggregation_kinds::kind::{kind_at, kind_name};
+use request_kinds::kind::{kind_at, kind_name};
 use json_walk::at::At;
 use json_walk::members::{member, object};
 use serde_json::{Map, Value};

@@ -3,15 +3,15 @@
 ghost use Rattle.serde_json.specs.View.{view, members_view};
 ghost use Rattle.agg_reading.specs.Document.{document_value_at, document_at};
 ghost use Rattle.agg_mapping.specs.Paths.{IsOrdered};
-ghost use Rattle.document_values.specs.Faults.{Gives};
+ghost use Rattle.document_rows.specs.Faults.{Gives};
 ghost use Rattle.document_rows.specs.States.{root_at};
 
 use crate::draft::RowDraft;
 use crate::walk::{Walked, members};
 use agg_model::mapping::Mapping;
 use agg_model::row::Row;
-use document_values::fault::ItemFault;
-use document_values::refusal::refuse;
+use crate::fault::ItemFault;
+use crate::refusal::refuse;
 use json_walk::bytes::reading;
 use serde_json::{Map, Value};
 use std::alloc::Global;

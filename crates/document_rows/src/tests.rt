@@ -2,7 +2,7 @@ use crate::document::root_row_of;
 use agg_mapping::index_line::index_line_of;
 use agg_model::row::{Row, Scalar};
 use agg_model::text::Text;
-use document_values::fault::ItemFault;
+use crate::fault::ItemFault;
 use std::alloc::Global;
 use std::test::Fail;
 

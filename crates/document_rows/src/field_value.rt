@@ -1,0 +1,107 @@
+//! The values that a document gives a field. A refusal has the path of the member.
+
+ghost use Rattle.std.specs.Prelude.{◌≡◌};
+ghost use Rattle.serde_json.specs.View.{view};
+ghost use Rattle.agg_reading.specs.Scalars.{whole, word};
+ghost use Rattle.agg_reading.specs.Document.{number_value, word_value, is_ignored, document_flag, scalar_at};
+ghost use Rattle.document_rows.specs.Faults.{Gives};
+
+use crate::fault::ItemFault;
+use crate::refusal::refuse;
+use agg_model::mapping::FieldKind;
+use agg_model::row::Scalar;
+use json_walk::ranges::{fits_kind, is_longer};
+use json_walk::scalars::{flag, whole, word};
+use serde_json::Value;
+use std::alloc::Global;
+
+/// The bytes that a keyword may have.
+const MAX_KEYWORD: usize = 32_766;
+
+/// The value of a whole-number field: 21 where the value is no whole number or decimal text, 22 where it lies outside
+/// the range of the kind.
+fn number(
+    alloc: Global,
+    kind: FieldKind,
+    path: &str,
+    value: &Value,
+) -> Result<Option<Scalar>, ItemFault>
+    ensures { Gives (λ x. x) result (number_value kind path.now (whole (view value.now))) }
+{
+    let Some(number) = whole(value) else {
+        return refuse(alloc, 21, path);
+    };
+    if !fits_kind(kind, number) {
+        return refuse(alloc, 22, path);
+    }
+    Ok(Some(Scalar::Whole(number as i64)))
+}
+
+/// Whether a keyword has more characters than `ignore_above`.
+fn is_ignored(above: Option<u32>, word: &str) -> bool
+    ensures { result ≡ is_ignored above word.now }
+{
+    match above {
+        Some(most) => is_longer(word, most),
+        None => false,
+    }
+}
+
+/// The value of a keyword field: none where it is longer than `ignore_above`; 21 where the value is no text, whole
+/// number or boolean, 23 where it has too many bytes.
+fn keyword(
+    alloc: Global,
+    above: Option<u32>,
+    path: &str,
+    value: &Value,
+) -> Result<Option<Scalar>, ItemFault>
+    ensures { Gives (λ x. x) result (word_value above path.now (word (view value.now))) }
+{
+    let Some(word) = word(alloc, value)? else {
+        return refuse(alloc, 21, path);
+    };
+    if is_ignored(above, word.as_str()) {
+        return Ok(None);
+    }
+    if word.len() > MAX_KEYWORD {
+        return refuse(alloc, 23, path);
+    }
+    Ok(Some(Scalar::Word(word)))
+}
+
+/// The boolean of a value; the empty text counts as false.
+fn document_flag(value: &Value) -> Option<bool>
+    ensures { result ≡ document_flag (view value.now) }
+{
+    match value {
+        Value::String(text) if text.is_empty() => Some(false),
+        _ => flag(value),
+    }
+}
+
+/// The value of a field of this kind; none where `ignore_above` leaves it out. Refused are a value of the wrong type
+/// with 21, a number out of range with 22, and a keyword above 32,766 bytes with 23.
+#[tactic(auto, unfolding(agg_reading::specs::Document::scalar_at))]
+pub fn scalar(
+    alloc: Global,
+    kind: FieldKind,
+    above: Option<u32>,
+    path: &str,
+    value: &Value,
+) -> Result<Option<Scalar>, ItemFault>
+    ensures { Gives (λ x. x) result (scalar_at kind above path.now (view value.now)) }
+{
+    match kind {
+        FieldKind::Keyword => keyword(alloc, above, path, value),
+        FieldKind::Boolean => match document_flag(value) {
+            Some(flag) => Ok(Some(Scalar::Flag(flag))),
+            None => refuse(alloc, 21, path),
+        },
+        FieldKind::Long | FieldKind::Integer | FieldKind::Short | FieldKind::Byte => {
+            number(alloc, kind, path, value)
+        }
+    }
+}
+
+#[cfg(test)]
+mod tests;
