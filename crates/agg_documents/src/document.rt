@@ -5,12 +5,8 @@ ghost use Rattle.agg_mapping.specs.Paths.{IsOrdered};
 ghost use Rattle.agg_reading.specs.Document.{document_at};
 ghost use Rattle.document_rows.specs.Faults.{Gives};
 
-use agg_model::copying::Copying;
-use agg_model::mapping::Mapping;
-use agg_model::row::Document;
-use agg_model::text::Text;
-use document_rows::document::root_row_of;
-use document_rows::fault::ItemFault;
+use agg_model::{Copying, Document, Mapping, Text};
+use document_rows::{ItemFault, root_row_of};
 use std::alloc::Global;
 
 /// The document of a source line with this id and this routing ('Bulk API', 'Mapping' of Elasticsearch Reference 8).

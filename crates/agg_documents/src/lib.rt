@@ -2,11 +2,15 @@
 //! (Elasticsearch Reference 8, 'Bulk API' and '_routing field').
 #![tactic(auto)]
 
-pub mod document;
+mod document;
 mod routing;
-pub mod shards;
+mod shards;
 mod slot;
-pub mod store;
+mod store;
 #[cfg(test)]
 mod tests;
 mod weight;
+
+pub use document::document_of;
+pub use routing::shard_of;
+pub use store::Store;

@@ -3,9 +3,8 @@
 ghost use Rattle.std.specs.Prelude.{◌≡◌, ◌+◌, ◌≤◌, [], false, length, IfOk};
 
 use crate::paths::in_order;
-use agg_model::list::List;
-use agg_model::text::Text;
-use agg_reading::parts::{Found, FoundField, FoundPath};
+use agg_model::{List, Text};
+use agg_reading::{Found, FoundField, FoundPath};
 use std::alloc::{AllocError, Global};
 
 /// At most so many fields and nested paths.

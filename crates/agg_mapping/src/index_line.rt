@@ -15,15 +15,9 @@ ghost use Rattle.agg_mapping.specs.Paths.{IsOrdered};
 use crate::fault::{MapFault, map_fault};
 use crate::mapping::mapping;
 use crate::properties::REFUSED;
-use agg_model::list::List;
-use agg_model::mapping::Mapping;
-use agg_model::text::Text;
-use agg_reading::fault::RequestFault;
-use agg_reading::parts::IndexLine;
-use json_walk::at::At;
-use json_walk::bytes::reading;
-use json_walk::members::{check_names, member, object, text};
-use json_walk::scalars::whole;
+use agg_model::{List, Mapping, Text};
+use agg_reading::{IndexLine, RequestFault};
+use json_walk::{At, check_names, member, object, reading, text, whole};
 use serde_json::{Map, Value};
 use std::alloc::Global;
 

@@ -6,7 +6,7 @@ ghost use Rattle.agg_reading.specs.Json.{is_among};
 ghost use Rattle.agg_mapping.specs.Paths.{IsOrdered};
 
 use crate::paths::first;
-use agg_model::mapping::{Field, Mapping, NestedPath};
+use agg_model::{Field, Mapping, NestedPath};
 
 /// The field with this path and its place; none where no field has it.
 pub fn find_field<'m>(mapping: &'m Mapping, path: &[u8]) -> Option<(u32, &'m Field)>

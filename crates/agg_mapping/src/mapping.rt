@@ -14,10 +14,9 @@ use crate::collected::Collected;
 use crate::fault::{MapFault, map_fault};
 use crate::numbering::numbered;
 use crate::properties::{REFUSED, properties_in};
-use agg_model::mapping::Mapping;
-use agg_reading::fault::RequestFault;
-use json_walk::at::At;
-use json_walk::members::{check_names, member, object};
+use agg_model::Mapping;
+use agg_reading::RequestFault;
+use json_walk::{At, check_names, member, object};
 use serde_json::{Map, Value};
 use std::alloc::Global;
 

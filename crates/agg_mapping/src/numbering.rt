@@ -7,11 +7,8 @@ ghost use Rattle.agg_mapping.specs.Paths.{AscendsBy, IsOrdered};
 
 use crate::collected::Collected;
 use crate::paths::first;
-use agg_model::copying::Copying;
-use agg_model::list::List;
-use agg_model::mapping::{Field, Mapping, NestedPath};
-use agg_model::text::Text;
-use agg_reading::parts::{Found, FoundField, FoundPath};
+use agg_model::{Copying, Field, List, Mapping, NestedPath, Text};
+use agg_reading::{Found, FoundField, FoundPath};
 use std::alloc::{AllocError, Global};
 
 /// The context of what a nested path encloses; the empty path is the root.

@@ -5,10 +5,8 @@ ghost use Rattle.agg_reading.specs.Fields.{is_beneath};
 ghost use Rattle.agg_mapping.specs.Arranged.{placed};
 ghost use Rattle.agg_mapping.specs.Paths.{AscendsBy, first_from};
 
-use agg_model::list::List as Items;
-use agg_model::mapping::{Field, NestedPath};
-use agg_model::text::Text;
-use agg_reading::parts::{FoundField, FoundPath};
+use agg_model::{Field, List as Items, NestedPath, Text};
+use agg_reading::{FoundField, FoundPath};
 use std::alloc::AllocError;
 
 /// What has a path: names from the root, joined by dots.

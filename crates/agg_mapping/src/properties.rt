@@ -12,13 +12,9 @@ ghost use Rattle.agg_reading.specs.Pointer.{member_step};
 ghost use Rattle.agg_mapping.specs.Arranged.{arranged};
 
 use crate::collected::Collected;
-use agg_model::mapping::FieldKind;
-use agg_model::text::Text;
-use agg_reading::fault::RequestFault;
-use agg_reading::names::FieldType;
-use agg_reading::parts::FoundField;
-use json_walk::at::At;
-use json_walk::members::{check_names, member, object, text};
+use agg_model::{FieldKind, Text};
+use agg_reading::{FieldType, FoundField, RequestFault};
+use json_walk::{At, check_names, member, object, text};
 use serde_json::{Map, Value};
 use std::alloc::{AllocError, Global};
 

@@ -4,11 +4,15 @@
 mod answers;
 mod documents;
 mod reading;
-pub mod run;
+mod running;
 mod script;
 mod search;
-pub mod status;
-pub mod stop;
+mod status;
+mod stop;
 #[cfg(test)]
 mod tests;
 mod writing;
+
+pub use running::run;
+pub use status::Status;
+pub use stop::Stop;

@@ -9,12 +9,10 @@ ghost use Rattle.agg_reading.specs.Leaves.{field_in};
 ghost use Rattle.agg_reading.specs.Query.{nested_at, path_in};
 ghost use Rattle.agg_mapping.specs.Paths.{IsOrdered};
 
-use agg_mapping::lookup::{find_field, find_nested};
-use agg_mapping::paths::is_beneath;
-use agg_model::mapping::{Field, Mapping, NestedPath};
-use agg_reading::fault::RequestFault;
-use json_walk::at::At;
-use json_walk::members::{required, text};
+use agg_mapping::{find_field, find_nested, is_beneath};
+use agg_model::{Field, Mapping, NestedPath};
+use agg_reading::RequestFault;
+use json_walk::{At, required, text};
 use serde_json::{Map, Value};
 use std::alloc::Global;
 

@@ -10,13 +10,9 @@ ghost use Rattle.agg_mapping.specs.Paths.{IsOrdered};
 
 use crate::fields::{field, field_in};
 use crate::probes::{probe, probe_list};
-use agg_model::list::List;
-use agg_model::mapping::{FieldKind, Mapping};
-use agg_model::query::{Probe, Query, RangeOp, RangeTest};
-use agg_model::text::Text;
-use agg_reading::fault::RequestFault;
-use json_walk::at::At;
-use json_walk::members::{check_names, list, member, object, required, sole_besides, text};
+use agg_model::{FieldKind, List, Mapping, Probe, Query, RangeOp, RangeTest, Text};
+use agg_reading::RequestFault;
+use json_walk::{At, check_names, list, member, object, required, sole_besides, text};
 use serde_json::{Map, Value};
 use std::alloc::Global;
 

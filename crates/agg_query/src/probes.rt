@@ -8,15 +8,9 @@ ghost use Rattle.agg_reading.specs.Json.{optional};
 ghost use Rattle.agg_reading.specs.Leaves.{value_at, values_from, values_at};
 ghost use Rattle.agg_reading.specs.Terms.{missing_at};
 
-use agg_model::list::List;
-use agg_model::mapping::FieldKind;
-use agg_model::query::Probe;
-use agg_model::row::Scalar;
-use agg_reading::fault::RequestFault;
-use json_walk::at::At;
-use json_walk::members::{list, member};
-use json_walk::ranges::stored;
-use json_walk::scalars::probe_of;
+use agg_model::{FieldKind, List, Probe, Scalar};
+use agg_reading::RequestFault;
+use json_walk::{At, list, member, probe_of, stored};
 use serde_json::{Map, Value};
 use std::alloc::Global;
 

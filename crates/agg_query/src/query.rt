@@ -12,16 +12,9 @@ ghost use Rattle.agg_mapping.specs.Paths.{IsOrdered};
 
 use crate::fields::path_in;
 use crate::leaves::{exists, ids, match_all, range, term, terms};
-use agg_model::boxed::Boxed;
-use agg_model::list::List;
-use agg_model::mapping::Mapping;
-use agg_model::query::Query;
-use agg_model::text::Text;
-use agg_reading::fault::RequestFault;
-use agg_reading::names::QueryName;
-use json_walk::at::At;
-use json_walk::members::{check_names, member, object, required, sole_member};
-use json_walk::numbers::whole_in;
+use agg_model::{Boxed, List, Mapping, Query, Text};
+use agg_reading::{QueryName, RequestFault};
+use json_walk::{At, check_names, member, object, required, sole_member, whole_in};
 use serde_json::{Map, Value};
 use std::alloc::Global;
 

@@ -5,9 +5,11 @@
 //! `request_kinds`, queries by `agg_query`.
 #![tactic(auto)]
 
-pub mod body;
-pub mod names;
-pub mod parts;
+mod body;
+mod names;
+mod parts;
 #[cfg(test)]
 mod tests;
-pub mod tree;
+mod tree;
+
+pub use body::search_of;

@@ -8,15 +8,10 @@ ghost use Rattle.agg_reading.specs.Json.{sole_besides};
 ghost use Rattle.agg_reading.specs.Aggregations.{is_metric, is_top_kind, has_both, kind_member, children_name};
 ghost use Rattle.agg_reading.specs.Request.{is_childless, placed, assembled};
 
-use agg_model::aggregation::Agg;
-use agg_model::list::List;
-use agg_model::text::Text;
-use agg_reading::fault::RequestFault;
-use agg_reading::names::KindName;
-use agg_reading::parts::{Counts, ReadKind};
-use request_kinds::resolving::{resolved, with_order};
-use json_walk::at::At;
-use json_walk::members::{member, sole_besides};
+use agg_model::{Agg, List, Text};
+use agg_reading::{Counts, KindName, ReadKind, RequestFault};
+use json_walk::{At, member, sole_besides};
+use request_kinds::{resolved, with_order};
 use serde_json::{Map, Value};
 use std::alloc::Global;
 

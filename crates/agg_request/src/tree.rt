@@ -9,14 +9,10 @@ ghost use Rattle.agg_mapping.specs.Paths.{IsOrdered};
 
 use crate::names::is_aggregation_name;
 use crate::parts::{assembled, children_name, kind_member};
-use agg_model::aggregation::Agg;
-use agg_model::list::List;
-use agg_model::mapping::Mapping;
-use agg_reading::fault::RequestFault;
-use agg_reading::parts::Counts;
-use request_kinds::kind::{kind_at, kind_name};
-use json_walk::at::At;
-use json_walk::members::{member, object};
+use agg_model::{Agg, List, Mapping};
+use agg_reading::{Counts, RequestFault};
+use json_walk::{At, member, object};
+use request_kinds::{kind_at, kind_name};
 use serde_json::{Map, Value};
 use std::alloc::Global;
 

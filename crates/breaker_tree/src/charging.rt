@@ -5,7 +5,7 @@ ghost use Rattle.breaker_words.specs.Views.{hold_of};
 ghost use Rattle.breaker_words.specs.Passes.{IsOf};
 ghost use Rattle.breaker_tree.specs.Charge.{IsTripped, IsCharged, IsGivenBack, answer_alone};
 
-use agg_model::breaker::{Child, Tripped, Which};
+use agg_model::{Child, Tripped, Which};
 use breaker_words::{
     Pass, Trial, Words, give_child, give_parent, take_back_child, take_back_parent, try_child,
     try_parent, which_of,

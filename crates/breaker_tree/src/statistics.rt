@@ -3,7 +3,7 @@ ghost use Rattle.std.specs.Prelude.{◌≡◌};
 ghost use Rattle.breaker_words.specs.Passes.{IsOf};
 ghost use Rattle.breaker_tree.specs.Statistics.{overhead_of, stats_of, totals_of};
 
-use agg_model::breaker::{BreakerStats, Totals, Which};
+use agg_model::{BreakerStats, Totals, Which};
 use breaker_words::{Pass, Trial, Words, look};
 
 // What a charge at the breaker is weighted by, in per cent.

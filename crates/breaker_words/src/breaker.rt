@@ -2,7 +2,7 @@
 ghost use Rattle.std.specs.Prelude.{◌≡◌, ◌<◌};
 ghost use Rattle.breaker_words.specs.Breakers.{which_of, place, limit_of};
 
-use agg_model::breaker::{Child, Limits, Which};
+use agg_model::{Child, Limits, Which};
 
 /// The child as one of the four breakers.
 pub fn which_of(child: Child) -> Which

@@ -3,7 +3,7 @@ ghost use Rattle.std.specs.Prelude.{◌≡◌, ◌+◌, ◌≤◌, ◌<◌, ◌^
 
 use crate::breaker::{limit_of, which_of};
 use crate::trial::Trial;
-use agg_model::breaker::{Child, Limits, Which};
+use agg_model::{Child, Limits, Which};
 
 /// What a pass has at one breaker. Amounts are in bytes.
 #[derive(Clone, Copy)]

@@ -16,7 +16,7 @@ use crate::rule::{
 };
 use crate::trial::{Step, Trial};
 use crate::view::View;
-use agg_model::breaker::{Child, Limits, Which};
+use agg_model::{Child, Limits, Which};
 use atomic_table::{Seat, Table};
 use std::alloc::{AllocError, Global};
 use std::marker::{Brand, Model};

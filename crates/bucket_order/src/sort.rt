@@ -8,9 +8,7 @@ ghost use Rattle.bucket_order.specs.Kinds.{child_kinds};
 
 use crate::compare::{compare_buckets, compare_keys};
 use crate::composite::compare_composites;
-use agg_model::aggregation::{Agg, CompositeSource, Order};
-use agg_model::list::List;
-use agg_model::partial::Bucket;
+use agg_model::{Agg, Bucket, CompositeSource, List, Order};
 use std::alloc::AllocError;
 
 /// Puts buckets in the order of the list, where `children` are the aggregations below.

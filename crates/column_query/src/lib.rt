@@ -3,11 +3,16 @@
 
 mod bounds;
 mod content;
-pub mod matched;
-pub mod matching;
+mod matched_rows;
+mod matching;
 mod numbers;
-pub mod prepared;
-pub mod preparing;
+mod prepared;
+mod preparing;
 #[cfg(test)]
 mod tests;
 mod values;
+
+pub use matched_rows::{Bits, matched};
+pub use matching::matches;
+pub use prepared::{NumberTest, Prepared, is_match};
+pub use preparing::prepare;

@@ -7,10 +7,8 @@ ghost use Rattle.agg_evaluation.specs.Matching.{matches as matches_row};
 ghost use Rattle.shard_columns.specs.Layout.{row_of};
 
 use crate::values::{Wanted, has_wanted};
-use agg_model::list::List;
-use agg_model::query::Query;
-use agg_model::text::Text;
-use shard_columns::shard::Shard;
+use agg_model::{List, Query, Text};
+use shard_columns::Shard;
 
 fn is_among(id: &[u8], ids: &[Text]) -> bool
     ensures { result ≡ list_any (bytes_eq id.now) ids.now }

@@ -10,9 +10,8 @@ ghost use Rattle.column_query.specs.Prepared.{is_among as is_number_among, withi
 
 use crate::bounds::{Bound, allows_number};
 use crate::numbers::number;
-use agg_model::boxed::Boxed;
-use agg_model::list::List;
-use shard_columns::shard::Shard;
+use agg_model::{Boxed, List};
+use shard_columns::Shard;
 use std::collections::BTreeSet;
 
 /// What a query wants of the number of a value.

@@ -6,11 +6,8 @@ ghost use Rattle.column_query.specs.Prepared.{looks_below, AddsNumber, StandForA
 use crate::bounds::{Bound, bound_of};
 use crate::numbers::number_of_probe;
 use crate::prepared::{NumberTest, Prepared};
-use agg_model::boxed::Boxed;
-use agg_model::list::List;
-use agg_model::query::{Probe, Query, RangeTest};
-use agg_model::text::Text;
-use shard_columns::shard::Shard;
+use agg_model::{Boxed, List, Probe, Query, RangeTest, Text};
+use shard_columns::Shard;
 use std::alloc::{AllocError, Global};
 use std::collections::BTreeSet;
 

@@ -8,8 +8,8 @@ ghost use Rattle.shard_columns.specs.Cell.{scalar_of};
 ghost use Rattle.shard_columns.specs.Layout.{row_of};
 ghost use Rattle.column_query.specs.Wanted.{wants as wants_value};
 
-use agg_model::query::{Probe, RangeOp, RangeTest};
-use shard_columns::shard::{Cell, Shard};
+use agg_model::{Probe, RangeOp, RangeTest};
+use shard_columns::{Cell, Shard};
 use std::cmp::Ordering;
 
 fn compare(cell: Cell<'_>, probe: &Probe) -> Ordering

@@ -1,6 +1,8 @@
 //! The answer to a `terms` search of documents with one keyword each, in an index with one shard.
 #![tactic(auto)]
 
-pub mod answer;
+mod answer;
 #[cfg(test)]
 mod tests;
+
+pub use answer::answer_of;

@@ -7,12 +7,11 @@ ghost use Rattle.document_rows.specs.Faults.{Gives};
 ghost use Rattle.document_rows.specs.States.{root_at};
 
 use crate::draft::RowDraft;
-use crate::walk::{Walked, members};
-use agg_model::mapping::Mapping;
-use agg_model::row::Row;
 use crate::fault::ItemFault;
 use crate::refusal::refuse;
-use json_walk::bytes::reading;
+use crate::walk::{Walked, members};
+use agg_model::{Mapping, Row};
+use json_walk::reading;
 use serde_json::{Map, Value};
 use std::alloc::Global;
 

@@ -1,6 +1,6 @@
 //! Why there is no document.
 
-use agg_model::bulk::ItemRefusal;
+use agg_model::ItemRefusal;
 use std::alloc::AllocError;
 
 /// Why there is no document, or no value.

@@ -8,10 +8,8 @@ ghost use Rattle.document_rows.specs.Faults.{Gives};
 
 use crate::fault::ItemFault;
 use crate::refusal::refuse;
-use agg_model::mapping::FieldKind;
-use agg_model::row::Scalar;
-use json_walk::ranges::{fits_kind, is_longer};
-use json_walk::scalars::{flag, whole, word};
+use agg_model::{FieldKind, Scalar};
+use json_walk::{fits_kind, flag, is_longer, whole, word};
 use serde_json::Value;
 use std::alloc::Global;
 

@@ -4,8 +4,7 @@ ghost use Rattle.agg_reading.specs.Outcome.{refuse};
 ghost use Rattle.document_rows.specs.Faults.{Gives};
 
 use crate::fault::ItemFault;
-use agg_model::bulk::ItemRefusal;
-use agg_model::text::Text;
+use agg_model::{ItemRefusal, Text};
 use std::alloc::Global;
 
 /// The refusal of this number at this path, which is empty where the document as a whole is refused. `Memory` comes in

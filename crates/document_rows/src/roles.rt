@@ -6,10 +6,9 @@ ghost use Rattle.agg_reading.specs.Document.{leads_deeper, inner_role, role_of};
 ghost use Rattle.agg_mapping.specs.Paths.{IsOrdered};
 ghost use Rattle.document_rows.specs.Roles.{is_deeper, IsRoleIn};
 
-use agg_mapping::lookup::{find_field, find_nested, is_object, nested};
-use agg_mapping::paths::is_beneath;
-use agg_model::mapping::Mapping;
-use agg_reading::parts::Role;
+use agg_mapping::{find_field, find_nested, is_beneath, is_object, nested};
+use agg_model::Mapping;
+use agg_reading::Role;
 
 /// Whether a path lies strictly beneath a context.
 #[tactic(auto, unfolding(agg_reading::specs::Fields::is_in_context))]

@@ -1,8 +1,7 @@
 use crate::document::root_row_of;
-use agg_mapping::index_line::index_line_of;
-use agg_model::row::{Row, Scalar};
-use agg_model::text::Text;
 use crate::fault::ItemFault;
+use agg_mapping::index_line_of;
+use agg_model::{Row, Scalar, Text};
 use std::alloc::Global;
 use std::test::Fail;
 

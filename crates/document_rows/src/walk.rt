@@ -14,13 +14,12 @@ ghost use Rattle.document_rows.specs.Drafts.{is_typed};
 ghost use Rattle.document_rows.specs.States.{state_of, nested_at};
 
 use crate::draft::RowDraft;
-use crate::roles::role_of;
-use agg_model::mapping::Mapping;
-use agg_model::row::Scalar;
-use agg_reading::parts::Role;
 use crate::fault::ItemFault;
-use crate::refusal::refuse;
 use crate::field_value::scalar;
+use crate::refusal::refuse;
+use crate::roles::role_of;
+use agg_model::{Mapping, Scalar};
+use agg_reading::Role;
 use serde_json::{Map, Value};
 use std::alloc::{AllocError, Global};
 

@@ -7,11 +7,7 @@ ghost use Rattle.final_reduce.specs.Finishable.{has_intervals, is_finishable};
 ghost use Rattle.final_reduce.specs.Selection.{chosen_pass, finish_chosen as finished_choice};
 
 use crate::select::{Chosen, select};
-use agg_model::aggregation::Agg;
-use agg_model::answer::{BucketAnswer, NodeAnswer};
-use agg_model::copying::Copying;
-use agg_model::list::List;
-use agg_model::partial::Node;
+use agg_model::{Agg, BucketAnswer, Copying, List, Node, NodeAnswer};
 use std::alloc::{AllocError, Global};
 
 /// The answers of aggregations side by side.

@@ -13,9 +13,7 @@ ghost use Rattle.final_reduce.specs.Planned.{fixed_count, gap_count as count_of_
 
 use crate::lent::lend_returned;
 use crate::spans::{Spacing, filled_number};
-use agg_model::aggregation::{Agg, Kind};
-use agg_model::list::List;
-use agg_model::partial::{Bucket, Node};
+use agg_model::{Agg, Bucket, Kind, List, Node};
 use std::alloc::{AllocError, Global};
 
 fn saturated(number: u128) -> u64

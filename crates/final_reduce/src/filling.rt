@@ -14,11 +14,8 @@ ghost use Rattle.final_reduce.specs.Steps.{key_numbers, left_by, taken};
 
 use crate::spans::{Spacing, filled_span};
 use crate::terms::keep_frequent;
-use agg_model::aggregation::{Agg, Order};
-use agg_model::key::Key;
-use agg_model::list::List;
-use agg_model::partial::Bucket;
-use bucket_order::sort::sort_buckets;
+use agg_model::{Agg, Bucket, Key, List, Order};
+use bucket_order::sort_buckets;
 use partial_result::empty_nodes;
 use std::alloc::{AllocError, Global};
 use std::collections::VecDeque;

@@ -9,11 +9,8 @@ ghost use Rattle.bucket_order.specs.Composites.{is_composite_of};
 ghost use Rattle.bucket_order.specs.Kinds.{child_kinds, kind_of};
 ghost use Rattle.final_reduce.specs.Planned.{returned_at, has_composite_keys};
 
-use agg_model::aggregation::{Agg, CompositeSource, Kind, Order};
-use agg_model::list::List;
-use agg_model::partial::Bucket;
-use bucket_order::compare::compare_buckets;
-use bucket_order::composite::compare_composites;
+use agg_model::{Agg, Bucket, CompositeSource, Kind, List, Order};
+use bucket_order::{compare_buckets, compare_composites};
 use std::alloc::{AllocError, Global};
 
 fn lend_frequent(

@@ -13,9 +13,7 @@ use crate::filling::histogram_buckets;
 use crate::parts::{NodeParts, into_parts};
 use crate::spans::Spacing;
 use crate::terms::returned_terms;
-use agg_model::aggregation::{Agg, Kind, Order};
-use agg_model::list::List;
-use agg_model::partial::{Bucket, Metric, Node};
+use agg_model::{Agg, Bucket, Kind, List, Metric, Node, Order};
 use std::alloc::{AllocError, Global};
 
 /// A bucket that is returned, with its error where it is one of terms.

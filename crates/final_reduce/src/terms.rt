@@ -6,10 +6,8 @@ ghost use Rattle.agg_spec.specs.Filling.{frequent};
 ghost use Rattle.bucket_order.specs.Kinds.{child_kinds};
 ghost use Rattle.final_reduce.specs.Terms.{ordered_terms};
 
-use agg_model::aggregation::{Agg, Order};
-use agg_model::list::List;
-use agg_model::partial::Bucket;
-use bucket_order::sort::sort_buckets;
+use agg_model::{Agg, Bucket, List, Order};
+use bucket_order::sort_buckets;
 use std::alloc::{AllocError, Global};
 
 /// The terms that are returned, and the number of documents of those beyond them.

@@ -5,8 +5,8 @@ ghost use Rattle.std.specs.List.{flat_map};
 ghost use Rattle.std.specs.Str.{chars};
 ghost use Rattle.agg_reading.specs.Pointer.{escaped};
 
-use agg_model::text::Text;
-use agg_reading::fault::RequestFault;
+use agg_model::Text;
+use agg_reading::RequestFault;
 use std::alloc::{AllocError, Global};
 
 /// Where a value stands in a JSON value: a path of names and places from the start (RFC 6901).

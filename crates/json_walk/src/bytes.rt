@@ -5,7 +5,7 @@ ghost use Rattle.serde_json.specs.View.{view};
 ghost use Rattle.agg_reading.specs.Outcome.{Gives};
 ghost use Rattle.agg_reading.specs.Json.{reading, json_at};
 
-use agg_reading::fault::RequestFault;
+use agg_reading::RequestFault;
 use serde_json::Value;
 use std::alloc::{AllocError, Global};
 

@@ -8,7 +8,7 @@ ghost use Rattle.agg_reading.specs.Outcome.{Gives};
 ghost use Rattle.agg_reading.specs.Json.{object_at, list_at, text_at, required, sole, sole_at, sole_besides, known, is_among};
 
 use crate::at::At;
-use agg_reading::fault::RequestFault;
+use agg_reading::RequestFault;
 use serde_json::{Map, Value};
 use std::alloc::Global;
 

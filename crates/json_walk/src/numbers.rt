@@ -10,7 +10,7 @@ ghost use Rattle.agg_reading.specs.Numbers.{whole_at, signed_at, truth_at, choic
 
 use crate::at::At;
 use crate::members::{is_one_of, member, text};
-use agg_reading::fault::RequestFault;
+use agg_reading::RequestFault;
 use serde_json::{Map, Number, Value};
 use std::alloc::Global;
 

@@ -6,9 +6,7 @@ ghost use Rattle.std.specs.Str.{all_ascii_digits};
 ghost use Rattle.serde_json.specs.View.{view};
 ghost use Rattle.agg_reading.specs.Scalars.{digits_of, is_decimal, decimal_of, whole, word, flag, flag_of, probe_of};
 
-use agg_model::mapping::FieldKind;
-use agg_model::query::Probe;
-use agg_model::text::Text;
+use agg_model::{FieldKind, Probe, Text};
 use serde_json::{Number, Value};
 use std::alloc::{AllocError, Global};
 

@@ -10,15 +10,10 @@ ghost use Rattle.agg_reading.specs.After.{probe_key, part_at, source_of, parts_f
 ghost use Rattle.request_kinds.specs.Pages.{after_view, part_named};
 
 use crate::sources::Source;
-use agg_model::copying::Copying;
-use agg_model::key::Key;
-use agg_model::list::List;
-use agg_model::query::Probe;
-use agg_model::text::Text;
-use agg_query::probes::probe;
-use agg_reading::fault::RequestFault;
-use json_walk::at::At;
-use json_walk::members::{member, object};
+use agg_model::{Copying, Key, List, Probe, Text};
+use agg_query::probe;
+use agg_reading::RequestFault;
+use json_walk::{At, member, object};
 use serde_json::{Map, Value};
 use std::alloc::{AllocError, Global};
 

@@ -11,13 +11,9 @@ ghost use Rattle.request_kinds.specs.Pages.{after_view};
 use crate::after::{After, after_in, after_key, check_after, is_source_name};
 use crate::numbers::small_in;
 use crate::sources::{Source, sources};
-use agg_model::aggregation::{CompositeSource, Kind};
-use agg_model::key::Key;
-use agg_model::list::List;
-use agg_model::mapping::Mapping;
-use agg_reading::fault::RequestFault;
-use json_walk::at::At;
-use json_walk::members::{check_names, object, required};
+use agg_model::{CompositeSource, Key, Kind, List, Mapping};
+use agg_reading::RequestFault;
+use json_walk::{At, check_names, object, required};
 use serde_json::{Map, Value};
 use std::alloc::{AllocError, Global};
 

@@ -10,11 +10,11 @@ ghost use Rattle.agg_reading.specs.Histogram.{whole_field_in};
 ghost use Rattle.agg_reading.specs.Metrics.{enclosing_at};
 ghost use Rattle.agg_mapping.specs.Paths.{IsOrdered};
 
-use agg_mapping::paths::is_beneath;
-use agg_model::mapping::{Field, FieldKind, Mapping};
-use agg_query::fields::{field_in, nested};
-use agg_reading::fault::RequestFault;
-use json_walk::at::At;
+use agg_mapping::is_beneath;
+use agg_model::{Field, FieldKind, Mapping};
+use agg_query::{field_in, nested};
+use agg_reading::RequestFault;
+use json_walk::At;
 use serde_json::{Map, Value};
 use std::alloc::Global;
 

@@ -11,16 +11,10 @@ ghost use Rattle.agg_mapping.specs.Paths.{IsOrdered};
 
 use crate::names::check_name;
 use crate::numbers::text_in;
-use agg_model::aggregation::Kind;
-use agg_model::list::List;
-use agg_model::mapping::Mapping;
-use agg_model::query::Query;
-use agg_model::text::Text;
-use agg_query::query::counted_query_at;
-use agg_reading::fault::RequestFault;
-use json_walk::at::At;
-use json_walk::members::{check_names, member, object};
-use json_walk::numbers::truth_in;
+use agg_model::{Kind, List, Mapping, Query, Text};
+use agg_query::counted_query_at;
+use agg_reading::RequestFault;
+use json_walk::{At, check_names, member, object, truth_in};
 use serde_json::{Map, Value};
 use std::alloc::Global;
 

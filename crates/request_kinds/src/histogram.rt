@@ -10,16 +10,10 @@ ghost use Rattle.agg_mapping.specs.Paths.{IsOrdered};
 
 use crate::fields::whole_field_in;
 use crate::orders::{orders_in, orders_or};
-use agg_model::aggregation::{Bounds, Kind};
-use agg_model::list::List;
-use agg_model::mapping::{Field, FieldKind, Mapping};
-use agg_model::row::Scalar;
-use agg_query::probes::missing_in;
-use agg_reading::fault::RequestFault;
-use agg_reading::parts::NamedOrder;
-use json_walk::at::At;
-use json_walk::members::{check_names, member, object};
-use json_walk::numbers::{signed_in, truth_in, whole_in};
+use agg_model::{Bounds, Field, FieldKind, Kind, List, Mapping, Scalar};
+use agg_query::missing_in;
+use agg_reading::{NamedOrder, RequestFault};
+use json_walk::{At, check_names, member, object, signed_in, truth_in, whole_in};
 use serde_json::{Map, Value};
 use std::alloc::Global;
 

@@ -12,14 +12,10 @@ use crate::filters::filters;
 use crate::histogram::histogram;
 use crate::metrics::{any_metric, global, missing, nested_context, number_metric, outer_context};
 use crate::terms::terms;
-use agg_model::aggregation::Kind;
-use agg_model::list::List;
-use agg_model::mapping::Mapping;
-use agg_query::query::counted_query_at;
-use agg_reading::fault::RequestFault;
-use agg_reading::names::KindName;
-use agg_reading::parts::ReadKind;
-use json_walk::at::At;
+use agg_model::{Kind, List, Mapping};
+use agg_query::counted_query_at;
+use agg_reading::{KindName, ReadKind, RequestFault};
+use json_walk::At;
 use serde_json::Value;
 use std::alloc::Global;
 

@@ -5,16 +5,20 @@
 //! once the children are known.
 #![tactic(auto)]
 
-pub mod after;
-pub mod composite;
-pub mod fields;
-pub mod filters;
-pub mod histogram;
-pub mod kind;
-pub mod metrics;
-pub mod names;
-pub mod numbers;
-pub mod orders;
-pub mod resolving;
-pub mod sources;
-pub mod terms;
+mod after;
+mod composite;
+mod fields;
+mod filters;
+mod histogram;
+mod kind;
+mod metrics;
+mod names;
+mod numbers;
+mod orders;
+mod resolving;
+mod sources;
+mod terms;
+
+pub use kind::{kind_at, kind_name};
+pub use names::is_name;
+pub use resolving::{resolved, with_order};

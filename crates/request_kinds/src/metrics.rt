@@ -10,14 +10,10 @@ ghost use Rattle.agg_reading.specs.Metrics.{metered_in, number_metric_at, any_me
 ghost use Rattle.agg_mapping.specs.Paths.{IsOrdered};
 
 use crate::fields::{enclosing, whole_field_in};
-use agg_model::aggregation::Kind;
-use agg_model::mapping::{Field, Mapping};
-use agg_model::row::Scalar;
-use agg_query::fields::{field_in, path_in};
-use agg_query::probes::missing_in;
-use agg_reading::fault::RequestFault;
-use json_walk::at::At;
-use json_walk::members::{check_names, member, object, text};
+use agg_model::{Field, Kind, Mapping, Scalar};
+use agg_query::{field_in, missing_in, path_in};
+use agg_reading::RequestFault;
+use json_walk::{At, check_names, member, object, text};
 use serde_json::{Map, Value};
 use std::alloc::Global;
 

@@ -5,8 +5,8 @@ ghost use Rattle.json_walk.specs.Places.{pointer};
 ghost use Rattle.agg_reading.specs.Outcome.{Gives};
 ghost use Rattle.agg_reading.specs.Filters.{is_name, name_at};
 
-use agg_reading::fault::RequestFault;
-use json_walk::at::At;
+use agg_reading::RequestFault;
+use json_walk::At;
 use std::alloc::Global;
 
 /// Whether a name has 1 to 512 bytes.

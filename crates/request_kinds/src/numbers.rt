@@ -7,10 +7,8 @@ ghost use Rattle.agg_reading.specs.Outcome.{Gives};
 ghost use Rattle.agg_reading.specs.Json.{optional, text_at};
 ghost use Rattle.agg_reading.specs.Numbers.{whole_at, choice_at};
 
-use agg_reading::fault::RequestFault;
-use json_walk::at::At;
-use json_walk::members::{member, text};
-use json_walk::numbers::{choice, whole_in};
+use agg_reading::RequestFault;
+use json_walk::{At, choice, member, text, whole_in};
 use serde_json::{Map, Value};
 use std::alloc::Global;
 

@@ -7,13 +7,9 @@ ghost use Rattle.agg_reading.specs.Outcome.{Gives};
 ghost use Rattle.agg_reading.specs.Json.{optional};
 ghost use Rattle.agg_reading.specs.Orders.{direction_at, order_at, item_count, orders_from, orders_at, by_default};
 
-use agg_model::list::List;
-use agg_model::text::Text;
-use agg_reading::fault::RequestFault;
-use agg_reading::parts::NamedOrder;
-use json_walk::at::At;
-use json_walk::members::{member, object, sole_member};
-use json_walk::numbers::choice;
+use agg_model::{List, Text};
+use agg_reading::{NamedOrder, RequestFault};
+use json_walk::{At, choice, member, object, sole_member};
 use serde_json::{Map, Value};
 use std::alloc::{AllocError, Global};
 

@@ -5,11 +5,9 @@ ghost use Rattle.std.specs.Str.{bytes_eq};
 ghost use Rattle.agg_reading.specs.Outcome.{Gives};
 ghost use Rattle.agg_reading.specs.Orders.{is_sortable, child_from, child_named, compared_by, resolved, with_order};
 
-use agg_model::aggregation::{Agg, Kind, Order, OrderBy};
-use agg_model::list::List;
-use agg_reading::fault::RequestFault;
-use agg_reading::parts::NamedOrder;
-use json_walk::at::At;
+use agg_model::{Agg, Kind, List, Order, OrderBy};
+use agg_reading::{NamedOrder, RequestFault};
+use json_walk::At;
 use std::alloc::Global;
 
 /// Whether a name is another with this ending.

@@ -9,18 +9,10 @@ ghost use Rattle.agg_mapping.specs.Paths.{IsOrdered};
 
 use crate::numbers::{choice_in, small_in};
 use crate::orders::{orders_in, orders_or};
-use agg_model::aggregation::Kind;
-use agg_model::list::List;
-use agg_model::mapping::{Field, FieldKind, Mapping};
-use agg_model::query::Probe;
-use agg_model::row::Scalar;
-use agg_query::fields::field_in;
-use agg_query::probes::{missing_in, probe_list_in};
-use agg_reading::fault::RequestFault;
-use agg_reading::parts::NamedOrder;
-use json_walk::at::At;
-use json_walk::members::{check_names, object};
-use json_walk::numbers::{truth_in, whole_in};
+use agg_model::{Field, FieldKind, Kind, List, Mapping, Probe, Scalar};
+use agg_query::{field_in, missing_in, probe_list_in};
+use agg_reading::{NamedOrder, RequestFault};
+use json_walk::{At, check_names, object, truth_in, whole_in};
 use serde_json::{Map, Value};
 use std::alloc::Global;
 

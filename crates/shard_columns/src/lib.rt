@@ -2,11 +2,14 @@
 #![tactic(auto)]
 
 mod contexts;
-pub mod index;
+mod index;
 mod layout;
 mod search;
-pub mod shard;
+mod shard;
 #[cfg(test)]
 mod tests;
 mod values;
 mod words;
+
+pub use index::Index;
+pub use shard::{Cell, Shard};

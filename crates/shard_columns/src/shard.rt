@@ -14,11 +14,7 @@ use crate::layout::{Entry, Laid, Layout, Origin, lay};
 use crate::search::{find_word, span_between};
 use crate::values::{Stored, Values, held_at, push_row};
 use crate::words::{all_bytes, dictionaries, longest_of};
-use agg_model::copying::Copying;
-use agg_model::list::List;
-use agg_model::mapping::{Field, FieldKind, Mapping, NestedPath};
-use agg_model::row::Document;
-use agg_model::text::Text;
+use agg_model::{Copying, Document, Field, FieldKind, List, Mapping, NestedPath, Text};
 use std::alloc::{AllocError, Global};
 use std::marker::Model;
 

@@ -3,4 +3,6 @@
 
 #[cfg(test)]
 mod tests;
-pub mod trim;
+mod trimming;
+
+pub use trimming::trim;

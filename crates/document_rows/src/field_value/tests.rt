@@ -1,9 +1,7 @@
 use crate::fault::ItemFault;
 use crate::field_value::scalar;
-use agg_model::mapping::FieldKind;
-use agg_model::row::Scalar;
-use agg_model::text::Text;
-use json_walk::bytes::reading;
+use agg_model::{FieldKind, Scalar, Text};
+use json_walk::reading;
 use std::alloc::Global;
 use std::test::Fail;
 

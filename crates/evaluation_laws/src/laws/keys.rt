@@ -10,7 +10,7 @@ ghost use Rattle.agg_evaluation.specs.Keys.{interval_start, keys};
 ghost use Rattle.agg_evaluation.specs.Rows.{PlacedRow};
 ghost use Rattle.agg_evaluation.specs.Trees.{is_ascending};
 
-use agg_model::key::Key;
+use agg_model::Key;
 
 /// The comparison of keys that code calls is the order of keys, which is total and tells all keys apart.
 pub fn keys_have_one_order()

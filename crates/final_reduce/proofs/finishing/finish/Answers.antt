@@ -4,7 +4,7 @@ use Rattle.agg_spec.specs.BucketCount.{counter, count_each, greatest_count, tota
 use Rattle.agg_spec.specs.Final.{final}
 use Rattle.agg_spec.specs.RangeCheck.{checker, check_each, first_path}
 use Rattle.final_reduce.proofs.PlanAgrees.{planned-is-total}
-use Rattle.final_reduce.proofs.finish.finish.Goals as goal
+use Rattle.final_reduce.proofs.finishing.finish.Goals as goal
 
 pub returns-then-count-max_buckets-clause-fault : goal.returns-then-count-max_buckets-clause-fault
 returns-then-count-max_buckets-clause-fault c =

@@ -6,8 +6,8 @@ ghost use Rattle.column_query.specs.Prepared.{looks_below, reads_below, says};
 
 use crate::prepared::{Prepared, is_match};
 use crate::preparing::prepare;
-use agg_model::query::Query;
-use shard_columns::shard::Shard;
+use agg_model::Query;
+use shard_columns::Shard;
 use std::alloc::{AllocError, Global};
 use std::marker::Model;
 

@@ -1,7 +1,7 @@
 use Rattle.std.proofs.Common.{◌≡◌, sym, subst, IfOk}
 use Rattle.agg_model.specs.declared.partial.Node.{Node}
 use Rattle.terms_agg.proofs.TrimLaws.{trimmed-Terms}
-use Rattle.terms_agg.proofs.trim.trim.Goals as goal
+use Rattle.terms_agg.proofs.trimming.trim.Goals as goal
 
 pub returns-in-Keyed : goal.returns-in-Keyed
 returns-in-Keyed c =

@@ -3,7 +3,7 @@ use Rattle.std.specs.Prelude.{slice_set}
 use Rattle.std.proofs.lemmas.List.Edits.{map_over_more}
 use Rattle.agg_model.specs.declared.partial.Bucket.{Bucket}
 use Rattle.agg_evaluation.specs.Shard.{with_covered}
-use Rattle.terms_agg.proofs.trim.set_covered.Goals as goal
+use Rattle.terms_agg.proofs.trimming.set_covered.Goals as goal
 
 pub loop-bucket-preserved : goal.loop-bucket-preserved
 loop-bucket-preserved c =

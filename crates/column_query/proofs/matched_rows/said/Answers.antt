@@ -3,7 +3,7 @@ use Rattle.agg_evaluation.specs.Rows.{roots}
 use Rattle.shard_columns.specs.Layout.{row_of}
 use Rattle.column_query.specs.Prepared.{says}
 use Rattle.column_query.proofs.Lists.{map_step}
-use Rattle.column_query.proofs.matched.said.Goals as goal
+use Rattle.column_query.proofs.matched_rows.said.Goals as goal
 
 pub loop-place-preserved : goal.loop-place-preserved
 loop-place-preserved c =

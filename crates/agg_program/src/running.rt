@@ -13,9 +13,8 @@ use crate::search::{not_built_line, usage_text};
 use crate::status::Status;
 use crate::stop::Stop;
 use crate::writing::write_line;
-use agg_base::sink::Sink;
-use agg_base::source::{Failed, Source};
-use agg_model::text::Text;
+use agg_base::{Failed, Sink, Source};
+use agg_model::Text;
 use std::alloc::Global;
 
 /// Writes the refusal of a script as not built at a line.

@@ -1,6 +1,6 @@
 use Rattle.std.proofs.Common.{◌≡◌, Bool, List, IfOk, subst}
 use Rattle.column_query.proofs.Ready.{said-roots}
-use Rattle.column_query.proofs.matched.matched.Goals as goal
+use Rattle.column_query.proofs.matched_rows.matched.Goals as goal
 
 pub returns : goal.returns
 returns c =

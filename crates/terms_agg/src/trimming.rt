@@ -4,10 +4,8 @@ ghost use Rattle.agg_evaluation.specs.Shard.{trimmed_node, with_covered};
 ghost use Rattle.bucket_order.specs.Kinds.{child_kinds};
 ghost use Rattle.terms_agg.specs.Trim.{trimmed, last_count, node_buckets};
 
-use agg_model::aggregation::{Agg, Kind, Order};
-use agg_model::list::List;
-use agg_model::partial::{Bucket, Node};
-use bucket_order::sort::{sort_buckets, sort_by_key};
+use agg_model::{Agg, Bucket, Kind, List, Node, Order};
+use bucket_order::{sort_buckets, sort_by_key};
 use std::alloc::{AllocError, Global};
 
 /// The number of documents in all the buckets together.

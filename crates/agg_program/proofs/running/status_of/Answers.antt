@@ -1,6 +1,6 @@
 use Rattle.std.proofs.Common.{◌≡◌, ◌≢◌, [], refl, ap, length}
 use Rattle.agg_program.proofs.RunLemmas.{usage_at, usage_some, some_words}
-use Rattle.agg_program.proofs.run.status_of.Goals as goal
+use Rattle.agg_program.proofs.running.status_of.Goals as goal
 
 pub returns-else-is_empty-clause-output : goal.returns-else-is_empty-clause-output
 returns-else-is_empty-clause-output g c =

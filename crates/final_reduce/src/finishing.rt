@@ -2,15 +2,12 @@ ghost use Rattle.std.specs.Prelude.{IfOk, IfErr, IsTrue, ◌≡◌};
 ghost use Rattle.agg_spec.specs.Final.{final as final_answer};
 ghost use Rattle.final_reduce.specs.Causes.{IsCause, IsWithinLimits};
 ghost use Rattle.final_reduce.specs.Finishable.{can_finish};
-ghost use Rattle.final_reduce.specs.declared.finish.FinalFault.TheVariants.{Memory as OutOfMemory};
+ghost use Rattle.final_reduce.specs.declared.finishing.FinalFault.TheVariants.{Memory as OutOfMemory};
 
 use crate::answer::finish_each;
 use crate::count::planned_each;
 use crate::range::first_out_of_range;
-use agg_model::aggregation::Search;
-use agg_model::answer::Answer;
-use agg_model::partial::Partial;
-use agg_model::text::Text;
+use agg_model::{Answer, Partial, Search, Text};
 use std::alloc::{AllocError, Global};
 
 /// Why an answer is not given.

@@ -1,5 +1,5 @@
 use Rattle.agg_program.proofs.RunLemmas.{refused_by}
-use Rattle.agg_program.proofs.run.stopped.Goals as goal
+use Rattle.agg_program.proofs.running.stopped.Goals as goal
 
 pub returns-in-NotBuilt-clause-output : goal.returns-in-NotBuilt-clause-output
 returns-in-NotBuilt-clause-output g c =

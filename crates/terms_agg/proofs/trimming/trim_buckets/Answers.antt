@@ -3,7 +3,7 @@ use Rattle.std.specs.Prelude.{sum_by}
 use Rattle.std.proofs.lemmas.List.Sums.{sum_by-take-le}
 use Rattle.std.proofs.lemmas.List.Sorted.{sum_by-IsPermutation}
 use Rattle.agg_evaluation.specs.Orders.{bucket_count}
-use Rattle.terms_agg.proofs.trim.trim_buckets.Goals as goal
+use Rattle.terms_agg.proofs.trimming.trim_buckets.Goals as goal
 
 pub total_count-requires : goal.total_count-requires
 total_count-requires c =
