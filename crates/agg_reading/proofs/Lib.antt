@@ -13,3 +13,4 @@ mod Scripts
 mod Limits
 pub mod MappingLaws
 pub mod IndexLineLaws
+pub mod ValueLaws

@@ -10,7 +10,7 @@ use Rattle.agg_model.specs.declared.row.Scalar.TheVariants.{Word}
 use Rattle.agg_evaluation.specs.Rows.{PlacedRow, values_of}
 use Rattle.agg_evaluation.specs.KeyOrder.{scalar_key}
 use Rattle.agg_evaluation.specs.Keys.{distinct_keys}
-use Rattle.agg_evaluation.specs.Sorting.{ascending}
+use Rattle.list_laws.specs.Sorting.{ascending}
 use Rattle.agg_evaluation.specs.Ceiling.{greatest_of}
 use Rattle.shard_columns.specs.Layout.{row_of}
 use Rattle.shard_columns.specs.Values.{Words, words_in}
