@@ -3,7 +3,7 @@
 ghost use Rattle.std.specs.Prelude.{◌≡◌, ◌++◌, [], codes, IfOk, IfErr, IfSome, Ok, Some};
 ghost use Rattle.serde_json.specs.View.{view, members_view};
 ghost use Rattle.json_walk.specs.Places.{pointer};
-ghost use Rattle.agg_reading.specs.Outcome.{Gives};
+ghost use Rattle.agg_reading.specs.Reading.{Gives};
 ghost use Rattle.agg_reading.specs.Json.{optional};
 ghost use Rattle.agg_reading.specs.Pointer.{member_step};
 ghost use Rattle.agg_reading.specs.Mapping.{mapping_at, empty_mapping};

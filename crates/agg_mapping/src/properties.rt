@@ -5,7 +5,7 @@ ghost use Rattle.std.specs.List.{list_any};
 ghost use Rattle.serde_json.specs.Find.{get_member};
 ghost use Rattle.serde_json.specs.View.{view, members_view};
 ghost use Rattle.json_walk.specs.Places.{pointer};
-ghost use Rattle.agg_reading.specs.Outcome.{Gives};
+ghost use Rattle.agg_reading.specs.Reading.{Gives};
 ghost use Rattle.agg_reading.specs.Json.{known, optional};
 ghost use Rattle.agg_reading.specs.Properties.{is_field_name, type_named, type_at, type_in, leaf_names, bound_at, leaf_at, fields_from, properties_at, properties_of, inner_at, property_at};
 ghost use Rattle.agg_reading.specs.Pointer.{member_step};

@@ -3,7 +3,7 @@
 ghost use Rattle.std.specs.Prelude.{◌≡◌, ◌<◌, IfOk};
 ghost use Rattle.serde_json.specs.View.{members_view};
 ghost use Rattle.json_walk.specs.Places.{pointer};
-ghost use Rattle.agg_reading.specs.Outcome.{Gives};
+ghost use Rattle.agg_reading.specs.Reading.{Gives};
 ghost use Rattle.agg_reading.specs.Fields.{field_at, is_in_context};
 ghost use Rattle.agg_reading.specs.Leaves.{field_in};
 ghost use Rattle.agg_reading.specs.Query.{nested_at, path_in};

@@ -3,7 +3,7 @@
 ghost use Rattle.std.specs.Prelude.{◌≡◌, ◌∷◌, [], None, codes};
 ghost use Rattle.serde_json.specs.View.{view, items_view, members_view};
 ghost use Rattle.json_walk.specs.Places.{pointer};
-ghost use Rattle.agg_reading.specs.Outcome.{Gives, or_refuse};
+ghost use Rattle.agg_reading.specs.Reading.{Gives, or_refuse};
 ghost use Rattle.agg_reading.specs.Json.{sole_besides};
 ghost use Rattle.agg_reading.specs.Leaves.{about, match_all_at, boxed_value, term_value, term_at, terms_at, test_at, tests_at, range_at, exists_at, ids_from, ids_at};
 ghost use Rattle.agg_mapping.specs.Paths.{IsOrdered};

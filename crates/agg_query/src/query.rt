@@ -4,7 +4,7 @@ ghost use Rattle.std.specs.Prelude.{◌≡◌, ◌≢◌, ◌≤◌, [], Err, If
 ghost use Rattle.serde_json.specs.View.{view, items_view, members_view};
 ghost use Rattle.json_walk.specs.Places.{pointer};
 ghost use Rattle.agg_reading.specs.declared.fault.RequestFault.TheVariants.{NotJson};
-ghost use Rattle.agg_reading.specs.Outcome.{Gives};
+ghost use Rattle.agg_reading.specs.Reading.{Gives};
 ghost use Rattle.agg_reading.specs.Json.{optional, sole_at};
 ghost use Rattle.agg_reading.specs.Numbers.{whole_at};
 ghost use Rattle.agg_reading.specs.Query.{query_name, minimum, queries_from, clause_at, all_at, clauses_at, bool_at, within_at, named_at, query_at, top_query_at, query_from};

@@ -11,5 +11,6 @@ mod Documents
 mod Hashes
 mod Scripts
 mod Limits
+pub mod Steps
 pub mod MappingLaws
 pub mod IndexLineLaws

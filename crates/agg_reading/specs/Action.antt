@@ -7,7 +7,7 @@ use Rattle.serde_json.specs.Data.{Data, null, number, string, Members}
 use Rattle.serde_json.specs.Find.{as_integer, get_member}
 use Rattle.agg_model.specs.declared.bulk.ActionKind.{ActionKind}
 use Rattle.agg_model.specs.declared.bulk.ActionKind.TheVariants.{Index, Create, Delete}
-use Rattle.agg_reading.specs.Outcome.{Outcome, ◌>>=◌, refuse, or_refuse}
+use Rattle.agg_reading.specs.Reading.{Reading, ◌>>=◌, refuse, or_refuse}
 use Rattle.agg_reading.specs.Json.{reading, object_at, sole_at}
 
 -- what an action line says: the action, the id, and the routing
@@ -40,17 +40,17 @@ is_plain index ms =
     && list_all (λ name. is_none (set_member name ms)) (codes "if_primary_term" ∷ codes "if_seq_no" ∷ codes "pipeline" ∷ codes "version" ∷ codes "version_type" ∷ [])
 
 -- a text or a whole number, which counts as its decimal text
-abbrev pub label_of : Option Data → Outcome (Option (List ℕ))
+abbrev pub label_of : Option Data → Reading (Option (List ℕ))
 label_of None = Ok None
 label_of (Some (string s)) = Ok (Some s)
 label_of (Some (number n)) = or_refuse 32 [] (as_integer n) >>= λ z. Ok (Some (signed_decimal z))
 label_of (Some _) = refuse 32 []
 
-unfoldable pub label_in : List ℕ → Members → Outcome (Option (List ℕ))
+unfoldable pub label_in : List ℕ → Members → Reading (Option (List ℕ))
 label_in name ms = label_of (set_member name ms)
 
 -- an absent id is made from the number of the action; a delete has to name one
-abbrev pub id_or : ActionKind → ℕ → Option (List ℕ) → Outcome (List ℕ)
+abbrev pub id_or : ActionKind → ℕ → Option (List ℕ) → Reading (List ℕ)
 id_or Delete before None = refuse 32 []
 id_or _ before None = Ok (codes "_auto_" ++ decimal before)
 id_or _ before (Some id) = if nat_lt 0 (length id) && nat_le (length id) 512 then Ok id else refuse 32 []
@@ -60,7 +60,7 @@ routing_or id None = id
 routing_or id (Some routing) = routing
 
 -- the members of the one action
-unfoldable pub heading_at : List ℕ → ℕ → ActionKind → Members → Outcome Heading
+unfoldable pub heading_at : List ℕ → ℕ → ActionKind → Members → Reading Heading
 heading_at index before kind ms =
     if is_plain index ms then (do
       said ← label_in (codes "_id") ms
@@ -70,7 +70,7 @@ heading_at index before kind ms =
     else refuse 32 []
 
 -- before : how many actions come before
-unfoldable pub action_value_at : List ℕ → ℕ → Data → Outcome Heading
+unfoldable pub action_value_at : List ℕ → ℕ → Data → Reading Heading
 action_value_at index before d = do
   ms ← object_at 32 [] d
   said ← sole_at 32 [] ms
@@ -79,5 +79,5 @@ action_value_at index before d = do
     kind ← or_refuse 32 [] (action_named said.0)
     heading_at index before kind inner)
 
-unfoldable pub action_at : List ℕ → ℕ → List ℕ → Outcome Heading
+unfoldable pub action_at : List ℕ → ℕ → List ℕ → Reading Heading
 action_at index before bytes = or_refuse 32 [] (reading bytes) >>= action_value_at index before

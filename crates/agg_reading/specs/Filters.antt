@@ -5,7 +5,7 @@ use Rattle.agg_model.specs.declared.mapping.Mapping.{Mapping}
 use Rattle.agg_model.specs.declared.query.Query.{Query}
 use Rattle.agg_model.specs.declared.aggregation.Kind.{Kind}
 use Rattle.agg_model.specs.declared.aggregation.Kind.TheVariants as kind
-use Rattle.agg_reading.specs.Outcome.{Outcome, ◌>>=◌, ◌>>◌, refuse, or_refuse}
+use Rattle.agg_reading.specs.Reading.{Reading, ◌>>=◌, ◌>>◌, refuse, or_refuse}
 use Rattle.agg_reading.specs.Pointer.{member_step, item_step}
 use Rattle.agg_reading.specs.Json.{object_at, text_at, known, optional, is_among}
 use Rattle.agg_reading.specs.Numbers.{truth_at}
@@ -15,11 +15,11 @@ use Rattle.agg_reading.specs.Query.{top_query_at}
 abbrev pub is_name : List ℕ → Bool
 is_name name = nat_lt 0 (length name) && nat_le (length name) 512
 
-unfoldable pub name_at : List ℕ → List ℕ → Outcome ⊤
+unfoldable pub name_at : List ℕ → List ℕ → Reading ⊤
 name_at at name = if is_name name then Ok tt else refuse 112 at
 
 -- The filters of a list from this place on, after those before, with the count of queries. At most 256.
-unfoldable pub listed_from : Mapping → ℕ → List ℕ → ℕ → List Query → ℕ → Items → Outcome (List Query × ℕ)
+unfoldable pub listed_from : Mapping → ℕ → List ℕ → ℕ → List Query → ℕ → Items → Reading (List Query × ℕ)
 listed_from m context at n done count no_items = Ok (done, count)
 listed_from m context at n done count (item d ds) =
     if nat_le 256 n then refuse 111 (at ++ item_step n) else (do
@@ -27,7 +27,7 @@ listed_from m context at n done count (item d ds) =
       listed_from m context at (n + 1) (done ++ q.0 ∷ []) q.1 ds)
 
 -- the names and filters of an object, likewise
-unfoldable pub named_from : Mapping → ℕ → List ℕ → List (List ℕ) → List Query → ℕ → Members → Outcome (List (List ℕ) × List Query × ℕ)
+unfoldable pub named_from : Mapping → ℕ → List ℕ → List (List ℕ) → List Query → ℕ → Members → Reading (List (List ℕ) × List Query × ℕ)
 named_from m context at names done count no_members = Ok (names, done, count)
 named_from m context at names done count (member k d ms) = do
   name_at (at ++ member_step k) k
@@ -40,7 +40,7 @@ abbrev pub FilterList : Type 0
 FilterList = Option (List (List ℕ)) × List Query × ℕ
 
 -- an object or list of filters that is not empty
-unfoldable pub filter_list_at : Mapping → ℕ → ℕ → List ℕ → Data → Outcome FilterList
+unfoldable pub filter_list_at : Mapping → ℕ → ℕ → List ℕ → Data → Reading FilterList
 filter_list_at m context count at (array no_items) = refuse 104 at
 filter_list_at m context count at (array ds) = listed_from m context at 0 [] count ds >>= λ r. Ok (None, r.0, r.1)
 filter_list_at m context count at (object no_members) = refuse 104 at
@@ -52,14 +52,14 @@ is_taken None key = false
 is_taken (Some names) key = is_among names key
 
 -- the key of the other bucket, which no filter has
-abbrev pub free_key : List ℕ → Option (List (List ℕ)) → List ℕ → Outcome (Option (List ℕ))
+abbrev pub free_key : List ℕ → Option (List (List ℕ)) → List ℕ → Reading (Option (List ℕ))
 free_key at names key = if is_taken names key then refuse 104 (at ++ member_step (codes "other_bucket_key")) else Ok (Some key)
 
 -- the key of the other bucket where it is on: a key switches it on
-unfoldable pub other_of : List ℕ → Option (List (List ℕ)) → Option Bool → Option (List ℕ) → Outcome (Option (List ℕ))
+unfoldable pub other_of : List ℕ → Option (List (List ℕ)) → Option Bool → Option (List ℕ) → Reading (Option (List ℕ))
 other_of at names on key = if unwrap_or on false || is_some key then free_key at names (unwrap_or key (codes "_other_")) else Ok None
 
-unfoldable pub filters_in : Mapping → ℕ → ℕ → List ℕ → Members → Outcome (Kind × ℕ)
+unfoldable pub filters_in : Mapping → ℕ → ℕ → List ℕ → Members → Reading (Kind × ℕ)
 filters_in m context count at ms = do
   said ← optional (filter_list_at m context count) (codes "filters") at ms
   on ← optional truth_at (codes "other_bucket") at ms
@@ -68,7 +68,7 @@ filters_in m context count at ms = do
   other ← other_of at list.0 on key
   Ok (kind.Filters list.0 list.1 other, list.2)
 
-unfoldable pub filters_at : Mapping → ℕ → ℕ → List ℕ → Data → Outcome (Kind × ℕ)
+unfoldable pub filters_at : Mapping → ℕ → ℕ → List ℕ → Data → Reading (Kind × ℕ)
 filters_at m context count at d = do
   ms ← object_at 103 at d
   known 101 (codes "filters" ∷ codes "other_bucket" ∷ codes "other_bucket_key" ∷ []) at ms

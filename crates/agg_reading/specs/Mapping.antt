@@ -10,7 +10,7 @@ use Rattle.agg_model.specs.declared.mapping.Mapping.{Mapping}
 use Rattle.agg_reading.specs.declared.parts.Found.{Found}
 use Rattle.agg_reading.specs.declared.parts.FoundField.{FoundField}
 use Rattle.agg_reading.specs.declared.parts.FoundPath.{FoundPath}
-use Rattle.agg_reading.specs.Outcome.{Outcome, ◌>>=◌, ◌>>◌, refuse}
+use Rattle.agg_reading.specs.Reading.{Reading, ◌>>=◌, ◌>>◌, refuse}
 use Rattle.agg_reading.specs.Pointer.{member_step}
 use Rattle.agg_reading.specs.Json.{object_at, known, optional}
 use Rattle.agg_reading.specs.Properties.{property_at, properties_of}
@@ -40,7 +40,7 @@ numbered strict found = record {
 }
 
 -- whether `dynamic` is strict: `false`, `"false"` or `"strict"`
-unfoldable pub dynamic_at : List ℕ → Data → Outcome Bool
+unfoldable pub dynamic_at : List ℕ → Data → Reading Bool
 dynamic_at at (boolean b) = if b then refuse 31 at else Ok false
 dynamic_at at (string s) = if bytes_eq s (codes "strict") then Ok true else (if bytes_eq s (codes "false") then Ok false else refuse 31 at)
 dynamic_at at _ = refuse 31 at
@@ -49,10 +49,10 @@ abbrev pub nothing_found : Found
 nothing_found = record { fields = []; nested = []; objects = [] }
 
 -- properties stand at most 20 deep
-unfoldable pub found_in : List ℕ → Members → Outcome Found
+unfoldable pub found_in : List ℕ → Members → Reading Found
 found_in at ms = properties_of (property_at 20) [] [] (at ++ member_step (codes "properties")) nothing_found (get_member (codes "properties") ms)
 
-unfoldable pub mapping_at : List ℕ → Data → Outcome Mapping
+unfoldable pub mapping_at : List ℕ → Data → Reading Mapping
 mapping_at at d = do
   ms ← object_at 31 at d
   known 31 (codes "dynamic" ∷ codes "properties" ∷ []) at ms

@@ -3,27 +3,27 @@
 use Rattle.std.specs.Prelude.{ℕ, ℤ, List, Option, Some, None, Ok, Bool, ◌&&◌, if◌then◌else◌, nat_le}
 use Rattle.serde_json.specs.Data.{Data, Num}
 use Rattle.serde_json.specs.Find.{as_number, as_u64, as_i64, as_bool}
-use Rattle.agg_reading.specs.Outcome.{Outcome, ◌>>=◌, refuse, or_refuse}
+use Rattle.agg_reading.specs.Reading.{Reading, ◌>>=◌, refuse, or_refuse}
 use Rattle.agg_reading.specs.Json.{text_at, is_among}
 
-unfoldable pub number_at : List ℕ → Data → Outcome Num
+unfoldable pub number_at : List ℕ → Data → Reading Num
 number_at at d = or_refuse 103 at (as_number d)
 
-abbrev pub in_range : ℕ → ℕ → List ℕ → Option ℕ → Outcome ℕ
+abbrev pub in_range : ℕ → ℕ → List ℕ → Option ℕ → Reading ℕ
 in_range least most at None = refuse 104 at
 in_range least most at (Some n) = if nat_le least n && nat_le n most then Ok n else refuse 104 at
 
 -- a whole number from least to most
-unfoldable pub whole_at : ℕ → ℕ → List ℕ → Data → Outcome ℕ
+unfoldable pub whole_at : ℕ → ℕ → List ℕ → Data → Reading ℕ
 whole_at least most at d = number_at at d >>= λ n. in_range least most at (as_u64 n)
 
 -- a whole number of signed 64 bits
-unfoldable pub signed_at : List ℕ → Data → Outcome ℤ
+unfoldable pub signed_at : List ℕ → Data → Reading ℤ
 signed_at at d = number_at at d >>= λ n. or_refuse 104 at (as_i64 n)
 
-unfoldable pub truth_at : List ℕ → Data → Outcome Bool
+unfoldable pub truth_at : List ℕ → Data → Reading Bool
 truth_at at d = or_refuse 103 at (as_bool d)
 
 -- a text of this set
-unfoldable pub choice_at : List (List ℕ) → List ℕ → Data → Outcome (List ℕ)
+unfoldable pub choice_at : List (List ℕ) → List ℕ → Data → Reading (List ℕ)
 choice_at words at d = text_at 103 at d >>= λ s. if is_among words s then Ok s else refuse 104 at

@@ -9,23 +9,23 @@ use Rattle.agg_model.specs.declared.aggregation.Order.{Order}
 use Rattle.agg_model.specs.declared.aggregation.OrderBy.{OrderBy}
 use Rattle.agg_model.specs.declared.aggregation.OrderBy.TheVariants as by
 use Rattle.agg_reading.specs.declared.parts.NamedOrder.{NamedOrder}
-use Rattle.agg_reading.specs.Outcome.{Outcome, ◌>>=◌, refuse, or_refuse}
+use Rattle.agg_reading.specs.Reading.{Reading, ◌>>=◌, refuse, or_refuse}
 use Rattle.agg_reading.specs.Pointer.{member_step, item_step}
 use Rattle.agg_reading.specs.Json.{object_at, sole_at}
 use Rattle.agg_reading.specs.Numbers.{choice_at}
 
 -- whether the direction is descending
-unfoldable pub direction_at : List ℕ → Data → Outcome Bool
+unfoldable pub direction_at : List ℕ → Data → Reading Bool
 direction_at at d = choice_at (codes "asc" ∷ codes "desc" ∷ []) at d >>= λ s. Ok (bytes_eq s (codes "desc"))
 
 -- an object of one member, from a name to a direction
-unfoldable pub order_at : List ℕ → Members → Outcome NamedOrder
+unfoldable pub order_at : List ℕ → Members → Reading NamedOrder
 order_at at ms = do
   said ← sole_at 107 at ms
   descending ← direction_at (at ++ member_step said.0) said.1
   Ok (record { name = said.0; descending = descending; at = at ++ member_step said.0 })
 
-unfoldable pub orders_from : List ℕ → ℕ → List NamedOrder → Items → Outcome (List NamedOrder)
+unfoldable pub orders_from : List ℕ → ℕ → List NamedOrder → Items → Reading (List NamedOrder)
 orders_from at n done no_items = Ok done
 orders_from at n done (item d ds) = do
   ms ← object_at 103 (at ++ item_step n) d
@@ -37,7 +37,7 @@ item_count no_items = 0
 item_count (item d ds) = 1 + item_count ds
 
 -- an order, or a list of 1 to 4
-unfoldable pub orders_at : List ℕ → Data → Outcome (List NamedOrder)
+unfoldable pub orders_at : List ℕ → Data → Reading (List NamedOrder)
 orders_at at (object ms) = order_at at ms >>= λ o. Ok (o ∷ [])
 orders_at at (array ds) = if nat_le 1 (item_count ds) && nat_le (item_count ds) 4 then orders_from at 0 [] ds else refuse 104 at
 orders_at at _ = refuse 103 at
@@ -69,13 +69,13 @@ unfoldable pub child_named : List ℕ → List Agg → Option ℕ
 child_named name children = or_else (child_from [] 0 name children) (child_from (codes ".value") 0 name children)
 
 -- what an order compares: 113 where there is no such child
-unfoldable pub compared_by : List Agg → NamedOrder → Outcome OrderBy
+unfoldable pub compared_by : List Agg → NamedOrder → Reading OrderBy
 compared_by children o =
     if bytes_eq o.name (codes "_count") then Ok by.Count else (
     if bytes_eq o.name (codes "_key") then Ok by.Key else (
     or_refuse 113 o.at (child_named o.name children) >>= λ n. Ok (by.Child n)))
 
-unfoldable pub resolved : List Agg → List Order → List NamedOrder → Outcome (List Order)
+unfoldable pub resolved : List Agg → List Order → List NamedOrder → Reading (List Order)
 resolved children done [] = Ok done
 resolved children done (o ∷ os) = do
   what ← compared_by children o

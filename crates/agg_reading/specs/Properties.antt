@@ -12,7 +12,7 @@ use Rattle.agg_model.specs.declared.mapping.FieldKind.TheVariants.{Long, Integer
 use Rattle.agg_reading.specs.declared.names.FieldType.{FieldType}
 use Rattle.agg_reading.specs.declared.names.FieldType.TheVariants.{Leaf, Object, Nested}
 use Rattle.agg_reading.specs.declared.parts.Found.{Found}
-use Rattle.agg_reading.specs.Outcome.{Outcome, ◌>>=◌, ◌>>◌, refuse, or_refuse}
+use Rattle.agg_reading.specs.Reading.{Reading, ◌>>=◌, ◌>>◌, refuse, or_refuse}
 use Rattle.agg_reading.specs.Pointer.{member_step}
 use Rattle.agg_reading.specs.Json.{object_at, text_at, known, optional}
 
@@ -40,15 +40,15 @@ type_named s =
     if bytes_eq s (codes "object") then Some Object else (
     if bytes_eq s (codes "nested") then Some Nested else None)))))))
 
-unfoldable pub type_at : List ℕ → Data → Outcome FieldType
+unfoldable pub type_at : List ℕ → Data → Reading FieldType
 type_at at d = text_at 31 at d >>= λ s. or_refuse 31 at (type_named s)
 
 -- without `type` it is an object where it has `properties`, else the field is refused
-abbrev pub type_or : List ℕ → Option FieldType → Members → Outcome FieldType
+abbrev pub type_or : List ℕ → Option FieldType → Members → Reading FieldType
 type_or at (Some t) ms = Ok t
 type_or at None ms = if is_some (get_member (codes "properties") ms) then Ok Object else refuse 31 at
 
-unfoldable pub type_in : List ℕ → Members → Outcome FieldType
+unfoldable pub type_in : List ℕ → Members → Reading FieldType
 type_in at ms = optional type_at (codes "type") at ms >>= λ t. type_or at t ms
 
 -- at most 1,000 fields and nested paths
@@ -59,16 +59,16 @@ abbrev pub leaf_names : FieldKind → List (List ℕ)
 leaf_names Keyword = codes "doc_values" ∷ codes "eager_global_ordinals" ∷ codes "ignore_above" ∷ codes "index" ∷ codes "store" ∷ codes "type" ∷ []
 leaf_names _ = codes "doc_values" ∷ codes "index" ∷ codes "store" ∷ codes "type" ∷ []
 
-abbrev pub bound_in : List ℕ → Option ℕ → Outcome ℕ
+abbrev pub bound_in : List ℕ → Option ℕ → Reading ℕ
 bound_in at None = refuse 31 at
 bound_in at (Some n) = if nat_le n 2147483647 then Ok n else refuse 31 at
 
 -- a whole number from 0 to 2147483647
-unfoldable pub bound_at : List ℕ → Data → Outcome ℕ
+unfoldable pub bound_at : List ℕ → Data → Reading ℕ
 bound_at at d = or_refuse 31 at (as_number d) >>= λ n. bound_in at (as_u64 n)
 
 -- within : the innermost nested path around it; path : its own
-unfoldable pub leaf_at : FieldKind → List ℕ → List ℕ → List ℕ → Found → Members → Outcome Found
+unfoldable pub leaf_at : FieldKind → List ℕ → List ℕ → List ℕ → Found → Members → Reading Found
 leaf_at kind within path at found ms =
     if is_full found then refuse 31 at else (do
       known 31 (leaf_names kind) at ms
@@ -82,9 +82,9 @@ abbrev pub with_nested : List ℕ → List ℕ → Found → Found
 with_nested within path found = record { fields = found.fields; nested = place (λ p. p.path) (record { path = path; within = within }) found.nested; objects = found.objects }
 
 -- field : what a field adds, by the nested path around it, its path, where it stands, what was found before, and its value
-module _ (field : List ℕ → List ℕ → List ℕ → Found → Data → Outcome Found) where
+module _ (field : List ℕ → List ℕ → List ℕ → Found → Data → Reading Found) where
   -- front : the path of the object and a dot, or nothing at the root
-  unfoldable pub fields_from : List ℕ → List ℕ → List ℕ → Found → Members → Outcome Found
+  unfoldable pub fields_from : List ℕ → List ℕ → List ℕ → Found → Members → Reading Found
   fields_from within front at found no_members = Ok found
   fields_from within front at found (member k d ms) =
       if is_field_name k then (do
@@ -92,26 +92,26 @@ module _ (field : List ℕ → List ℕ → List ℕ → Found → Data → Outc
         fields_from within front at next ms)
       else refuse 31 (at ++ member_step k)
 
-  unfoldable pub properties_at : List ℕ → List ℕ → List ℕ → Found → Data → Outcome Found
+  unfoldable pub properties_at : List ℕ → List ℕ → List ℕ → Found → Data → Reading Found
   properties_at within front at found d = object_at 31 at d >>= fields_from within front at found
 
-  abbrev pub properties_of : List ℕ → List ℕ → List ℕ → Found → Option Data → Outcome Found
+  abbrev pub properties_of : List ℕ → List ℕ → List ℕ → Found → Option Data → Reading Found
   properties_of within front at found None = Ok found
   properties_of within front at found (Some d) = properties_at within front at found d
 
   -- the members of an object, which `properties` may be
-  unfoldable pub inner_at : List ℕ → List ℕ → List ℕ → Found → Members → Outcome Found
+  unfoldable pub inner_at : List ℕ → List ℕ → List ℕ → Found → Members → Reading Found
   inner_at within path at found ms = do
     known 31 (codes "properties" ∷ codes "type" ∷ []) at ms
     properties_of within (path ++ 46 ∷ []) (at ++ member_step (codes "properties")) found (get_member (codes "properties") ms)
 
-  abbrev pub by_type : FieldType → List ℕ → List ℕ → List ℕ → Found → Members → Outcome Found
+  abbrev pub by_type : FieldType → List ℕ → List ℕ → List ℕ → Found → Members → Reading Found
   by_type (Leaf kind) within path at found ms = leaf_at kind within path at found ms
   by_type Object within path at found ms = inner_at within path at (with_object path found) ms
   by_type Nested within path at found ms = if is_full found then refuse 31 at else inner_at path path at (with_nested within path found) ms
 
 -- left : how many levels of properties may still nest
-unfoldable pub property_at : ℕ → List ℕ → List ℕ → List ℕ → Found → Data → Outcome Found
+unfoldable pub property_at : ℕ → List ℕ → List ℕ → List ℕ → Found → Data → Reading Found
 property_at zero within path at found d = refuse 31 at
 property_at (suc left) within path at found d = do
   ms ← object_at 31 at d

@@ -11,7 +11,7 @@ use Rattle.agg_model.specs.declared.bulk.ItemEnd.TheVariants as end
 use Rattle.agg_model.specs.declared.bulk.ItemRefusal.{ItemRefusal}
 use Rattle.agg_reading.specs.declared.fault.RequestFault.{RequestFault}
 use Rattle.agg_reading.specs.declared.fault.RequestFault.TheVariants.{Bad}
-use Rattle.agg_reading.specs.Outcome.{Outcome, ◌>>=◌, ◌>>◌, or_refuse}
+use Rattle.agg_reading.specs.Reading.{Reading, ◌>>=◌, ◌>>◌, or_refuse}
 use Rattle.agg_reading.specs.Json.{reading, object_at}
 use Rattle.agg_reading.specs.declared.parts.IndexLine.{IndexLine}
 use Rattle.agg_reading.specs.IndexLine.{index_line_at}
@@ -24,7 +24,7 @@ abbrev pub refusal_at : ℕ → RequestFault → ScriptRefusal
 refusal_at line (Bad code path) = record { number = code; line = line; path = path }
 refusal_at line _ = record { number = 0; line = line; path = [] }
 
-abbrev pub at_line : {A : Type 0} → ℕ → Outcome A → Script A
+abbrev pub at_line : {A : Type 0} → ℕ → Reading A → Script A
 at_line line (Ok x) = Ok x
 at_line line (Err e) = Err (refusal_at line e)
 
@@ -50,7 +50,7 @@ with_item action ended store now = record {
 }
 
 -- a refused item leaves the store as it was
-abbrev pub after : Action → Outcome (Applied × Store) → Loading → Loading
+abbrev pub after : Action → Reading (Applied × Store) → Loading → Loading
 after action (Ok done) now = with_item action (end.Applied done.0) done.1 now
 after action (Err e) now = with_item action (end.Refused (item_refusal e)) now.store now
 
