@@ -10,6 +10,7 @@ use crate::draft::RowDraft;
 use crate::fault::ItemFault;
 use crate::refusal::refuse;
 use crate::walk::{Walked, members};
+use agg_model::item_refusal::SOURCE_NOT_OBJECT;
 use agg_model::{Mapping, Row};
 use json_walk::reading;
 use serde_json::{Map, Value};
@@ -33,7 +34,7 @@ fn row_of_members(
     Ok(ended.row.finish(alloc)?)
 }
 
-/// The root row that a value gives: 20 where it is no object.
+/// The root row that a value gives: `SOURCE_NOT_OBJECT` where it is none.
 #[tactic(auto, unfolding(agg_reading::specs::Document::document_value_at, agg_reading::specs::Json::object_at))]
 fn row_of(alloc: Global, mapping: &Mapping, value: &Value) -> Result<Row, ItemFault>
     requires { IsOrdered mapping.now }
@@ -41,7 +42,7 @@ fn row_of(alloc: Global, mapping: &Mapping, value: &Value) -> Result<Row, ItemFa
 {
     match value {
         Value::Object(found) => row_of_members(alloc, mapping, found),
-        _ => refuse(alloc, 20, ""),
+        _ => refuse(alloc, SOURCE_NOT_OBJECT, ""),
     }
 }
 
@@ -49,9 +50,9 @@ fn row_of(alloc: Global, mapping: &Mapping, value: &Value) -> Result<Row, ItemFa
 /// are walked in byte order of their names; null and, unless the mapping is strict, an unmapped member stand for nothing,
 /// and a list for its elements.
 ///
-/// The first refusal of the walk has the path of the member, its names joined by dots: 21 a value of the wrong type, 22 a
-/// number out of its type's range, 23 a keyword above 32,766 bytes, 24 the 10,001st nested object, 25 the 1,025th value of
-/// a field in a row, 27 an unmapped member where the mapping is strict. 20, with no path, is a source that is no JSON
+/// The first refusal of the walk has the path of the member, its names joined by dots: `WRONG_FIELD_TYPE`,
+/// `NUMBER_OUT_OF_RANGE`, `KEYWORD_TOO_LONG`, `TOO_MANY_NESTED_OBJECTS`, `TOO_MANY_FIELD_VALUES` in a row, and
+/// `STRICT_MAPPING` for an unmapped member. `SOURCE_NOT_OBJECT`, with no path, is a source that is no JSON
 /// object (RFC 8259) or nests deeper than 127. Want of memory may come in the place of any answer.
 ///
 /// It takes time in proportion to the bytes of the source, and for each member the comparison of its path, with the names
@@ -63,6 +64,6 @@ pub fn root_row_of(alloc: Global, mapping: &Mapping, source: &[u8]) -> Result<Ro
 {
     match reading(alloc, source)? {
         Some(value) => row_of(alloc, mapping, &value),
-        None => refuse(alloc, 20, ""),
+        None => refuse(alloc, SOURCE_NOT_OBJECT, ""),
     }
 }

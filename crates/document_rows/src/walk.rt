@@ -18,16 +18,14 @@ use crate::fault::ItemFault;
 use crate::field_value::scalar;
 use crate::refusal::refuse;
 use crate::roles::role_of;
+use agg_model::item_refusal::{
+    STRICT_MAPPING, TOO_MANY_FIELD_VALUES, TOO_MANY_NESTED_OBJECTS, WRONG_FIELD_TYPE,
+};
+use agg_model::limits::{MAX_FIELD_VALUES, MAX_NESTED_OBJECTS};
 use agg_model::{Mapping, Scalar};
 use agg_reading::Role;
 use serde_json::{Map, Value};
 use std::alloc::{AllocError, Global};
-
-/// A row has at most so many values of a field.
-const MAX_VALUES: usize = 1_024;
-
-/// A document has at most so many nested objects.
-const MAX_NESTED: u32 = 10_000;
 
 /// Where the walk stands.
 #[derive(Drop)]
@@ -41,7 +39,7 @@ pub(crate) struct Walked {
 }
 
 /// One more value of a field, unless `ignore_above` left it out; the value past the last that a row may have is
-/// refused with 25.
+/// refused with `TOO_MANY_FIELD_VALUES`.
 #[tactic(auto, unfolding(agg_reading::specs::Document::with_scalar))]
 fn with_scalar(
     alloc: Global,
@@ -55,8 +53,8 @@ fn with_scalar(
     let Some(value) = value else {
         return Ok(walked);
     };
-    if walked.row.count(field) >= MAX_VALUES {
-        return refuse(alloc, 25, walked.path.as_str());
+    if walked.row.count(field) >= MAX_FIELD_VALUES {
+        return refuse(alloc, TOO_MANY_FIELD_VALUES, walked.path.as_str());
     }
     let Walked { row, met, path } = walked;
     Ok(Walked {
@@ -66,7 +64,7 @@ fn with_scalar(
     })
 }
 
-/// A value that is neither null nor a list nor an object: 21 where the path is no field.
+/// A value that is neither null nor a list nor an object: `WRONG_FIELD_TYPE` where the path is no field.
 #[tactic(auto, unfolding(agg_reading::specs::Document::leaf_at))]
 fn leaf(alloc: Global, role: Role, walked: Walked, value: &Value) -> Result<Walked, ItemFault>
     ensures value { Gives state_of result (leaf_at role (string_bytes walked.path) (state_of walked) (view value.now)) }
@@ -81,7 +79,7 @@ fn leaf(alloc: Global, role: Role, walked: Walked, value: &Value) -> Result<Walk
             let found = scalar(alloc, kind, ignore_above, walked.path.as_str(), value)?;
             with_scalar(alloc, field, walked, found)
         }
-        Role::Plain | Role::Nested(_) => refuse(alloc, 21, walked.path.as_str()),
+        Role::Plain | Role::Nested(_) => refuse(alloc, WRONG_FIELD_TYPE, walked.path.as_str()),
         Role::Unmapped => Ok(walked),
     }
 }
@@ -171,7 +169,7 @@ fn items(
     Ok(walked)
 }
 
-/// An object by the role of its path: 21 where the path is a field.
+/// An object by the role of its path: `WRONG_FIELD_TYPE` where the path is a field.
 #[cycle(walk)]
 fn object(
     alloc: Global,
@@ -187,7 +185,7 @@ fn object(
     ensures path { IfOk result (λ w. string_bytes w.path ≡ string_bytes walked.path) }
 {
     match role {
-        Role::Leaf { .. } => refuse(alloc, 21, walked.path.as_str()),
+        Role::Leaf { .. } => refuse(alloc, WRONG_FIELD_TYPE, walked.path.as_str()),
         Role::Plain => inner(alloc, &*mapping, context, walked, members),
         Role::Nested(place) => nested(alloc, &*mapping, place, walked, members),
         Role::Unmapped => Ok(walked),
@@ -212,7 +210,8 @@ fn inner(
     Ok(back(walked, end))
 }
 
-/// An object that is a row of its own beneath the row that is walked: 24 where the document has too many.
+/// An object that is a row of its own beneath the row that is walked: `TOO_MANY_NESTED_OBJECTS` where the document has
+/// too many.
 #[cycle(walk)]
 fn nested(
     alloc: Global,
@@ -226,8 +225,8 @@ fn nested(
     ensures value { Gives state_of result (nested_at mapping.now place (string_bytes walked.path) (state_of walked) (members_view members.now.entries)) }
     ensures path { IfOk result (λ w. string_bytes w.path ≡ string_bytes walked.path) }
 {
-    if walked.met >= MAX_NESTED {
-        return refuse(alloc, 24, walked.path.as_str());
+    if walked.met >= MAX_NESTED_OBJECTS {
+        return refuse(alloc, TOO_MANY_NESTED_OBJECTS, walked.path.as_str());
     }
     let Walked { row, met, path } = walked;
     let begun = Walked {
@@ -239,7 +238,7 @@ fn nested(
     around(alloc, place, row, ended)
 }
 
-/// A member by its path: an unmapped one is passed over, or refused with 27 where the mapping is strict.
+/// A member by its path: an unmapped one is passed over, or refused with `STRICT_MAPPING` where the mapping is strict.
 #[cycle(walk)]
 fn member(
     alloc: Global,
@@ -255,7 +254,7 @@ fn member(
     match role_of(&*mapping, context, walked.path.as_bytes()) {
         Role::Unmapped => {
             if mapping.strict {
-                return refuse(alloc, 27, walked.path.as_str());
+                return refuse(alloc, STRICT_MAPPING, walked.path.as_str());
             }
             Ok(walked)
         }
