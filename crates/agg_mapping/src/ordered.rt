@@ -1,6 +1,6 @@
 //! A mapping that is lent with the order of its paths, and what is looked up in it.
 
-ghost use Rattle.std.specs.Prelude.{◌≡◌, ◌<◌, IfSome, length, option_map};
+ghost use Rattle.std.specs.Prelude.{◌≡◌, ◌+◌, ◌<◌, IfSome, length, option_map};
 ghost use Rattle.agg_model.specs.declared.mapping.Mapping.{Mapping};
 ghost use Rattle.agg_reading.specs.Fields.{encloses, field_from, is_in_context, nested_from};
 ghost use Rattle.agg_reading.specs.Json.{is_among};
@@ -73,6 +73,16 @@ impl<'m> OrderedMapping<'m> {
     {
         let (place, _) = self.find_nested(path)?;
         Some(place)
+    }
+
+    /// The context of the rows at the nested path of this place.
+    pub fn context_of(&self, place: u32) -> u32
+        requires { place < length self.now.nested }
+        ensures { result ≡ place + 1 }
+    {
+        // A mapping is opened for its bound on nested paths, by which the sum fits.
+        let _ = &self.mapping;
+        place + 1
     }
 
     /// Whether this is the path of a plain object.

@@ -7,7 +7,6 @@ ghost use Rattle.serde_json.specs.Data.{object};
 ghost use Rattle.serde_json.specs.View.{view, items_view, members_view};
 ghost use Rattle.agg_model.specs.declared.mapping.Field.{Field};
 ghost use Rattle.agg_reading.specs.Document.{with_scalar, leaf_at, around, value_at, items_at, members_at, member_at};
-ghost use Rattle.agg_mapping.specs.Paths.{IsOrdered};
 ghost use Rattle.document_rows.specs.Faults.{Gives};
 ghost use Rattle.document_rows.specs.Roles.{IsRoleIn};
 ghost use Rattle.document_rows.specs.Drafts.{is_typed};
@@ -18,7 +17,8 @@ use crate::fault::ItemFault;
 use crate::field_value::scalar;
 use crate::refusal::refuse;
 use crate::roles::role_of;
-use agg_model::{Mapping, Scalar};
+use agg_mapping::OrderedMapping;
+use agg_model::Scalar;
 use agg_reading::Role;
 use serde_json::{Map, Value};
 use std::alloc::{AllocError, Global};
@@ -130,13 +130,12 @@ fn around(alloc: Global, place: u32, row: RowDraft, ended: Walked) -> Result<Wal
 #[cycle(walk)]
 fn value(
     alloc: Global,
-    mapping: &Mapping,
+    mapping: &OrderedMapping<'_>,
     role: Role,
     context: u32,
     walked: Walked,
     value: &Value,
 ) -> Result<Walked, ItemFault>
-    requires ordered { IsOrdered mapping.now }
     requires role { IsRoleIn mapping.now role }
     ensures value { Gives state_of result (value_at mapping.now role context (string_bytes walked.path) (state_of walked) (view value.now)) }
     ensures path { IfOk result (λ w. string_bytes w.path ≡ string_bytes walked.path) }
@@ -153,13 +152,12 @@ fn value(
 #[cycle(walk)]
 fn items(
     alloc: Global,
-    mapping: &Mapping,
+    mapping: &OrderedMapping<'_>,
     role: Role,
     context: u32,
     before: Walked,
     items: &Vec<Value>,
 ) -> Result<Walked, ItemFault>
-    requires ordered { IsOrdered mapping.now }
     requires role { IsRoleIn mapping.now role }
     ensures value { Gives state_of result (items_at mapping.now role context (string_bytes before.path) (state_of before) (items_view items.now.items)) }
     ensures path { IfOk result (λ w. string_bytes w.path ≡ string_bytes before.path) }
@@ -175,13 +173,12 @@ fn items(
 #[cycle(walk)]
 fn object(
     alloc: Global,
-    mapping: &Mapping,
+    mapping: &OrderedMapping<'_>,
     role: Role,
     context: u32,
     walked: Walked,
     members: &Map<String, Value>,
 ) -> Result<Walked, ItemFault>
-    requires ordered { IsOrdered mapping.now }
     requires role { IsRoleIn mapping.now role }
     ensures value { Gives state_of result (value_at mapping.now role context (string_bytes walked.path) (state_of walked) (object (members_view members.now.entries))) }
     ensures path { IfOk result (λ w. string_bytes w.path ≡ string_bytes walked.path) }
@@ -198,12 +195,11 @@ fn object(
 #[cycle(walk)]
 fn inner(
     alloc: Global,
-    mapping: &Mapping,
+    mapping: &OrderedMapping<'_>,
     context: u32,
     walked: Walked,
     found: &Map<String, Value>,
 ) -> Result<Walked, ItemFault>
-    requires { IsOrdered mapping.now }
     ensures value { Gives state_of result (members_at mapping.now context (string_bytes walked.path ++ 46 ∷ []) (state_of walked) (members_view found.now.entries)) }
     ensures path { IfOk result (λ w. string_bytes w.path ≡ string_bytes walked.path) }
 {
@@ -216,13 +212,12 @@ fn inner(
 #[cycle(walk)]
 fn nested(
     alloc: Global,
-    mapping: &Mapping,
+    mapping: &OrderedMapping<'_>,
     place: u32,
     walked: Walked,
     members: &Map<String, Value>,
 ) -> Result<Walked, ItemFault>
-    requires ordered { IsOrdered mapping.now }
-    requires place { place < length mapping.now.nested }
+    requires { place < length mapping.now.nested }
     ensures value { Gives state_of result (nested_at mapping.now place (string_bytes walked.path) (state_of walked) (members_view members.now.entries)) }
     ensures path { IfOk result (λ w. string_bytes w.path ≡ string_bytes walked.path) }
 {
@@ -235,7 +230,8 @@ fn nested(
         met: met + 1,
         path,
     };
-    let ended = inner(alloc, &*mapping, place + 1, begun, members)?;
+    let context = mapping.context_of(place);
+    let ended = inner(alloc, &*mapping, context, begun, members)?;
     around(alloc, place, row, ended)
 }
 
@@ -243,18 +239,17 @@ fn nested(
 #[cycle(walk)]
 fn member(
     alloc: Global,
-    mapping: &Mapping,
+    mapping: &OrderedMapping<'_>,
     context: u32,
     walked: Walked,
     found: &Value,
 ) -> Result<Walked, ItemFault>
-    requires { IsOrdered mapping.now }
     ensures value { Gives state_of result (member_at mapping.now context (string_bytes walked.path) (state_of walked) (view found.now)) }
     ensures path { IfOk result (λ w. string_bytes w.path ≡ string_bytes walked.path) }
 {
     match role_of(&*mapping, context, walked.path.as_bytes()) {
         Role::Unmapped => {
-            if mapping.strict {
+            if mapping.is_strict() {
                 return refuse(alloc, 27, walked.path.as_str());
             }
             Ok(walked)
@@ -267,12 +262,11 @@ fn member(
 #[cycle(walk)]
 pub(crate) fn members(
     alloc: Global,
-    mapping: &Mapping,
+    mapping: &OrderedMapping<'_>,
     context: u32,
     before: Walked,
     members: &Map<String, Value>,
 ) -> Result<Walked, ItemFault>
-    requires { IsOrdered mapping.now }
     ensures value { Gives state_of result (members_at mapping.now context (string_bytes before.path) (state_of before) (members_view members.now.entries)) }
     ensures path { IfOk result (λ w. string_bytes w.path ≡ string_bytes before.path) }
 {
