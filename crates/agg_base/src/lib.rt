@@ -1,4 +1,5 @@
-//! The outside of `aggs`: where bytes come from and go to, and the lines of an input.
+//! The outside of `aggs`: where bytes come from and go to, and the lines of an input. A reader of lines keeps its first
+//! fault; sources and sinks in memory show every fault, those of std tell no bytes.
 #![tactic(auto)]
 
 mod adapters;

@@ -1,6 +1,7 @@
 -- What the walk of `properties` has collected, in the order of the walk, as it stands in byte order of the paths.
 use Rattle.std.specs.Prelude.{◌+◌, ◌≤◌, length}
 use Rattle.list_laws.specs.Sorting.{sorted}
+use Rattle.agg_model.specs.declared.limits.TheConstants.{MAX_PATHS}
 use Rattle.agg_reading.specs.declared.parts.Found.{Found}
 use Rattle.agg_reading.specs.Properties.{by_path}
 use Rattle.agg_mapping.specs.Paths.{AscendsBy}
@@ -19,4 +20,4 @@ pub record IsArranged (found : Found) : Type 0 where
   pub fields : AscendsBy (λ f. f.path) found.fields
   pub nested : AscendsBy (λ p. p.path) found.nested
   pub objects : AscendsBy (λ p. p) found.objects
-  pub few : length found.fields + length found.nested ≤ 1000
+  pub few : length found.fields + length found.nested ≤ MAX_PATHS

@@ -1,4 +1,5 @@
-//! The whole program over a source and a sink: the words, the script, and its answers line by line.
+//! The whole program over a source and a sink: the words, the script, and its answers line by line. `run` is the top
+//! call; it ends with a `Status`, which `main` gives to the process.
 #![tactic(auto)]
 
 mod answers;

@@ -3,7 +3,7 @@
 ghost use Rattle.std.specs.Prelude.{◌≡◌, ◌≤◌, ◌∷◌, [], IfOk, None, codes, length};
 ghost use Rattle.serde_json.specs.View.{view, members_view};
 ghost use Rattle.json_walk.specs.Places.{pointer};
-ghost use Rattle.agg_reading.specs.Outcome.{Gives, or_refuse};
+ghost use Rattle.agg_reading.specs.Reading.{Gives, or_refuse};
 ghost use Rattle.agg_reading.specs.Json.{sole_besides};
 ghost use Rattle.agg_reading.specs.Aggregations.{is_metric, is_top_kind, has_both, kind_member, children_name};
 ghost use Rattle.agg_reading.specs.Request.{is_childless, placed, assembled};

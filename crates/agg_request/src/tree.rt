@@ -3,7 +3,7 @@
 ghost use Rattle.std.specs.Prelude.{◌≡◌, ◌≤◌, ◌<◌, ◌+◌, [], IfOk, true, false, length};
 ghost use Rattle.serde_json.specs.View.{view, members_view};
 ghost use Rattle.json_walk.specs.Places.{pointer};
-ghost use Rattle.agg_reading.specs.Outcome.{Gives};
+ghost use Rattle.agg_reading.specs.Reading.{Gives};
 ghost use Rattle.agg_reading.specs.Request.{aggregations_from, aggregations_at, children_in, aggregation_of, aggregation_at, no_counts};
 ghost use Rattle.agg_mapping.specs.Paths.{IsOrdered};
 

@@ -1,4 +1,5 @@
-//! Which rows of a shard a query matches (Elasticsearch Reference 8, 'Query DSL').
+//! Which rows of a shard a query matches (Elasticsearch Reference 8, 'Query DSL'): one row by the query as it stands, or
+//! every root by a query that was prepared once for the shard.
 #![tactic(auto)]
 
 mod bounds;

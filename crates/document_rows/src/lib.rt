@@ -1,4 +1,5 @@
-//! The walk of one document's JSON source into its root row, and the value that it gives each field.
+//! The walk of one document's JSON source into its root row, the value that it gives each field, and the first refusal
+//! with its number and path.
 #![tactic(auto)]
 
 mod document;

@@ -1,6 +1,6 @@
 //! The refusal of a document at the path of one of its members.
 
-ghost use Rattle.agg_reading.specs.Outcome.{refuse};
+ghost use Rattle.agg_reading.specs.Reading.{refuse};
 ghost use Rattle.document_rows.specs.Faults.{Gives};
 
 use crate::fault::ItemFault;

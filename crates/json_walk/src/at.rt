@@ -37,7 +37,7 @@ fn push_name(out: &mut String, name: &str) -> Result<(), AllocError>
 impl At<'_> {
     ghost use Rattle.json_walk.specs.Places.{pointer};
     ghost use Rattle.agg_reading.specs.Pointer.{escaped};
-    ghost use Rattle.agg_reading.specs.Outcome.{Gives, refuse};
+    ghost use Rattle.agg_reading.specs.Reading.{Gives, refuse};
 
     /// Writes the pointer.
     fn write(&self, out: &mut String) -> Result<(), AllocError>

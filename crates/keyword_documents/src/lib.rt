@@ -1,4 +1,5 @@
-//! Documents and the store that keeps them, in the form that is built so far: each document has one keyword `t`.
+//! Documents and the store that keeps them, in the form that is built so far: each document has one keyword `t`. The crate
+//! goes once scripts are loaded whole.
 #![tactic(auto)]
 
 mod document;

@@ -4,7 +4,7 @@ use Rattle.serde_json.specs.Data.{array, object}
 use Rattle.serde_json.specs.View.{items_view, members_view}
 use Rattle.serde_json.specs.declared.value.Value.{Value}
 use Rattle.agg_model.specs.declared.mapping.Mapping.{Mapping}
-use Rattle.agg_reading.specs.Outcome.{◌>>=◌, refuse}
+use Rattle.agg_reading.specs.Reading.{◌>>=◌, refuse}
 use Rattle.agg_reading.specs.Orders.{item_count}
 use Rattle.agg_reading.specs.Filters.{listed_from, named_from, filter_list_at}
 use Rattle.agg_reading.specs.Composite.{some_sources, sources_from}

@@ -4,7 +4,7 @@ ghost use Rattle.std.specs.Prelude.{◌≡◌, ◌≤◌, [], IfOk, IfSome, code
 ghost use Rattle.serde_json.specs.Data.{array, object};
 ghost use Rattle.serde_json.specs.View.{view, items_view, members_view};
 ghost use Rattle.json_walk.specs.Places.{pointer};
-ghost use Rattle.agg_reading.specs.Outcome.{Gives};
+ghost use Rattle.agg_reading.specs.Reading.{Gives};
 ghost use Rattle.agg_reading.specs.Json.{optional, is_among};
 ghost use Rattle.agg_reading.specs.Filters.{listed_from, named_from, filter_list_at, is_taken, free_key, other_of, filters_in, filters_at};
 ghost use Rattle.agg_mapping.specs.Paths.{IsOrdered};

@@ -3,7 +3,7 @@
 ghost use Rattle.std.specs.Prelude.{◌≡◌, codes};
 ghost use Rattle.serde_json.specs.View.{view, members_view};
 ghost use Rattle.json_walk.specs.Places.{pointer};
-ghost use Rattle.agg_reading.specs.Outcome.{Gives};
+ghost use Rattle.agg_reading.specs.Reading.{Gives};
 ghost use Rattle.agg_reading.specs.Json.{optional};
 ghost use Rattle.agg_reading.specs.Histogram.{is_at_most, ordered_bounds, bounds_at, unbounded, lies_within, histogram_ranges_in, histogram_counts_in, histogram_rules, histogram_in, histogram_at};
 ghost use Rattle.agg_mapping.specs.Paths.{IsOrdered};

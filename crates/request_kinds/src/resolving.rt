@@ -2,7 +2,7 @@
 
 ghost use Rattle.std.specs.Prelude.{◌≡◌, ◌≤◌, ◌++◌, [], codes, length};
 ghost use Rattle.std.specs.Str.{bytes_eq};
-ghost use Rattle.agg_reading.specs.Outcome.{Gives};
+ghost use Rattle.agg_reading.specs.Reading.{Gives};
 ghost use Rattle.agg_reading.specs.Orders.{is_sortable, child_from, child_named, compared_by, resolved, with_order};
 
 use agg_model::{Agg, Kind, List, Order, OrderBy};

@@ -3,7 +3,7 @@
 ghost use Rattle.std.specs.Prelude.{◌≡◌, [], Some};
 ghost use Rattle.serde_json.specs.View.{view, items_view, members_view};
 ghost use Rattle.json_walk.specs.Places.{pointer};
-ghost use Rattle.agg_reading.specs.Outcome.{Gives};
+ghost use Rattle.agg_reading.specs.Reading.{Gives};
 ghost use Rattle.agg_reading.specs.Composite.{source_named, terms_source_at, histogram_source_at, source_by, source_at, source_name_at, sole_of, named_source_at, sources_from, some_sources, sources_at};
 ghost use Rattle.agg_mapping.specs.Paths.{IsOrdered};
 

@@ -1,4 +1,5 @@
-//! Documents of one shard as columns: rows numbered in document order, values by row, words as ordinals.
+//! Documents of one shard as columns: rows numbered in document order, values by row, words as places in dictionaries.
+//! A `Shard` never changes once it is built, and lends its values.
 #![tactic(auto)]
 
 mod contexts;

@@ -1,7 +1,7 @@
 use Rattle.std.proofs.Common.{◌≡◌, ◌<◌, length, rules, tests, refl}
 use Rattle.std.proofs.lemmas.Result.{err_from_is_err_and}
 use Rattle.json_walk.specs.Places.{pointer}
-use Rattle.agg_mapping.proofs.Steps.{fails_bind}
+use Rattle.agg_reading.proofs.Steps.{fails_bind}
 use Rattle.request_kinds.proofs.Lists.{no_listed, some_listed}
 use Rattle.request_kinds.proofs.filters.filter_items.Goals as goal
 

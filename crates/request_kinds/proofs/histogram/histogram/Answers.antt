@@ -1,6 +1,6 @@
 use Rattle.std.proofs.lemmas.Result.{err_from_is_err_and}
 use Rattle.agg_reading.specs.Histogram.{histogram_at}
-use Rattle.agg_mapping.proofs.Steps.{fails_bind}
+use Rattle.agg_reading.proofs.Steps.{fails_bind}
 use Rattle.request_kinds.proofs.histogram.histogram.Goals as goal
 
 pub returns-in_err-check_names : goal.returns-in_err-check_names
