@@ -25,7 +25,7 @@ use Rattle.final_reduce.specs.Planned.{has_composite_keys, returned_at}
 use Rattle.final_reduce.proofs.SelectLaws.{list_all-map, list_all-take, list_all-filter}
 use Rattle.bucket_order.proofs.SameOrder.{list_all-sorted}
 use Rattle.std.specs.List.{list_all}
-use Rattle.final_reduce.proofs.AggLaws.{fold_agg-level}
+use Rattle.agg_evaluation.proofs.AggFolds.{fold_agg-level}
 
 pub children_pass : (tests : List (Node → Bool)) (fixed : List Key) (shape : Shape) (n : Node-F Node Bucket) → is_tree_at tests fixed shape n ≡ true → have_children tests (parts_at n).buckets ≡ true
 children_pass tests fixed by_key (Node-F.Keyed buckets error full cut) h = (and_parts _ _ h).1

@@ -32,8 +32,8 @@ use Rattle.agg_evaluation.specs.Orders.{bucket_cmp, bucket_key, bucket_count, co
 use Rattle.agg_evaluation.specs.Shard.{fixed_keys}
 use Rattle.agg_evaluation.specs.Trees.{are_same_keys, is_ascending, is_tree_at, have_children, pass_each}
 use Rattle.agg_evaluation.specs.Whole.{Parts, parts, parts_at, whole_by, whole_bucket, children_at, shape_of, by_key, from_start, a_number, metric_sum}
-use Rattle.agg_evaluation.proofs.KeyLists.{true_is}
-use Rattle.agg_evaluation.proofs.ListLaws.{sum_by-map}
+use Rattle.list_laws.proofs.Booleans.{true_is}
+use Rattle.list_laws.proofs.Lists.{sum_by-map}
 use Rattle.agg_evaluation.proofs.NodeForms.{out-Keyed, out-Fixed, out-Number}
 use Rattle.agg_evaluation.proofs.TreeLaws.{same-self}
 use Rattle.agg_evaluation.proofs.UnionLaws.{keys-whole}
@@ -48,7 +48,7 @@ use Rattle.final_reduce.specs.Finishable.{is_finishable, is_finishable_at, is_hi
 use Rattle.final_reduce.specs.Steps.{key_numbers}
 use Rattle.final_reduce.specs.Planned.{returned_at, gap_count, gaps_of, planned_below, planned_at, planned_of_nothing, member_number, fixed_count}
 use Rattle.bucket_order.specs.Kinds.{child_kinds}
-use Rattle.final_reduce.proofs.AggLaws.{fold_agg-level}
+use Rattle.agg_evaluation.proofs.AggFolds.{fold_agg-level}
 use Rattle.final_reduce.proofs.Filled.{adds_up}
 use Rattle.final_reduce.proofs.SpanLaws.{spans, span-count, span-keys, span-starts, span-holds}
 use Rattle.final_reduce.proofs.PlannedLaws.{plan_at-is, all_frequent}

@@ -18,7 +18,7 @@ use Rattle.agg_model.specs.declared.mapping.FieldKind.{FieldKind}
 use Rattle.agg_model.specs.declared.mapping.FieldKind.TheVariants.{Keyword}
 use Rattle.shard_columns.specs.Dictionary.{words_of, as_values, value_count, dictionary_bytes}
 use Rattle.shard_columns.specs.Kinds.{is_of_kind}
-use Rattle.agg_evaluation.proofs.KeyLists.{and_left, and_right, true_is}
+use Rattle.list_laws.proofs.Booleans.{and_left, and_right, true_is}
 use Rattle.agg_model.specs.declared.row.Scalar.{Scalar}
 use Rattle.agg_model.specs.declared.row.FieldValues.{FieldValues}
 use Rattle.shard_columns.specs.Columns.{Columns}

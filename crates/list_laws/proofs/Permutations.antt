@@ -3,7 +3,7 @@ use Rattle.std.specs.Prelude.{◌≡◌, refl, ℕ, zero, suc, ◌<◌, List, []
 use Rattle.std.specs.List.{slice_set, slice_index_or, swap}
 use Rattle.std.proofs.Common.{sym, ◌∙◌, ap, arith}
 use Rattle.std.proofs.lemmas.List.Sorted.{IsPermutation-keeps}
-use Rattle.agg_evaluation.proofs.ListLaws.{joined, append-nil}
+use Rattle.list_laws.proofs.Lists.{joined, append-nil}
 
 module _ {A : Type 0} (w : List A → A) (unites : (xss : List (List A)) → w (map w xss) ≡ w (joined xss)) (swaps : (xs ys : List A) → w (xs ++ ys) ≡ w (ys ++ xs)) where
   two_parts : (xs ys : List A) → w (xs ++ ys) ≡ w (w xs ∷ w ys ∷ [])

@@ -1,12 +1,13 @@
 -- Sums over lists, and sums that are at most others.
-use Rattle.std.specs.Prelude.{◌≡◌, refl, ℕ, zero, suc, ◌+◌, ◌*◌, ◌≤◌, Bool, true, false, cond, ◌&&◌, ◌||◌, List, [], ◌∷◌, filter, sum_by, take, if◌then◌else◌}
+use Rattle.std.specs.Prelude.{◌≡◌, refl, ℕ, zero, suc, ◌+◌, ◌*◌, ◌≤◌, Bool, true, false, cond, ◌&&◌, ◌||◌, List, [], ◌∷◌, ◌++◌, filter, sum_by, take, if◌then◌else◌}
 use Rattle.std.specs.declared.cmp.Ordering.{Ordering}
 use Rattle.std.specs.Ordering.{is_le}
 use Rattle.std.proofs.Common.{sym, ◌∙◌, ap, arith}
-use Rattle.std.proofs.lemmas.List.Sums.{sum_by-cons}
+use Rattle.std.proofs.lemmas.List.Sums.{sum_by-cons, sum_by-append}
 use Rattle.list_laws.specs.Sorting.{insert_sorted, sorted}
 
 module _ {A : Type 0} (f : A → ℕ) where
+  -- what passes a test sums up to at most all
   pub sum_by-filter : (p : A → Bool) (xs : List A) → sum_by f (filter p xs) ≤ sum_by f xs
   sum_by-filter p [] = omega arith
   sum_by-filter p (x ∷ xs) =
@@ -17,6 +18,8 @@ module _ {A : Type 0} (f : A → ℕ) where
         | false ↦ omega arith
       ]
 
+  -- the first items sum up to at most all
+
   pub sum_by-take : (n : ℕ) (xs : List A) → sum_by f (take n xs) ≤ sum_by f xs
   sum_by-take zero xs = omega arith
   sum_by-take (suc n) [] = omega arith
@@ -26,6 +29,8 @@ module _ {A : Type 0} (f : A → ℕ) where
       let rest = sum_by-take n xs in
       omega arith
 
+  -- an insertion adds its item
+
   sum_by-insert : (cmp : A → A → Ordering) (x : A) (ys : List A) → sum_by f (insert_sorted cmp x ys) ≡ f x + sum_by f ys
   sum_by-insert cmp x [] = sum_by-cons f x []
   sum_by-insert cmp x (y ∷ ys) =
@@ -34,6 +39,8 @@ module _ {A : Type 0} (f : A → ℕ) where
         | true ↦ sum_by-cons f x (y ∷ ys)
         | false ↦ let made = sum_by-cons f y (insert_sorted cmp x ys) in let rest = sum_by-insert cmp x ys in omega arith
       ]
+
+  -- a sorted list has the sum of the list
 
   pub sum_by-sorted : (cmp : A → A → Ordering) (xs : List A) → sum_by f (sorted cmp xs) ≡ sum_by f xs
   sum_by-sorted cmp [] = refl
@@ -62,6 +69,8 @@ module _ {A : Type 0} (f : A → ℕ) where
         | false ↦ rest
       ]
 
+-- numbers that are at most others sum up to at most their sum
+
 pub sum_by-at_most : {A : Type 0} (f g : A → ℕ) (xs : List A) → ((x : A) → f x ≤ g x) → sum_by f xs ≤ sum_by g xs
 sum_by-at_most f g [] h = omega arith
 sum_by-at_most f g (x ∷ xs) h =
@@ -70,6 +79,8 @@ sum_by-at_most f g (x ∷ xs) h =
     let first = h x in
     let rest = sum_by-at_most f g xs h in
     omega arith
+
+-- a sum of sums
 
 pub sum_by-plus : {A : Type 0} (f g : A → ℕ) (xs : List A) → sum_by (λ x. f x + g x) xs ≡ sum_by f xs + sum_by g xs
 sum_by-plus f g [] = refl
@@ -80,9 +91,13 @@ sum_by-plus f g (x ∷ xs) =
     let rest = sum_by-plus f g xs in
     omega arith
 
+-- zeros sum up to zero
+
 pub sum_by-zero : {A : Type 0} (xs : List A) → sum_by (λ x. 0) xs ≡ 0
 sum_by-zero [] = refl
 sum_by-zero (x ∷ xs) = let here = sum_by-cons (λ x. 0) x xs in let rest = sum_by-zero xs in omega arith
+
+-- a sum of multiples
 
 pub sum_by-times : {A : Type 0} (n : ℕ) (f : A → ℕ) (xs : List A) → sum_by (λ x. n * f x) xs ≡ n * sum_by f xs
 sum_by-times n f [] = omega arith
@@ -110,3 +125,7 @@ sum_by-where f p (x ∷ xs) =
       | true ↦ let part = sum_by-cons f x (filter p xs) in omega arith
       | false ↦ omega arith
     ])
+
+-- a sum over two lists, in either order
+pub sum-swap : {A : Type 0} (f : A → ℕ) (xs ys : List A) → sum_by f (xs ++ ys) ≡ sum_by f (ys ++ xs)
+sum-swap f xs ys = sum_by-append f xs ys ∙ (let e : sum_by f xs + sum_by f ys ≡ sum_by f ys + sum_by f xs = omega arith in e) ∙ sym (sum_by-append f ys xs)
