@@ -19,7 +19,8 @@ use Rattle.agg_model.specs.declared.row.Scalar.{Scalar}
 use Rattle.agg_model.specs.declared.row.Scalar.TheVariants.{Whole, Word, Flag}
 use Rattle.agg_reading.specs.Rows.{scalar_cmp, beside, insert_value, finished_values}
 use Rattle.agg_mapping.proofs.Placing.{AtLeast, Ascends, ascends_from_sort, one_order}
-use Rattle.document_rows.specs.Scalars.{rank, scalar_order, same_word, is_of_kind, IsOneKind}
+use Rattle.document_rows.specs.Scalars.{rank, scalar_order, same_word, IsOneKind}
+use Rattle.agg_model.specs.FieldKinds.{is_of_kind}
 use denote.Param.Members.{Mut}
 use denote.Ref.{Bor}
 
