@@ -1,0 +1,10 @@
+pub mod AfterMove
+pub mod Fairness
+pub mod Guards
+pub mod Hands
+pub mod Items
+pub mod Labels
+pub mod Lists
+pub mod Moves
+pub mod Plans
+pub mod Slots
