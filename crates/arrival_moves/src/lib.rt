@@ -7,6 +7,7 @@
 
 mod item;
 mod label;
+pub mod laws;
 mod plan;
 mod view;
 

@@ -1,0 +1,14 @@
+pub mod Lists
+pub mod Sums
+pub mod Cases
+pub mod Claims
+pub mod Items
+pub mod Shapes
+pub mod Quiet
+pub mod Loads
+pub mod Words
+pub mod Places
+pub mod Results
+pub mod Reached
+pub mod Counts
+pub mod Runs
