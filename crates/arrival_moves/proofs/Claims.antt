@@ -92,7 +92,7 @@ module _ (p : Plan) where
   claims_move s (stopped i q) f = desk_keeps (ClaimsFit p) s i _ _ f (λ v e _. claims_same s _ i v _ f e refl refl refl refl refl (f.idle i v e))
   claims_move s (close i q b) f = desk_keeps (ClaimsFit p) s i _ _ f (λ v e m. by_label (ClaimsFit p) s _ _ f (λ l o. claims_same s _ i v _ f e refl refl refl refl refl (λ z. absurd (drawn v m z))))
     where
-      drawn : (v : View) → may_close v ≡ true → v.drawn ≡ 0 → ⊥
+      drawn : (v : View) → may_close p q b v ≡ true → v.drawn ≡ 0 → ⊥
       drawn v m z = let a = and_parts _ _ m in let b = and_parts _ _ a.0 in let c = and_parts _ _ b.0 in let d : 1 ≤ v.drawn = leb-true _ _ c.0 in absurd (omega arith)
 
   pub claims_opened : ClaimsFit p (opened p)

@@ -102,7 +102,7 @@ move p s (put_merged i q b l) = move_item s i (is_batch q b) (λ _ x. may_put_me
 move p s (split i k) = move_desk s i (λ v. nat_le k v.left) (λ v. record s { desks = slice_set s.desks i (after_split v k) ++ split_off k ∷ [] })
 move p s (join i j) = move_desk s i (λ v. not (i == j))
     (λ v. move_desk s j (λ w. is_empty w.hand) (λ w. record s { desks = slice_set (slice_set s.desks i (after_join v w)) j spent_view }))
-move p s (close i q b) = move_desk s i may_close
+move p s (close i q b) = move_desk s i (may_close p q b)
     (λ v. move_label s (λ l. record s { batches = slice_set s.batches (place_of p q b) emptied; desks = slice_set s.desks i (after_close v q b l) }) (get_elem? s.batches (place_of p q b)))
 move p s (stop i k) = move_item s i (is_loaded k) (λ _ _. true) (λ v x. record s { stops = slice_set s.stops (search_of p k) 1; desks = slice_set s.desks i (after_stop v k) })
 move p s (stopped i q) = move_desk s i (λ _. true) (λ v. record s { desks = slice_set s.desks i (after_stopped v q (slice_index s.stops q)) })
