@@ -18,6 +18,7 @@ use Rattle.arrival_moves.specs.declared.item.Item.{Item}
 use Rattle.arrival_moves.specs.declared.plan.Plan.{Plan}
 use Rattle.arrival_moves.specs.declared.view.View.{View}
 use Rattle.arrival_moves.proofs.Sums.{sum_by_set, each_set, each_snoc}
+use Rattle.arrival_moves.proofs.CloseGuards.{close_guard}
 use Rattle.arrival_moves.proofs.Cases.{desk_keeps, item_keeps, by_label, by_test, not_idle}
 
 module _ (p : Plan) where
@@ -93,7 +94,7 @@ module _ (p : Plan) where
   claims_move s (close i q b) f = desk_keeps (ClaimsFit p) s i _ _ f (λ v e m. by_label (ClaimsFit p) s _ _ f (λ l o. claims_same s _ i v _ f e refl refl refl refl refl (λ z. absurd (drawn v m z))))
     where
       drawn : (v : View) → may_close p q b v ≡ true → v.drawn ≡ 0 → ⊥
-      drawn v m z = let a = and_parts _ _ m in let b = and_parts _ _ a.0 in let c = and_parts _ _ b.0 in let d : 1 ≤ v.drawn = leb-true _ _ c.0 in absurd (omega arith)
+      drawn v m z = let d = (close_guard p q b v m).drawn in absurd (omega arith)
 
   pub claims_opened : ClaimsFit p (opened p)
   claims_opened = record {

@@ -1,6 +1,7 @@
 pub mod Lists
 pub mod Sums
 pub mod Cases
+pub mod CloseGuards
 pub mod Claims
 pub mod Items
 pub mod Shapes
