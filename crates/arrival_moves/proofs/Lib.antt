@@ -13,3 +13,7 @@ pub mod Results
 pub mod Reached
 pub mod Counts
 pub mod Runs
+pub mod NumberLists
+pub mod Each
+pub mod BatchRanges
+pub mod LabelsFit
