@@ -82,6 +82,8 @@ pub record LabelsFit (p : Plan) (s : ArrivalState) : Type 0 where
   pub hands : Each (HandFits p) s.desks
   pub results : SlotsFit (IsTicket p) (ResultFits p) p s.results
   pub batches : SlotsFit (IsBatch p) (MergedFits p) p s.batches
+  -- a slot that is no batch's is never full
+  pub real : SlotsFit (IsTicket p) (λ q b l. IsBatch p q b) p s.batches
 
 abbrev pub is_full : Slot → ℕ
 is_full (holds l) = 1
@@ -138,6 +140,10 @@ module _ (p : Plan) (good : IsPlan p) where
   pub batch_first : (q b : ℕ) → IsBatch p q b → b < tasks_of p q
   batch_first q b h = within_batch 0 p.batch b (tasks_of p q) good.batch h
 
+  -- the batch of a ticket
+  pub ticket_batch : (q t : ℕ) → IsTicket p q t → IsBatch p q (t / p.batch)
+  ticket_batch q t h = let m = div-add-mod' t p.batch in let dn : ℕ = (t / p.batch) * p.batch in let r : ℕ = t % p.batch in let m' : dn + r ≡ t = m in omega arith
+
   ticket_first : (q t : ℕ) → IsTicket p q t → t < tasks_of p q
   ticket_first q t h = h
 
@@ -151,6 +157,7 @@ module _ (p : Plan) (good : IsPlan p) where
       hands = h;
       results = subst (SlotsFit (IsTicket p) (ResultFits p) p) (sym results) f.results;
       batches = subst (SlotsFit (IsBatch p) (MergedFits p) p) (sym batches) f.batches;
+      real = subst (SlotsFit (IsTicket p) (λ q b l. IsBatch p q b) p) (sym batches) f.real;
     }
 
     module _ (i : ℕ) (v : View) (e : get_elem? s.desks i ≡ some v) where
@@ -208,13 +215,10 @@ module _ (p : Plan) (good : IsPlan p) where
           (λ y. let is : n ≡ batch_size p q b = eqb-true _ _ y in each_one (ItemFits p) _ (record {
             size = let a = numbers_length (b * p.batch) n in omega arith;
             search = λ k h. absurd (omega arith);
-            real = first q t range;
+            real = ticket_batch q t range;
             due = λ u. subst (λ m. times u (numbers_from (b * p.batch) m) ≤ one_if (eqb (u / p.batch) b && ltb u (tasks_of p q))) (sym is) (batch_within p good q b u);
           }))
           (λ _. each_none (ItemFits p))
-        where
-          first : (q t : ℕ) → t < tasks_of p q → (t / p.batch) * p.batch < tasks_of p q
-          first q t h = let m = div-add-mod' t p.batch in let dn : ℕ = (t / p.batch) * p.batch in let r : ℕ = t % p.batch in let m' : dn + r ≡ t = m in omega arith
 
   pub labels_move : (s : ArrivalState) (m : Move) → HasShape p s → WordsFit p s → ResultsFit p s → CountsFit p s → L s → L (move p s m)
   labels_move s (claim i) h ws r c f = desk_keeps L s i _ _ f (λ v e _. drawn s f i v e)
@@ -226,30 +230,35 @@ module _ (p : Plan) (good : IsPlan p) where
         hands = gives_one s f i v e (is_arrived q t) (Put (record { search = q; ticket = t })) tt;
         results = slots_filled p (IsTicket p) (ResultFits p) ticket_first s.results q t l range (put_fits s f i v e q t l x range g m at) f.results;
         batches = f.batches;
+        real = f.real;
       })
       (λ _. record {
         hands = gives_one s f i v e (is_arrived q t) (reached_item x) (reached_fits s f i v e x (fits_found s f i v e (is_arrived q t) x g));
         results = slots_bare p (IsTicket p) (ResultFits p) ticket_first s.results (place_of p q t) reached refl f.results;
         batches = f.batches;
+        real = f.real;
       }))
   labels_move s (count i q t) h ws r c f = item_keeps L s i _ _ _ f (λ v e x g _. desks_only s f _ refl refl (gives s f i v e (is_put q t) (batch_due p q (t / p.batch) (get_or s.counts (place_of p q (t / p.batch)) 0 + 1)) (due_fits s f i v e q t (get_or s.counts (place_of p q (t / p.batch)) 0 + 1) (counted p good s i q t v x h ws c e g).0)))
   labels_move s (take_result i q t) h ws r c f = item_keeps L s i _ _ _ f (λ v e x g m. by_label L s _ _ f (λ l o. record {
     hands = gives_one s f i v e (is_batch q (t / p.batch)) (taken_from x t l) (taken_fits s f i v e q t l x g m o);
     results = slots_bare p (IsTicket p) (ResultFits p) ticket_first s.results (place_of p q t) emptied refl f.results;
     batches = f.batches;
+    real = f.real;
   }))
   labels_move s (put_merged i q b l) h ws r c f = item_keeps L s i _ _ _ f (λ v e x g m. let z = batch_found s f i v e q b x g in let fits = z.4 in let m' = subst (λ y. may_put_merged l y ≡ true) z.1 m in by_test L (is_at_slot x) _ _
-      (λ at. let lab = merged_label l z.0 m' (sym (ap is_at_slot z.1) ∙ at) in let none = none_due l z.0 m' in record {
+      (λ at. let lab = merged_label l z.0 m' (sym (ap is_at_slot z.1) ∙ at) in let none = none_due l z.0 m' in let there : IsBatch p q b = subst (λ y. y * p.batch < tasks_of p q) z.3 (subst (λ y. z.0.batch * p.batch < tasks_of p y) z.2 fits.real) in record {
         hands = gives s f i v e (is_batch q b) [] (each_none (ItemFits p));
         results = f.results;
-        batches = slots_filled p (IsBatch p) (MergedFits p) batch_first s.batches q b l (subst (λ y. y * p.batch < tasks_of p q) z.3 (subst (λ y. z.0.batch * p.batch < tasks_of p y) z.2 fits.real))
+        batches = slots_filled p (IsBatch p) (MergedFits p) batch_first s.batches q b l there
             (let a = fits.size in let d : length l.tasks ≡ length z.0.taken.tasks = ap length lab.tasks in let k : length z.0.due ≡ 0 = ap length none in let y : batch_size p z.0.search z.0.batch ≡ batch_size p q b = (λ j. batch_size p (z.2 j) (z.3 j)) in
             (omega arith, λ k y. let w = fits.search k (subst (λ ys. 1 ≤ times k ys) lab.tasks y) in (w.0, w.1 ∙ z.2))) f.batches;
+        real = slots_filled p (IsTicket p) (λ r c m. IsBatch p r c) ticket_first s.batches q b l (batch_first q b there) there f.real;
       })
       (λ _. record {
         hands = gives_one s f i v e (is_batch q b) (reached_item x) (reached_fits s f i v e x (fits_found s f i v e (is_batch q b) x g));
         results = f.results;
         batches = slots_bare p (IsBatch p) (MergedFits p) batch_first s.batches (place_of p q b) reached refl f.batches;
+        real = slots_bare p (IsTicket p) (λ r c l. IsBatch p r c) ticket_first s.batches (place_of p q b) reached refl f.real;
       }))
   labels_move s (split i k) h ws r c f = desk_keeps L s i _ _ f (λ v e _. desks_only s f _ refl refl (each_snoc (HandFits p) (set s.desks i (after_split v k)) (split_off k) (each_set (HandFits p) s.desks i (after_split v k) f.hands (f.hands i v e)) (each_none (ItemFits p))))
   labels_move s (join i j) h ws r c f = desk_keeps L s i _ _ f (λ v e m. desk_keeps L s j _ _ f (λ w d y. desks_only s f _ refl refl (each_set (HandFits p) (set s.desks i (after_join v w)) j spent_view (each_set (HandFits p) s.desks i (after_join v w) f.hands (f.hands i v e)) (each_none (ItemFits p)))))
@@ -257,6 +266,7 @@ module _ (p : Plan) (good : IsPlan p) where
     hands = each_set (HandFits p) s.desks i (after_close v q b l) f.hands (each_append (ItemFits p) v.hand _ (f.hands i v e) (each_one (ItemFits p) (Closed (record { search = q; batch = b; taken = l })) (record { size = lab.0; search = lab.1; real = real })));
     results = f.results;
     batches = slots_bare p (IsBatch p) (MergedFits p) batch_first s.batches (place_of p q b) emptied refl f.batches;
+    real = slots_bare p (IsTicket p) (λ r c l. IsBatch p r c) ticket_first s.batches (place_of p q b) emptied refl f.real;
   }))
   labels_move s (stop i k) h ws r c f = item_keeps L s i _ _ _ f (λ v e x g _. let z = as_loaded k x (found_is (is_loaded k) v.hand x g) in let fits : ItemFits p (Loaded z.0) = subst (ItemFits p) z.1 (fits_found s f i v e (is_loaded k) x g) in
       desks_only s f _ refl refl (gives_one s f i v e (is_loaded k) (Loaded (record { task = k; failed = true })) (subst (λ y. y < task_count p) z.2 fits)))
@@ -272,4 +282,5 @@ module _ (p : Plan) (good : IsPlan p) where
     hands = each_one (HandFits p) first_view (each_none (ItemFits p));
     results = λ q t l _ e. absurd (none_full (task_count p) l _ e);
     batches = λ q t l _ e. absurd (none_full (task_count p) l _ e);
+    real = λ q t l _ e. absurd (none_full (task_count p) l _ e);
   }

@@ -17,3 +17,5 @@ pub mod NumberLists
 pub mod Each
 pub mod BatchRanges
 pub mod LabelsFit
+pub mod Unbatched
+pub mod Batches

@@ -101,3 +101,13 @@ batch_at q b x = one_if (is_batch q b x)
 abbrev pub due_at : ℕ → ℕ → Item → ℕ
 due_at q t (Batch x) = if x.search == q then times t x.due else 0
 due_at q t _ = 0
+
+-- 1 where the desk is at the slot of the batch b of q to put the merged result
+abbrev pub merging_at : ℕ → ℕ → Item → ℕ
+merging_at q b (Batch x) = one_if ((x.search == q) && (x.batch == b) && x.at_slot)
+merging_at q b _ = 0
+
+-- 1 where the item is the merged result of the batch b of q, taken out
+abbrev pub closed_at : ℕ → ℕ → Item → ℕ
+closed_at q b (Closed x) = one_if ((x.search == q) && (x.batch == b))
+closed_at q b _ = 0
