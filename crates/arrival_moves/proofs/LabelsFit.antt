@@ -43,6 +43,8 @@ pub record HeldFits (p : Plan) (z : HeldBatch) : Type 0 where
   pub search : IsOfSearch p z.search z.taken
   pub real : z.batch * p.batch < tasks_of p z.search
   pub due : (u : ℕ) → times u z.due ≤ one_if (eqb (u / p.batch) z.batch && ltb u (tasks_of p z.search))
+  -- no task, no skipped one
+  pub told : z.taken.skipped ≡ true → 1 ≤ length z.taken.tasks
 
 -- of a merged result that was taken out
 pub record ClosedFits (p : Plan) (z : ClosedBatch) : Type 0 where
@@ -182,7 +184,7 @@ module _ (p : Plan) (good : IsPlan p) where
       reached_fits (Loaded z) h = h
       reached_fits (Arrived z) h = h
       reached_fits (Put z) h = h
-      reached_fits (Batch z) h = record { size = h.size; search = h.search; real = h.real; due = h.due }
+      reached_fits (Batch z) h = record { size = h.size; search = h.search; real = h.real; due = h.due; told = h.told }
       reached_fits (Closed z) h = h
 
       drawn : L (record s { claimed = s.claimed + 1; desks = set s.desks i (after_claim p v s.claimed) })
@@ -203,6 +205,7 @@ module _ (p : Plan) (good : IsPlan p) where
             search = λ k y. let a = times_append k h.taken.tasks l.tasks in dec_sum (times k h.taken.tasks) (times k l.tasks) (omega arith) (fits.search k) (λ w. let r = lab.1 k w in (r.0, r.1 ∙ sym z.2));
             real = fits.real;
             due = λ u. let a = times_without u t h.due has in let b = fits.due u in omega arith;
+            told = λ _. let c : length (h.taken.tasks ++ l.tasks) ≡ length h.taken.tasks + length l.tasks = length-append h.taken.tasks l.tasks in let d = lab.0 in omega arith;
           })
         where
           dec_sum : {A : Type 0} (a b : ℕ) → 1 ≤ a + b → (1 ≤ a → A) → (1 ≤ b → A) → A
@@ -217,6 +220,7 @@ module _ (p : Plan) (good : IsPlan p) where
             search = λ k h. absurd (omega arith);
             real = ticket_batch q t range;
             due = λ u. subst (λ m. times u (numbers_from (b * p.batch) m) ≤ one_if (eqb (u / p.batch) b && ltb u (tasks_of p q))) (sym is) (batch_within p good q b u);
+            told = λ y. absurd (false≢true y);
           }))
           (λ _. each_none (ItemFits p))
 

@@ -19,3 +19,6 @@ pub mod BatchRanges
 pub mod LabelsFit
 pub mod Unbatched
 pub mod Batches
+pub mod Everywhere
+pub mod TasksOnce
+pub mod Stops

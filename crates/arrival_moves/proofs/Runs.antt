@@ -9,6 +9,8 @@ use Rattle.arrival_moves.specs.Plans.{IsPlan}
 use Rattle.arrival_moves.specs.declared.item.Item.{Item}
 use Rattle.arrival_moves.specs.declared.plan.Plan.{Plan}
 use Rattle.arrival_moves.specs.declared.view.View.{View}
+use Rattle.arrival_moves.proofs.Stops.{NotesKept, StopsKept, noted_move, noted_opened, stops_move, stops_opened}
+use Rattle.arrival_moves.proofs.TasksOnce.{TasksKept, SlotsFilled, tasks_move, tasks_opened, filled_move, filled_opened}
 use Rattle.arrival_moves.proofs.Batches.{BatchesKept, batches_move, batches_opened}
 use Rattle.arrival_moves.proofs.LabelsFit.{LabelsFit, labels_move, labels_opened}
 use Rattle.arrival_moves.proofs.Shapes.{HasShape, shape_move, shape_opened}
@@ -29,17 +31,21 @@ pub record IsKept (p : Plan) (s : ArrivalState) : Type 0 where
   pub counts : CountsFit p s
   pub labels : LabelsFit p s
   pub batches : BatchesKept p s
+  pub tasks : TasksKept p s
+  pub filled : SlotsFilled s
+  pub notes : NotesKept s
+  pub stops : StopsKept p s
 
 module _ (p : Plan) (good : IsPlan p) where
   pub kept_move : (s : ArrivalState) (m : Move) → IsKept p s → IsKept p (move p s m)
-  kept_move s m f = record { shape = shape_move p s m f.shape; claims = claims_move p s m f.claims; loads = loads_move p s m f.loads; words = words_move p good s m f.shape f.words; results = results_move p good s m f.shape f.words f.results; reached = reached_move p good s m f.shape f.words f.results f.reached; counts = counts_move p good s m f.shape f.words f.counts; labels = labels_move p good s m f.shape f.words f.results f.counts f.labels; batches = batches_move p good s m f.shape f.words f.results f.counts f.labels f.batches }
+  kept_move s m f = record { shape = shape_move p s m f.shape; claims = claims_move p s m f.claims; loads = loads_move p s m f.loads; words = words_move p good s m f.shape f.words; results = results_move p good s m f.shape f.words f.results; reached = reached_move p good s m f.shape f.words f.results f.reached; counts = counts_move p good s m f.shape f.words f.counts; labels = labels_move p good s m f.shape f.words f.results f.counts f.labels; batches = batches_move p good s m f.shape f.words f.results f.counts f.labels f.batches; tasks = tasks_move p good s m f.shape f.words f.results f.labels f.batches f.tasks; filled = filled_move p good s m f.labels f.filled; notes = noted_move p s m f.notes; stops = stops_move p good s m f.shape f.words f.results f.labels f.batches f.notes f.stops }
 
   from : (ms : List Move) (s : ArrivalState) → IsKept p s → IsKept p (fold (move p) s ms)
   from [] s f = f
   from (m ∷ ms) s f = from ms (move p s m) (kept_move s m f)
 
   pub kept_run : (ms : List Move) → IsKept p (run p ms)
-  kept_run ms = from ms (opened p) (record { shape = shape_opened p; claims = claims_opened p; loads = loads_opened p; words = words_opened p good; results = results_opened p good; reached = reached_opened p good; counts = counts_opened p good; labels = labels_opened p good; batches = batches_opened p good })
+  kept_run ms = from ms (opened p) (record { shape = shape_opened p; claims = claims_opened p; loads = loads_opened p; words = words_opened p good; results = results_opened p good; reached = reached_opened p good; counts = counts_opened p good; labels = labels_opened p good; batches = batches_opened p good; tasks = tasks_opened p good; filled = filled_opened p good; notes = noted_opened p; stops = stops_opened p good })
 
 pub move_desk_is : (s : ArrivalState) (i : ℕ) (may : View → Bool) (act : View → ArrivalState) (v : View) → get_elem? s.desks i ≡ some v → may v ≡ true → move_desk s i may act ≡ act v
 unfolding move_desk
