@@ -74,7 +74,8 @@ set_cases p xs q t r n y x l m e same other = ⊎_elim
     (λ (u : (place_of p r n ≢ place_of p q t) × (get_elem? xs (place_of p r n) ≡ some x)). other (both_none q t r n (λ z. u.0 (λ j. place_of p (sym z.0 j) (sym z.1 j)))) u.1)
     (at_set xs (place_of p q t) (place_of p r n) y x e)
 
-has_slot : (xs : List Slot) (j : ℕ) → j < length xs → (x : Slot) × (get_elem? xs j ≡ some x)
+-- a slot below the number of slots
+pub has_slot : (xs : List Slot) (j : ℕ) → j < length xs → (x : Slot) × (get_elem? xs j ≡ some x)
 has_slot [] j h = absurd (omega arith)
 has_slot (x ∷ xs) zero h = (x, refl)
 has_slot (x ∷ xs) (suc j) h = has_slot xs j (omega arith)

@@ -22,3 +22,4 @@ pub mod Batches
 pub mod Everywhere
 pub mod TasksOnce
 pub mod Stops
+pub mod Fair

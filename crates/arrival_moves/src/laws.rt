@@ -4,9 +4,9 @@ ghost use Rattle.std.specs.Prelude.{List};
 ghost use Rattle.arrival_moves.specs.declared.plan.Plan.{Plan};
 ghost use Rattle.arrival_moves.specs.Plans.{IsPlan};
 ghost use Rattle.arrival_moves.specs.Moves.{Move, run};
-ghost use Rattle.arrival_moves.specs.Fairness.{ClaimsFit};
+ghost use Rattle.arrival_moves.specs.Fairness.{IsFair};
 
-/// The claims of all desks fit.
-pub fn claims_fit()
-    ensures { (p : Plan) (ms : List Move) → IsPlan p → ClaimsFit p (run p ms) }
+/// Every list of moves leaves a fair state: claims, tasks, tickets, batches and stop words are as they should be.
+pub fn fairness()
+    ensures { (p : Plan) (ms : List Move) → IsPlan p → IsFair p (run p ms) }
 {}
