@@ -23,3 +23,4 @@ pub mod Everywhere
 pub mod TasksOnce
 pub mod Stops
 pub mod Fair
+pub mod Closing

@@ -107,11 +107,11 @@ cond_or true false x y n e = omega arith
 cond_or false true x y n e = omega arith
 cond_or false false x y n e = omega arith
 
-cond_some : (b : Bool) (x : ℕ) → 1 ≤ cond b x 0 → (b ≡ true) × (1 ≤ x)
+pub cond_some : (b : Bool) (x : ℕ) → 1 ≤ cond b x 0 → (b ≡ true) × (1 ≤ x)
 cond_some true x h = (refl, h)
 cond_some false x h = absurd (omega arith)
 
-some_of : (a b : ℕ) → 1 ≤ a + b → (1 ≤ a) ⊎ (1 ≤ b)
+pub some_of : (a b : ℕ) → 1 ≤ a + b → (1 ≤ a) ⊎ (1 ≤ b)
 some_of zero b h = inr (omega arith)
 some_of (suc a) b h = inl (omega arith)
 
@@ -123,7 +123,7 @@ module _ (p : Plan) (good : IsPlan p) where
   of_one q k = let a = sum_by-cons (λ j. one_if (eqb (search_of p j) q)) k [] in omega arith
 
   -- tasks all of one search
-  of_all : (r q : ℕ) (ts : List ℕ) → ((k : ℕ) → 1 ≤ times k ts → search_of p k ≡ r) → of_search p q ts ≡ cond (eqb r q) (length ts) 0
+  pub of_all : (r q : ℕ) (ts : List ℕ) → ((k : ℕ) → 1 ≤ times k ts → search_of p k ≡ r) → of_search p q ts ≡ cond (eqb r q) (length ts) 0
   of_all r q [] h = sym (same (eqb r q))
     where
       same : (b : Bool) → let z : ℕ = 0 in cond b z z ≡ z

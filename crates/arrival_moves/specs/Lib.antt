@@ -1,4 +1,5 @@
 pub mod AfterMove
+pub mod Closing
 pub mod Fairness
 pub mod Guards
 pub mod Hands
