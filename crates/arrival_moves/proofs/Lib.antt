@@ -24,3 +24,4 @@ pub mod TasksOnce
 pub mod Stops
 pub mod Fair
 pub mod Closing
+pub mod Alone

@@ -45,7 +45,7 @@ module _ (p : Plan) (good : IsPlan p) where
   from (m ∷ ms) s f = from ms (move p s m) (kept_move s m f)
 
   pub kept_run : (ms : List Move) → IsKept p (run p ms)
-  kept_run ms = from ms (opened p) (record { shape = shape_opened p; claims = claims_opened p; loads = loads_opened p; words = words_opened p good; results = results_opened p good; reached = reached_opened p good; counts = counts_opened p good; labels = labels_opened p good; batches = batches_opened p good; tasks = tasks_opened p good; filled = filled_opened p good; notes = noted_opened p; stops = stops_opened p good })
+  kept_run ms = from ms (opened p) (record { shape = shape_opened p; claims = claims_opened p; loads = loads_opened p; words = words_opened p good; results = results_opened p good; reached = reached_opened p good; counts = counts_opened p good; labels = labels_opened p good; batches = batches_opened p good; tasks = tasks_opened p good; filled = filled_opened p good; notes = noted_opened p good; stops = stops_opened p good })
 
 pub move_desk_is : (s : ArrivalState) (i : ℕ) (may : View → Bool) (act : View → ArrivalState) (v : View) → get_elem? s.desks i ≡ some v → may v ≡ true → move_desk s i may act ≡ act v
 unfolding move_desk

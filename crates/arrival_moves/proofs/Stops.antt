@@ -42,6 +42,8 @@ Noted ws v = (q : ℕ) → contains q v.stopped ≡ true → get_or ws q 0 ≡ 1
 
 pub record NotesKept (s : ArrivalState) : Type 0 where
   pub noted : Each (Noted s.stops) s.desks
+  -- a stop word is 0 or 1
+  pub low : (q : ℕ) → get_or s.stops q 0 ≤ 1
 
 pub record StopsKept (p : Plan) (s : ArrivalState) : Type 0 where
   pub failed : (q : ℕ) → get_or s.stops q 0 ≡ 1 → 1 ≤ everywhere (failed_tasks p q) s
@@ -55,6 +57,13 @@ still_one (w ∷ ws) zero (suc q) e = e
 still_one (w ∷ ws) (suc j) zero e = e
 still_one (w ∷ ws) (suc j) (suc q) e = still_one ws j q e
 
+still_low : (ws : List ℕ) (j q : ℕ) → get_or ws q 0 ≤ 1 → get_or (set ws j 1) q 0 ≤ 1
+still_low [] j q h = h
+still_low (w ∷ ws) zero zero h = omega arith
+still_low (w ∷ ws) zero (suc q) h = h
+still_low (w ∷ ws) (suc j) zero h = h
+still_low (w ∷ ws) (suc j) (suc q) h = still_low ws j q h
+
 contains_append : (k : ℕ) (xs ys : List ℕ) → contains k (xs ++ ys) ≡ true → (contains k xs ≡ true) ⊎ (contains k ys ≡ true)
 contains_append k [] ys h = inr h
 contains_append k (x ∷ xs) ys h = ⊎_elim (λ (e : eqb x k ≡ true). inl (ap (λ b. b || contains k xs) e)) (λ (e : contains k (xs ++ ys) ≡ true). ⊎_elim (λ (y : contains k xs ≡ true). inl (right (eqb x k) (contains k xs) y)) (λ (y : contains k ys ≡ true). inr y) (contains_append k xs ys e)) (or_cases (eqb x k) (contains k (xs ++ ys)) h)
@@ -66,6 +75,7 @@ contains_append k (x ∷ xs) ys h = ⊎_elim (λ (e : eqb x k ≡ true). inl (ap
 noted_same : (s t : ArrivalState) (i : ℕ) (v w : View) → NotesKept s → get_elem? s.desks i ≡ some v → t.stops ≡ s.stops → t.desks ≡ set s.desks i w → w.stopped ≡ v.stopped → NotesKept t
 noted_same s t i v w f e stops desks same = record {
   noted = subst (λ ws. Each (Noted ws) t.desks) (sym stops) (subst (Each (Noted s.stops)) (sym desks) (each_set (Noted s.stops) s.desks i w f.noted (λ q h. f.noted i v e q (subst (λ xs. contains q xs ≡ true) same h))));
+  low = λ q. let a = f.low q in let b : get_or t.stops q 0 ≡ get_or s.stops q 0 = ap (λ ws. get_or ws q 0) stops in omega arith;
 }
 
 pub noted_move : (p : Plan) (s : ArrivalState) (m : Move) → NotesKept s → NotesKept (move p s m)
@@ -76,21 +86,23 @@ noted_move p s (put i q t l) f = item_keeps NotesKept s i _ _ _ f (λ v e x g _.
 noted_move p s (count i q t) f = item_keeps NotesKept s i _ _ _ f (λ v e x g _. noted_same s _ i v _ f e refl refl refl)
 noted_move p s (take_result i q t) f = item_keeps NotesKept s i _ _ _ f (λ v e x g _. by_label NotesKept s _ _ f (λ l o. noted_same s _ i v _ f e refl refl refl))
 noted_move p s (put_merged i q b l) f = item_keeps NotesKept s i _ _ _ f (λ v e x g _. by_test NotesKept (is_at_slot x) _ _ (λ _. noted_same s _ i v _ f e refl refl refl) (λ _. noted_same s _ i v _ f e refl refl refl))
-noted_move p s (split i k) f = desk_keeps NotesKept s i _ _ f (λ v e _. record { noted = each_snoc (Noted s.stops) (set s.desks i (after_split v k)) (split_off k) (each_set (Noted s.stops) s.desks i (after_split v k) f.noted (f.noted i v e)) (λ q h. absurd (false≢true h)) })
+noted_move p s (split i k) f = desk_keeps NotesKept s i _ _ f (λ v e _. record { noted = each_snoc (Noted s.stops) (set s.desks i (after_split v k)) (split_off k) (each_set (Noted s.stops) s.desks i (after_split v k) f.noted (f.noted i v e)) (λ q h. absurd (false≢true h)); low = f.low })
 noted_move p s (join i j) f = desk_keeps NotesKept s i _ _ f (λ v e _. desk_keeps NotesKept s j _ _ f (λ w d _. record {
   noted = each_set (Noted s.stops) (set s.desks i (after_join v w)) j spent_view (each_set (Noted s.stops) s.desks i (after_join v w) f.noted
       (λ q h. ⊎_elim (λ (y : contains q v.stopped ≡ true). f.noted i v e q y) (λ (y : contains q w.stopped ≡ true). f.noted j w d q y) (contains_append q v.stopped w.stopped h))) (λ q h. absurd (false≢true h));
+  low = f.low;
 }))
 noted_move p s (close i q b) f = desk_keeps NotesKept s i _ _ f (λ v e _. by_label NotesKept s _ _ f (λ l o. noted_same s _ i v _ f e refl refl refl))
 noted_move p s (stop i k) f = item_keeps NotesKept s i _ _ _ f (λ v e x g _. let ws : List ℕ = set s.stops (search_of p k) 1 in let f' : Each (Noted ws) s.desks = λ j u d q h. still_one s.stops (search_of p k) q (f.noted j u d q h) in
-    record { noted = each_set (Noted ws) s.desks i (after_stop v k) f' (f' i v e) })
+    record { noted = each_set (Noted ws) s.desks i (after_stop v k) f' (f' i v e); low = λ q. still_low s.stops (search_of p k) q (f.low q) })
 noted_move p s (stopped i q) f = desk_keeps NotesKept s i _ _ f (λ v e _. let n : ℕ = get_or s.stops q 0 in record {
   noted = each_set (Noted s.stops) s.desks i (after_stopped v q n) f.noted (cond_both (n == 1) (q ∷ v.stopped) v.stopped (λ (xs : List ℕ). (r : ℕ) → contains r xs ≡ true → get_or s.stops r 0 ≡ 1)
       (λ y r h. ⊎_elim (λ (z : eqb q r ≡ true). ap (λ k. get_or s.stops k 0) (sym (eqb-true q r z)) ∙ eqb-true n 1 y) (λ (z : contains r v.stopped ≡ true). f.noted i v e r z) (or_cases (eqb q r) (contains r v.stopped) h)) (λ _. f.noted i v e));
+  low = f.low;
 })
 
-pub noted_opened : (p : Plan) → NotesKept (opened p)
-noted_opened p = record { noted = each_one (Noted (opened p).stops) first_view (λ q h. absurd (false≢true h)) }
+pub noted_opened : (p : Plan) → IsPlan p → NotesKept (opened p)
+noted_opened p good = record { noted = each_one (Noted (opened p).stops) first_view (λ q h. absurd (false≢true h)); low = λ q. let z = zeros p good p.searches q in omega arith }
 
 -- of labels: the more tasks and the more failed, the greater the number
 implied : (a b : Bool) → implies a b ≡ true → a ≡ true → b ≡ true
