@@ -23,7 +23,7 @@ use Rattle.arrival_moves.specs.Fairness.{everywhere, IsOfSearch}
 use Rattle.arrival_moves.proofs.Sums.{sum_by_pair}
 use Rattle.arrival_moves.proofs.NumberLists.{one_if_le, one_if_true, contains_times}
 use Rattle.arrival_moves.proofs.Cases.{found_is, exchanged_sum}
-use Rattle.arrival_moves.proofs.Shapes.{HasShape}
+use Rattle.arrival_moves.specs.Fairness.{HasShape}
 use Rattle.arrival_moves.proofs.BatchRanges.{in_batch}
 use Rattle.arrival_moves.proofs.Quiet.{lt_one}
 use Rattle.arrival_moves.proofs.Words.{drawn_le}

@@ -30,7 +30,7 @@ use Rattle.arrival_moves.proofs.BatchRanges.{batch_times, batch_some}
 use Rattle.arrival_moves.proofs.Cases.{desk_keeps, item_keeps, by_label, by_test, hands_exchanged}
 use Rattle.arrival_moves.proofs.CloseGuards.{close_guard}
 use Rattle.arrival_moves.proofs.Items.{hands_more, put_gives, batch_gives}
-use Rattle.arrival_moves.proofs.Shapes.{HasShape}
+use Rattle.arrival_moves.specs.Fairness.{HasShape}
 use Rattle.arrival_moves.proofs.Quiet.{lt_none, eq_one, eq_none}
 use Rattle.arrival_moves.proofs.Words.{WordsFit, drawn_le, zeros}
 use Rattle.arrival_moves.proofs.Places.{places_apart, place_within}

@@ -26,7 +26,7 @@ use Rattle.arrival_moves.proofs.Sums.{Each, sum_by_has, sum_by_pair}
 use Rattle.arrival_moves.proofs.Each.{each_tail}
 use Rattle.arrival_moves.proofs.NumberLists.{one_if_le}
 use Rattle.arrival_moves.proofs.BatchRanges.{batch_some}
-use Rattle.arrival_moves.proofs.Shapes.{HasShape}
+use Rattle.arrival_moves.specs.Fairness.{HasShape}
 use Rattle.arrival_moves.proofs.Places.{place_within, place_at}
 use Rattle.arrival_moves.proofs.LabelsFit.{IsBatch, batch_first, ticket_batch}
 use Rattle.arrival_moves.proofs.Unbatched.{was_emptied}

@@ -5,7 +5,7 @@ use mathlib.Core.Option.{some}
 use lib.ListN.{get_elem?}
 use Rattle.arrival_moves.specs.declared.label.Label.{Label}
 use Rattle.arrival_moves.specs.declared.plan.Plan.{Plan}
-use Rattle.arrival_moves.specs.declared.item.Item.TheVariants.{Batch}
+use Rattle.arrival_moves.specs.declared.item.Item.TheVariants.{Batch, Closed}
 use Rattle.arrival_moves.specs.Lists.{one_if}
 use Rattle.arrival_moves.specs.Slots.{Slot, fresh, reached, holds, emptied, was_put}
 use Rattle.arrival_moves.specs.Plans.{tasks_of, place_of, batch_size, IsPlan}
@@ -43,6 +43,7 @@ module _ (p : Plan) (good : IsPlan p) (s : ArrivalState) (f : IsKept p s) where
 
   pub fair_of : IsFair p s
   fair_of = record {
+    shape = f.shape;
     claims = f.claims;
     tasks = record { once = f.tasks.once; loads = f.loads.loads; results = λ r l e. f.filled.results r (holds l) e; batches = λ r l e. f.filled.batches r (holds l) e };
     tickets = record { word = f.words.word; once = f.results.once };
@@ -50,6 +51,7 @@ module _ (p : Plan) (good : IsPlan p) (s : ArrivalState) (f : IsKept p s) where
       result = f.labels.results;
       taken = λ i j v x e h. let a = f.labels.hands i v e j (Batch x) h in record { size = a.size; search = a.search };
       merged = f.labels.batches;
+      closed = λ i j v x e h. f.labels.hands i v e j (Closed x) h;
       counts = f.counts.counts;
       uncounted = f.counts.uncounted;
       counted = λ q t drawn away why. result_there q t drawn (omega arith) why;

@@ -22,7 +22,7 @@ use Rattle.arrival_moves.specs.Hands.{find_item, exchanged}
 use Rattle.arrival_moves.specs.AfterMove.{first_view, spent_view, after_close, after_stopped, after_claim, after_arrive, after_count, after_split, split_off, after_join, reached_item, batch_due, taken_from}
 use Rattle.arrival_moves.specs.Guards.{may_put, may_put_merged, implies}
 use Rattle.arrival_moves.specs.Moves.{ArrivalState, Move, claim, take_task, arrive, put, count, take_result, put_merged, split, join, close, stop, stopped, move, opened}
-use Rattle.arrival_moves.specs.Fairness.{IsOfSearch}
+use Rattle.arrival_moves.specs.Fairness.{IsOfSearch, HoldsMerged}
 use Rattle.arrival_moves.proofs.Lists.{at_set}
 use Rattle.arrival_moves.proofs.Sums.{Each, each_set, each_snoc}
 use Rattle.arrival_moves.proofs.Each.{each_none, each_cons, each_one, each_append, each_exchanged, each_found}
@@ -31,7 +31,7 @@ use Rattle.arrival_moves.proofs.BatchRanges.{batch_within, batch_some}
 use Rattle.arrival_moves.proofs.Cases.{desk_keeps, item_keeps, by_label, by_test, found_is}
 use Rattle.arrival_moves.proofs.CloseGuards.{close_guard}
 use Rattle.arrival_moves.proofs.Items.{as_claimed, as_loaded, as_arrived, as_batch}
-use Rattle.arrival_moves.proofs.Shapes.{HasShape}
+use Rattle.arrival_moves.specs.Fairness.{HasShape}
 use Rattle.arrival_moves.proofs.Words.{WordsFit}
 use Rattle.arrival_moves.proofs.Places.{places_apart}
 use Rattle.arrival_moves.proofs.Results.{ResultsFit, in_range}
@@ -46,19 +46,13 @@ pub record HeldFits (p : Plan) (z : HeldBatch) : Type 0 where
   -- no task, no skipped one
   pub told : z.taken.skipped ≡ true → 1 ≤ length z.taken.tasks
 
--- of a merged result that was taken out
-pub record ClosedFits (p : Plan) (z : ClosedBatch) : Type 0 where
-  pub size : length z.taken.tasks ≡ batch_size p z.search z.batch
-  pub search : IsOfSearch p z.search z.taken
-  pub real : z.batch * p.batch < tasks_of p z.search
-
 abbrev pub ItemFits : Plan → Item → Type 0
 ItemFits p (Claimed k) = k < task_count p
 ItemFits p (Loaded z) = z.task < task_count p
 ItemFits p (Arrived z) = (z.task < task_count p) × (search_of p z.task ≡ z.search)
 ItemFits p (Put z) = Unit {0}
 ItemFits p (Batch z) = HeldFits p z
-ItemFits p (Closed z) = ClosedFits p z
+ItemFits p (Closed z) = HoldsMerged p z
 
 abbrev pub HandFits : Plan → View → Type 0
 HandFits p v = Each (ItemFits p) v.hand

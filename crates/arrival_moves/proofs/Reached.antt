@@ -22,7 +22,7 @@ use Rattle.arrival_moves.specs.declared.view.View.{View}
 use Rattle.arrival_moves.proofs.Sums.{sum_by_rest}
 use Rattle.arrival_moves.proofs.Cases.{desk_keeps, item_keeps, by_label, by_test, hands_exchanged, exchanged_sum, found_is}
 use Rattle.arrival_moves.proofs.Items.{hands_more, hands_same, claimed_gives, loaded_gives, put_gives, batch_gives, as_arrived}
-use Rattle.arrival_moves.proofs.Shapes.{HasShape}
+use Rattle.arrival_moves.specs.Fairness.{HasShape}
 use Rattle.arrival_moves.proofs.Quiet.{hands_split, hands_join, apart_from, bare}
 use Rattle.arrival_moves.proofs.Loads.{arrived_items}
 use Rattle.arrival_moves.proofs.Words.{WordsFit}

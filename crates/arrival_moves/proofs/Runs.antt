@@ -2,7 +2,7 @@
 use Rattle.std.proofs.Common.{◌≡◌, ℕ, Bool, true, cond, fold, List, [], ◌∷◌, ap, ◌∙◌, refl}
 use mathlib.Core.Option.{some}
 use lib.ListN.{get_elem?}
-use Rattle.arrival_moves.specs.Fairness.{ClaimsFit}
+use Rattle.arrival_moves.specs.Fairness.{ClaimsFit, HasShape}
 use Rattle.arrival_moves.specs.Hands.{find_item}
 use Rattle.arrival_moves.specs.Moves.{ArrivalState, Move, move, run, opened, move_desk, move_item, move_some, move_found}
 use Rattle.arrival_moves.specs.Plans.{IsPlan}
@@ -13,7 +13,7 @@ use Rattle.arrival_moves.proofs.Stops.{NotesKept, StopsKept, noted_move, noted_o
 use Rattle.arrival_moves.proofs.TasksOnce.{TasksKept, SlotsFilled, tasks_move, tasks_opened, filled_move, filled_opened}
 use Rattle.arrival_moves.proofs.Batches.{BatchesKept, batches_move, batches_opened}
 use Rattle.arrival_moves.proofs.LabelsFit.{LabelsFit, labels_move, labels_opened}
-use Rattle.arrival_moves.proofs.Shapes.{HasShape, shape_move, shape_opened}
+use Rattle.arrival_moves.proofs.Shapes.{shape_move, shape_opened}
 use Rattle.arrival_moves.proofs.Claims.{claims_move, claims_opened}
 use Rattle.arrival_moves.proofs.Loads.{LoadsFit, loads_move, loads_opened}
 use Rattle.arrival_moves.proofs.Reached.{ReachedFit, reached_move, reached_opened}

@@ -5,15 +5,8 @@ use Rattle.arrival_moves.specs.Items.{is_at_slot}
 use Rattle.arrival_moves.specs.Moves.{ArrivalState, Move, claim, take_task, arrive, put, count, take_result, put_merged, split, join, close, stop, stopped, move, load_slots, opened}
 use Rattle.arrival_moves.specs.Plans.{task_count}
 use Rattle.arrival_moves.specs.declared.plan.Plan.{Plan}
+use Rattle.arrival_moves.specs.Fairness.{HasShape}
 use Rattle.arrival_moves.proofs.Cases.{desk_keeps, item_keeps, by_label, by_test}
-
-pub record HasShape (p : Plan) (s : ArrivalState) : Type 0 where
-  pub tickets : length s.tickets ≡ p.searches
-  pub counts : length s.counts ≡ task_count p
-  pub stops : length s.stops ≡ p.searches
-  pub loads : length s.loads ≡ task_count p
-  pub results : length s.results ≡ task_count p
-  pub batches : length s.batches ≡ task_count p
 
 module _ (p : Plan) where
   abbrev H : ArrivalState → Type 0

@@ -27,7 +27,7 @@ use Rattle.arrival_moves.proofs.Sums.{Each, each_set, each_snoc, sum_by_has}
 use Rattle.arrival_moves.proofs.Each.{each_one}
 use Rattle.arrival_moves.proofs.NumberLists.{one_if_true, times_cons}
 use Rattle.arrival_moves.proofs.Cases.{desk_keeps, item_keeps, by_label, by_test}
-use Rattle.arrival_moves.proofs.Shapes.{HasShape}
+use Rattle.arrival_moves.specs.Fairness.{HasShape}
 use Rattle.arrival_moves.proofs.Quiet.{eq_one, eq_none}
 use Rattle.arrival_moves.proofs.Words.{WordsFit, zeros}
 use Rattle.arrival_moves.proofs.Results.{ResultsFit, slot_there}

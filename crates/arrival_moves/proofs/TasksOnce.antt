@@ -22,7 +22,7 @@ use Rattle.arrival_moves.proofs.Sums.{Each, each_set}
 use Rattle.arrival_moves.proofs.NumberLists.{times_append, times_cons}
 use Rattle.arrival_moves.proofs.BatchRanges.{batch_some}
 use Rattle.arrival_moves.proofs.Cases.{desk_keeps, item_keeps, by_label, by_test}
-use Rattle.arrival_moves.proofs.Shapes.{HasShape}
+use Rattle.arrival_moves.specs.Fairness.{HasShape}
 use Rattle.arrival_moves.proofs.Quiet.{eq_one, eq_none}
 use Rattle.arrival_moves.proofs.Words.{WordsFit}
 use Rattle.arrival_moves.proofs.Results.{ResultsFit, slot_there}

@@ -20,7 +20,7 @@ use Rattle.arrival_moves.specs.Moves.{ArrivalState, claim, take_task, arrive, pu
 use Rattle.arrival_moves.proofs.Lists.{at_set}
 use Rattle.arrival_moves.proofs.Cases.{desk_keeps, item_keeps, by_test, hands_exchanged}
 use Rattle.arrival_moves.proofs.Items.{hands_more, hands_same, claimed_gives, loaded_gives, arrived_gives}
-use Rattle.arrival_moves.proofs.Shapes.{HasShape}
+use Rattle.arrival_moves.specs.Fairness.{HasShape}
 use Rattle.arrival_moves.proofs.Quiet.{hands_split, hands_join, apart_from, bare}
 use Rattle.arrival_moves.proofs.Loads.{arrived_items}
 use Rattle.arrival_moves.proofs.Words.{WordsFit}

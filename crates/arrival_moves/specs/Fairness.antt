@@ -1,5 +1,5 @@
--- What holds of the table of arrivals after every list of moves: five clauses, on claims, tasks, tickets, batches and
--- stop words.
+-- What holds of the table of arrivals after every list of moves: its words and slots are there, and five clauses on
+-- claims, tasks, tickets, batches and stop words.
 use Rattle.std.specs.Prelude.{◌≡◌, ◌⊎◌, ℕ, ◌+◌, ◌*◌, ◌/◌, ◌<◌, ◌≤◌, ◌&&◌, ◌==◌, nat_lt, nat_le, IsTrue, if◌then◌else◌, List, [], length, slice_index}
 use Rattle.std.specs.List.{sum_by}
 use mathlib.Core.Option.{some}
@@ -8,7 +8,8 @@ use Rattle.arrival_moves.specs.declared.label.Label.{Label}
 use Rattle.arrival_moves.specs.declared.plan.Plan.{Plan}
 use Rattle.arrival_moves.specs.declared.view.View.{View}
 use Rattle.arrival_moves.specs.declared.item.HeldBatch.{HeldBatch}
-use Rattle.arrival_moves.specs.declared.item.Item.TheVariants.{Batch}
+use Rattle.arrival_moves.specs.declared.item.ClosedBatch.{ClosedBatch}
+use Rattle.arrival_moves.specs.declared.item.Item.TheVariants.{Batch, Closed}
 use Rattle.arrival_moves.specs.Lists.{one_if, contains}
 use Rattle.arrival_moves.specs.Labels.{task_times, task_label}
 use Rattle.arrival_moves.specs.Slots.{Slot, holds, in_slots, was_put}
@@ -20,6 +21,15 @@ use Rattle.arrival_moves.specs.Moves.{ArrivalState}
 -- the sum of a number over all desks' hands and the slots of results and of merged results
 abbrev pub everywhere : (Label → ℕ) → ArrivalState → ℕ
 everywhere f s = in_hands (in_item f) s.desks + in_slots f s.results + in_slots f s.batches
+
+-- a ticket word and a stop word for each search, and a count word and three slots for each task
+pub record HasShape (p : Plan) (s : ArrivalState) : Type 0 where
+  pub tickets : length s.tickets ≡ p.searches
+  pub counts : length s.counts ≡ task_count p
+  pub stops : length s.stops ≡ p.searches
+  pub loads : length s.loads ≡ task_count p
+  pub results : length s.results ≡ task_count p
+  pub batches : length s.batches ≡ task_count p
 
 -- claims
 pub record ClaimsFit (p : Plan) (s : ArrivalState) : Type 0 where
@@ -59,6 +69,12 @@ pub record HoldsBatch (p : Plan) (x : HeldBatch) : Type 0 where
   pub size : length x.taken.tasks + length x.due ≡ batch_size p x.search x.batch
   pub search : IsOfSearch p x.search x.taken
 
+-- of a merged result that was taken out
+pub record HoldsMerged (p : Plan) (x : ClosedBatch) : Type 0 where
+  pub real : x.batch * p.batch < tasks_of p x.search
+  pub size : length x.taken.tasks ≡ batch_size p x.search x.batch
+  pub search : IsOfSearch p x.search x.taken
+
 -- batches
 pub record BatchesFit (p : Plan) (s : ArrivalState) : Type 0 where
   -- a result stands for one task of its slot's search
@@ -67,6 +83,8 @@ pub record BatchesFit (p : Plan) (s : ArrivalState) : Type 0 where
   pub taken : (i j : ℕ) (v : View) (x : HeldBatch) → get_elem? s.desks i ≡ some v → get_elem? v.hand j ≡ some (Batch x) → HoldsBatch p x
   -- a merged result stands for as many tasks as its batch has tickets, all of its search
   pub merged : (q b : ℕ) (l : Label) → b * p.batch < tasks_of p q → get_elem? s.batches (place_of p q b) ≡ some (holds l) → (length l.tasks ≡ batch_size p q b) × IsOfSearch p q l
+  -- so does one that was taken out
+  pub closed : (i j : ℕ) (v : View) (x : ClosedBatch) → get_elem? s.desks i ≡ some v → get_elem? v.hand j ≡ some (Closed x) → HoldsMerged p x
   -- a batch's count word is the number of its tickets that were counted: those that were drawn and are in no hand
   pub counts : (q b : ℕ) → b * p.batch < tasks_of p q
       → slice_index s.counts (place_of p q b) + in_hands (uncounted_in p q b) s.desks ≡ tickets_in p b (slice_index s.tickets q)
@@ -101,6 +119,7 @@ pub record StopsFit (p : Plan) (s : ArrivalState) : Type 0 where
 
 -- the whole of it
 pub record IsFair (p : Plan) (s : ArrivalState) : Type 0 where
+  pub shape : HasShape p s
   pub claims : ClaimsFit p s
   pub tasks : TasksFit p s
   pub tickets : TicketsFit p s

@@ -3,6 +3,7 @@ pub mod Closing
 pub mod Fairness
 pub mod Guards
 pub mod Hands
+pub mod Holding
 pub mod Items
 pub mod Labels
 pub mod Lists
