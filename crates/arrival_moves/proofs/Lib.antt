@@ -25,3 +25,5 @@ pub mod Stops
 pub mod Fair
 pub mod Closing
 pub mod Alone
+mod MergeExamples
+mod StopExamples
