@@ -1,6 +1,5 @@
 -- A task, a ticket and a batch are in one desk's hand, and the task that the next claim finds is in none.
-use Rattle.std.proofs.Common.{Bool, [], length, ◌≡◌, ◌≢◌, ℕ, ◌+◌, ◌-◌, ◌*◌, ◌/◌, min, ◌<◌, ◌≤◌, inr, true, ◌&&◌, leb, ltb, eqb, get_or, List, sym, refl, ap, ◌∙◌, subst, arith}
-use Rattle.std.specs.List.{sum_by}
+use Rattle.std.proofs.Common.{Bool, [], length, ◌≡◌, ℕ, ◌+◌, ◌-◌, ◌*◌, ◌/◌, min, ◌<◌, ◌≤◌, true, ◌&&◌, leb, ltb, eqb, get_or, List, sym, refl, ap, ◌∙◌, subst, arith}
 use Rattle.std.proofs.lemmas.Bool.{le-ltb, leb-true, eq-eqb, cond-true}
 use Rattle.std.proofs.lemmas.List.Sums.{sum_by-le-sum_by}
 use mathlib.Core.Option.{some}
@@ -12,28 +11,27 @@ use Rattle.arrival_moves.specs.declared.plan.Plan.{Plan}
 use Rattle.arrival_moves.specs.declared.view.View.{View}
 use Rattle.arrival_moves.specs.declared.item.Item.{Item}
 use Rattle.arrival_moves.specs.declared.item.Item.TheVariants.{Claimed, Loaded, Arrived, Put, Batch, Closed}
-use Rattle.arrival_moves.specs.Lists.{one_if, times, contains}
+use Rattle.arrival_moves.specs.Lists.{one_if, times}
 use Rattle.arrival_moves.specs.Labels.{task_times}
-use Rattle.arrival_moves.specs.Slots.{Slot, holds}
+use Rattle.arrival_moves.specs.Slots.{holds}
 use Rattle.arrival_moves.specs.Plans.{task_count, tasks_of, place_of, batch_size, IsPlan}
-use Rattle.arrival_moves.specs.Items.{is_arrived, is_put, is_batch, is_due, in_item, arrived_at, uncounted_in, batch_at, due_at}
+use Rattle.arrival_moves.specs.Items.{is_arrived, is_batch, is_due, in_item, arrived_at, uncounted_in, batch_at, due_at}
 use Rattle.arrival_moves.specs.Hands.{find_item, in_hand, in_hands, HasItem}
 use Rattle.arrival_moves.specs.Moves.{ArrivalState}
 use Rattle.arrival_moves.specs.Fairness.{everywhere, IsOfSearch}
 use Rattle.arrival_moves.proofs.Sums.{sum_by_pair}
-use Rattle.arrival_moves.proofs.NumberLists.{one_if_le, one_if_true, contains_times}
+use Rattle.arrival_moves.proofs.NumberLists.{contains_times}
+use Rattle.arrival_moves.proofs.OneIf.{one_if_le, one_if_true}
 use Rattle.arrival_moves.proofs.Cases.{found_is, exchanged_sum}
-use Rattle.arrival_moves.specs.Fairness.{HasShape}
 use Rattle.arrival_moves.proofs.BatchRanges.{in_batch}
 use Rattle.arrival_moves.proofs.Quiet.{lt_one}
 use Rattle.arrival_moves.proofs.Words.{drawn_le}
 use Rattle.arrival_moves.proofs.Results.{both_none}
 use Rattle.arrival_moves.proofs.Places.{place_within}
 use Rattle.arrival_moves.proofs.LabelsFit.{batch_first, ticket_batch, batch_found, due_now, due_range}
-use Rattle.arrival_moves.proofs.Batches.{is_complete, has_slot, hands_has, held_real}
-use Rattle.arrival_moves.proofs.Unbatched.{was_emptied}
+use Rattle.arrival_moves.proofs.Batches.{is_complete, hands_has, held_real}
+use Rattle.arrival_moves.proofs.SlotStates.{full_slot, has_slot}
 use Rattle.arrival_moves.proofs.Runs.{IsKept}
-use Rattle.arrival_moves.proofs.Fair.{full_slot}
 
 -- where a number is at most 1 over all hands, one desk has it
 one_desk : (f : Item → ℕ) (vs : List View) (i j : ℕ) (v u : View) → in_hands f vs ≤ 1 → get_elem? vs i ≡ some v → get_elem? vs j ≡ some u → 1 ≤ in_hand f v → 1 ≤ in_hand f u → i ≡ j

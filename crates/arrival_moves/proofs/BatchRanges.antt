@@ -2,10 +2,10 @@
 use Rattle.std.proofs.Common.{◌≡◌, ◌≢◌, ℕ, ◌+◌, ◌-◌, ◌*◌, ◌/◌, ◌%◌, ◌<◌, ◌≤◌, min, ◌&&◌, eqb, ltb, ap, arith, mul-le-mul_right, suc-mul, suc, div-add-mod', mod-lt}
 use Rattle.std.proofs.lemmas.Bool.{and_from, eq-eqb, ne_eqb, lt-ltb}
 use mathlib.Core.Logic.{dite}
-use native.Mathlib.Decide.{ℕ_discrete, dec_lt, dec_le}
+use native.Mathlib.Decide.{ℕ_discrete, dec_lt}
 use Rattle.arrival_moves.specs.declared.plan.Plan.{Plan}
 use Rattle.arrival_moves.specs.Lists.{one_if, times, numbers_from}
-use Rattle.arrival_moves.specs.Plans.{tickets_in, tasks_of, batch_size, IsPlan}
+use Rattle.arrival_moves.specs.Plans.{tasks_of, batch_size, IsPlan}
 use Rattle.arrival_moves.proofs.NumberLists.{numbers_in, numbers_else}
 
 further : (x y n : ℕ) → x < y → x * n + n ≤ y * n

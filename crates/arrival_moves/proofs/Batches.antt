@@ -1,13 +1,12 @@
 -- A batch whose last count was made is in one hand until its merged result was put, and its tickets are due until their
 -- results are taken.
-use Rattle.std.proofs.Common.{◌≡◌, ◌≢◌, ℕ, zero, suc, ◌+◌, ◌-◌, ◌*◌, ◌/◌, ◌<◌, ◌≤◌, min, ⊎_elim, Bool, true, false, not, cond, ◌&&◌, eqb, leb, ltb, get_or, replicate, List, [], ◌∷◌, ◌++◌, length, set, sym, refl, ap, ◌∙◌, subst, arith, get_or-set_same, get_or-set_other}
-use Rattle.std.specs.Prelude.{◌==◌, if◌then◌else◌}
+use Rattle.std.proofs.Common.{◌≡◌, ◌≢◌, ℕ, ◌+◌, ◌-◌, ◌*◌, ◌/◌, ◌<◌, ◌≤◌, min, ⊎_elim, Bool, true, false, ◌&&◌, eqb, leb, get_or, List, [], ◌∷◌, length, set, sym, refl, ap, ◌∙◌, subst, arith, get_or-set_same, get_or-set_other}
 use Rattle.std.specs.List.{sum_by}
-use Rattle.std.proofs.lemmas.Bool.{false≢true, true≢false, and_parts, leb-true, le-leb, lt-leb, eqb-true, eq-eqb, ne_eqb, cond-true, cond-false, cases_Bool}
+use Rattle.std.proofs.lemmas.Bool.{le-leb, lt-leb, eq-eqb, ne_eqb, cond-true, cond-false, cases_Bool}
 use Rattle.std.proofs.lemmas.List.Sums.{sum_by-cons}
-use mathlib.Core.Option.{some, some-injective, some-ne-none}
+use mathlib.Core.Option.{some}
 use mathlib.Core.Logic.{dite}
-use native.Mathlib.Decide.{ℕ_discrete, dec_lt, dec_le}
+use native.Mathlib.Decide.{ℕ_discrete}
 use lib.ListN.{get_elem?}
 use Rattle.arrival_moves.specs.declared.label.Label.{Label}
 use Rattle.arrival_moves.specs.declared.plan.Plan.{Plan}
@@ -15,30 +14,32 @@ use Rattle.arrival_moves.specs.declared.view.View.{View}
 use Rattle.arrival_moves.specs.declared.item.Item.{Item}
 use Rattle.arrival_moves.specs.declared.item.Item.TheVariants.{Claimed, Loaded, Arrived, Put, Batch, Closed}
 use Rattle.arrival_moves.specs.declared.item.HeldBatch.{HeldBatch}
-use Rattle.arrival_moves.specs.Lists.{one_if, times, contains, without, numbers_from}
-use Rattle.arrival_moves.specs.Labels.{no_label, joined_label}
+use Rattle.arrival_moves.specs.Lists.{one_if, times, without, numbers_from}
+use Rattle.arrival_moves.specs.Labels.{no_label}
 use Rattle.arrival_moves.specs.Slots.{Slot, fresh, reached, holds, emptied, was_put}
-use Rattle.arrival_moves.specs.Plans.{task_count, tasks_of, place_of, tickets_in, batch_size, IsPlan}
+use Rattle.arrival_moves.specs.Plans.{task_count, tasks_of, place_of, batch_size, IsPlan}
 use Rattle.arrival_moves.specs.Items.{is_put, is_batch, is_at_slot, is_due, uncounted_in, batch_at, due_at, merging_at, closed_at}
-use Rattle.arrival_moves.specs.Hands.{find_item, exchanged, in_hand, in_hands}
+use Rattle.arrival_moves.specs.Hands.{find_item, exchanged, in_hands}
 use Rattle.arrival_moves.specs.AfterMove.{after_count, after_take_result, after_reach_batch, after_put_merged, after_close, reached_item, batch_due, taken_from}
 use Rattle.arrival_moves.specs.Guards.{may_put_merged}
 use Rattle.arrival_moves.specs.Moves.{ArrivalState, Move, claim, take_task, arrive, put, count, take_result, put_merged, split, join, close, stop, stopped, move, opened}
 use Rattle.arrival_moves.proofs.Lists.{at_set}
-use Rattle.arrival_moves.proofs.NumberLists.{one_if_le, times_without}
+use Rattle.arrival_moves.proofs.OneIf.{one_if_le, one_if_never, one_if_always, one_if_fewer}
+use Rattle.arrival_moves.proofs.SlotStates.{is_reached, was_emptied, not_emptied, none_but, put_or_reached, has_slot, first_slot}
+use Rattle.arrival_moves.proofs.NumberLists.{times_without}
 use Rattle.arrival_moves.proofs.BatchRanges.{batch_times, batch_some}
 use Rattle.arrival_moves.proofs.Cases.{desk_keeps, item_keeps, by_label, by_test, hands_exchanged}
 use Rattle.arrival_moves.proofs.CloseGuards.{close_guard}
-use Rattle.arrival_moves.proofs.Items.{hands_more, put_gives, batch_gives}
+use Rattle.arrival_moves.proofs.Items.{hands_more, put_gives}
 use Rattle.arrival_moves.specs.Fairness.{HasShape}
-use Rattle.arrival_moves.proofs.Quiet.{lt_none, eq_one, eq_none}
+use Rattle.arrival_moves.proofs.Quiet.{eq_one, eq_none}
 use Rattle.arrival_moves.proofs.Words.{WordsFit, drawn_le, zeros}
 use Rattle.arrival_moves.proofs.Places.{places_apart, place_within}
 use Rattle.arrival_moves.proofs.Results.{ResultsFit, both_one, both_none}
-use Rattle.arrival_moves.proofs.Reached.{is_reached, hands_rest}
+use Rattle.arrival_moves.proofs.Reached.{hands_rest}
 use Rattle.arrival_moves.proofs.Counts.{CountsFit, counted}
 use Rattle.arrival_moves.proofs.LabelsFit.{LabelsFit, HeldFits, IsBatch, batch_found, batch_first, ticket_batch, due_now, due_range, none_due}
-use Rattle.arrival_moves.proofs.Unbatched.{Unbatched, IsOfBatches, was_emptied, not_emptied, unbatched_claim, unbatched_take_task, unbatched_arrive, unbatched_put, unbatched_split, unbatched_join, unbatched_stop, unbatched_stopped}
+use Rattle.arrival_moves.proofs.Unbatched.{Unbatched, IsOfBatches, unbatched_claim, unbatched_take_task, unbatched_arrive, unbatched_put, unbatched_split, unbatched_join, unbatched_stop, unbatched_stopped}
 
 -- the last count of the batch b of q was made
 abbrev pub is_complete : Plan → ArrivalState → ℕ → ℕ → ℕ
@@ -74,12 +75,6 @@ set_cases p xs q t r n y x l m e same other = ⊎_elim
     (λ (u : (place_of p r n ≢ place_of p q t) × (get_elem? xs (place_of p r n) ≡ some x)). other (both_none q t r n (λ z. u.0 (λ j. place_of p (sym z.0 j) (sym z.1 j)))) u.1)
     (at_set xs (place_of p q t) (place_of p r n) y x e)
 
--- a slot below the number of slots
-pub has_slot : (xs : List Slot) (j : ℕ) → j < length xs → (x : Slot) × (get_elem? xs j ≡ some x)
-has_slot [] j h = absurd (omega arith)
-has_slot (x ∷ xs) zero h = (x, refl)
-has_slot (x ∷ xs) (suc j) h = has_slot xs j (omega arith)
-
 -- a batch with all its n tickets due
 abbrev whole_batch : Plan → ℕ → ℕ → ℕ → Item
 whole_batch p q b n = Batch (record { search = q; batch = b; due = numbers_from (b * p.batch) n; taken = no_label; at_slot = false })
@@ -97,45 +92,18 @@ le_none : (a b : ℕ) → b < a → one_if (leb a b) ≡ 0
 le_none a b h = ap one_if (lt-leb a b h)
 
 at_slot_one : (q b r c : ℕ) (w : Bool) → w ≡ true → one_if (eqb q r && eqb b c && w) ≡ one_if (eqb q r && eqb b c)
-at_slot_one q b r c w h = ap (λ y. one_if (eqb q r && eqb b c && y)) h ∙ always (eqb q r && eqb b c)
-  where
-    always : (b : Bool) → one_if (b && true) ≡ one_if b
-    always true = refl
-    always false = refl
+at_slot_one q b r c w h = ap (λ y. one_if (eqb q r && eqb b c && y)) h ∙ one_if_always (eqb q r && eqb b c)
 
 at_slot_none : (q b r c : ℕ) (w : Bool) → w ≡ false → one_if (eqb q r && eqb b c && w) ≡ 0
-at_slot_none q b r c w h = ap (λ y. one_if (eqb q r && eqb b c && y)) h ∙ never (eqb q r && eqb b c)
-  where
-    never : (b : Bool) → one_if (b && false) ≡ 0
-    never true = refl
-    never false = refl
+at_slot_none q b r c w h = ap (λ y. one_if (eqb q r && eqb b c && y)) h ∙ one_if_never (eqb q r && eqb b c)
 
 merging_le : (q b : ℕ) (x : Item) → merging_at q b x ≤ batch_at q b x
 merging_le q b (Claimed j) = omega arith
 merging_le q b (Loaded z) = omega arith
 merging_le q b (Arrived z) = omega arith
 merging_le q b (Put z) = omega arith
-merging_le q b (Batch z) = both (eqb z.search q) (eqb z.batch b) z.at_slot
-  where
-    both : (a b c : Bool) → one_if (a && b && c) ≤ one_if (a && b)
-    both true true true = omega arith
-    both true true false = omega arith
-    both true false c = omega arith
-    both false b c = omega arith
+merging_le q b (Batch z) = one_if_fewer (eqb z.search q) (eqb z.batch b) z.at_slot
 merging_le q b (Closed z) = omega arith
-
--- what is neither put nor reached is fresh
-none_but : (y : Slot) → was_put y ≡ 0 → is_reached y ≡ 0 → y ≡ fresh
-none_but fresh h k = refl
-none_but reached h k = absurd (omega arith)
-none_but (holds l) h k = absurd (omega arith)
-none_but emptied h k = absurd (omega arith)
-
-put_or_reached : (y : Slot) → was_put y + is_reached y ≤ 1
-put_or_reached fresh = omega arith
-put_or_reached reached = omega arith
-put_or_reached (holds l) = omega arith
-put_or_reached emptied = omega arith
 
 module _ (p : Plan) (good : IsPlan p) where
   abbrev B : ArrivalState → Type 0
@@ -174,20 +142,20 @@ module _ (p : Plan) (good : IsPlan p) where
           let fits : c < length s.counts = subst (λ z. c < z) (sym shape.counts) (place_within p q d low) in
           -- a number that is 1 at the batch alone, where it is brought
           let step : (h : Item → ℕ) (r b : ℕ) → IsOfBatches h → IsBatch p r b → (n ≡ batch_size p q d → h (whole_batch p q d n) ≡ one_if (eqb q r && eqb d b))
-              → in_hands h vs + one_if (leb (batch_size p r b) (get_or s.counts (place_of p r b) 0)) ≡ in_hands h s.desks + one_if (leb (batch_size p r b) (get_or ws (place_of p r b) 0))
-              = λ h r b alone there is. let k = put_gives h s.desks i v w e q t ys x g refl in let z = alone.put (record { search = q; ticket = t }) in let narrow = batch_first p good r b there in
-              dite (ℕ_discrete c (place_of p r b))
-              (λ same. let at = places_apart p q d r b low narrow same in let one = both_one q d r b at.0 at.1 in let new : get_or ws (place_of p r b) 0 ≡ n = subst (λ y. get_or ws y 0 ≡ n) same (get_or-set_same s.counts c n 0 fits) in let old : get_or s.counts (place_of p r b) 0 ≡ get_or s.counts c 0 = ap (λ y. get_or s.counts y 0) (sym same) in
-              let size : batch_size p r b ≡ batch_size p q d = (λ j. batch_size p (sym at.0 j) (sym at.1 j)) in let before = le_none (batch_size p r b) (get_or s.counts (place_of p r b) 0) (omega arith) in
-              dite (ℕ_discrete n (batch_size p q d))
-              (λ full. let y = due_yes h p q d n full in let o = is full in let after = le_one (batch_size p r b) (get_or ws (place_of p r b) 0) (omega arith) in omega arith)
-              (λ short. let y = due_no h p q d n short in let after = le_none (batch_size p r b) (get_or ws (place_of p r b) 0) (omega arith) in omega arith))
-              (λ other. let none = both_none q d r b (λ y. other (λ j. place_of p (y.0 j) (y.1 j))) in let new : get_or ws (place_of p r b) 0 ≡ get_or s.counts (place_of p r b) 0 = get_or-set_other s.counts c (place_of p r b) n 0 (λ y. other (sym y)) in
-              let same : one_if (leb (batch_size p r b) (get_or ws (place_of p r b) 0)) ≡ one_if (leb (batch_size p r b) (get_or s.counts (place_of p r b) 0)) = ap (λ y. one_if (leb (batch_size p r b) y)) new in
-              dite (ℕ_discrete n (batch_size p q d)) (λ full. let y = due_yes h p q d n full in let o = is full in omega arith) (λ short. let y = due_no h p q d n short in omega arith)) in
+          → in_hands h vs + one_if (leb (batch_size p r b) (get_or s.counts (place_of p r b) 0)) ≡ in_hands h s.desks + one_if (leb (batch_size p r b) (get_or ws (place_of p r b) 0))
+          = λ h r b alone there is. let k = put_gives h s.desks i v w e q t ys x g refl in let z = alone.put (record { search = q; ticket = t }) in let narrow = batch_first p good r b there in
+          dite (ℕ_discrete c (place_of p r b))
+          (λ same. let at = places_apart p q d r b low narrow same in let one = both_one q d r b at.0 at.1 in let new : get_or ws (place_of p r b) 0 ≡ n = subst (λ y. get_or ws y 0 ≡ n) same (get_or-set_same s.counts c n 0 fits) in let old : get_or s.counts (place_of p r b) 0 ≡ get_or s.counts c 0 = ap (λ y. get_or s.counts y 0) (sym same) in
+          let size : batch_size p r b ≡ batch_size p q d = (λ j. batch_size p (sym at.0 j) (sym at.1 j)) in let before = le_none (batch_size p r b) (get_or s.counts (place_of p r b) 0) (omega arith) in
+          dite (ℕ_discrete n (batch_size p q d))
+          (λ full. let y = due_yes h p q d n full in let o = is full in let after = le_one (batch_size p r b) (get_or ws (place_of p r b) 0) (omega arith) in omega arith)
+          (λ short. let y = due_no h p q d n short in let after = le_none (batch_size p r b) (get_or ws (place_of p r b) 0) (omega arith) in omega arith))
+          (λ other. let none = both_none q d r b (λ y. other (λ j. place_of p (y.0 j) (y.1 j))) in let new : get_or ws (place_of p r b) 0 ≡ get_or s.counts (place_of p r b) 0 = get_or-set_other s.counts c (place_of p r b) n 0 (λ y. other (sym y)) in
+          let same : one_if (leb (batch_size p r b) (get_or ws (place_of p r b) 0)) ≡ one_if (leb (batch_size p r b) (get_or s.counts (place_of p r b) 0)) = ap (λ y. one_if (leb (batch_size p r b) y)) new in
+          dite (ℕ_discrete n (batch_size p q d)) (λ full. let y = due_yes h p q d n full in let o = is full in omega arith) (λ short. let y = due_no h p q d n short in omega arith)) in
           -- a number that the batch does not have
           let none : (h : Item → ℕ) → IsOfBatches h → h (whole_batch p q d n) ≡ 0 → in_hands h vs ≡ in_hands h s.desks = λ h alone z. let k = put_gives h s.desks i v w e q t ys x g refl in let o = alone.put (record { search = q; ticket = t }) in
-              dite (ℕ_discrete n (batch_size p q d)) (λ full. let y = due_yes h p q d n full in omega arith) (λ short. let y = due_no h p q d n short in omega arith) in
+          dite (ℕ_discrete n (batch_size p q d)) (λ full. let y = due_yes h p q d n full in omega arith) (λ short. let y = due_no h p q d n short in omega arith) in
           record {
             last = λ r b y there h. let a = f.last r b y there h in let k = step (batch_at r b) r b (batch_alone r b) there (λ _. refl) in omega arith;
             due = λ r u y there h. let a = f.due r u y there h in let k = step (due_at r u) r (u / p.batch) (due_alone r u) (ticket_batch p good r u there) (λ full. whole_due q d r u n full there) in omega arith;
@@ -311,11 +279,6 @@ module _ (p : Plan) (good : IsPlan p) where
   batches_move s (close i q b) h ws r c n f = desk_keeps B s i _ _ f (λ v e m. by_label B s _ _ f (λ l o. closes s h n f i q b v l (close_guard p q b v m).real e o))
   batches_move s (stop i k) h ws r c n f = unbatched_stop p good B s f (untouched s f) i k
   batches_move s (stopped i q) h ws r c n f = unbatched_stopped p good B s f (untouched s f) i q
-
-  first_slot : (n j : ℕ) (x : Slot) → get_elem? (replicate n fresh) j ≡ some x → fresh ≡ x
-  first_slot zero j x e = absurd (some-ne-none x (sym e))
-  first_slot (suc n) zero x e = some-injective fresh x e
-  first_slot (suc n) (suc j) x e = first_slot n j x e
 
   none_counted : (q b : ℕ) → IsBatch p q b → is_complete p (opened p) q b ≡ 0
   none_counted q b h = let z = zeros p good (task_count p) (place_of p q b) in let a = batch_some p good q b h in le_none (batch_size p q b) (get_or (opened p).counts (place_of p q b) 0) (omega arith)

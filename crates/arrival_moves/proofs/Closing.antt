@@ -1,8 +1,8 @@
 -- Where a desk is whole and ended and has nothing in hand, every batch's merged result lies in its slot.
-use Rattle.std.proofs.Common.{◌≡◌, ◌≢◌, ℕ, zero, suc, ◌+◌, ◌*◌, ◌/◌, ◌<◌, ◌≤◌, ⊎_elim, true, false, cond, ◌&&◌, eqb, leb, ltb, get_or, List, [], ◌∷◌, length, sym, refl, ap, ◌∙◌, subst, arith}
+use Rattle.std.proofs.Common.{◌≡◌, ℕ, zero, suc, ◌+◌, ◌/◌, ◌<◌, ◌≤◌, ⊎_elim, cond, ◌&&◌, eqb, ltb, get_or, List, [], ◌∷◌, length, sym, refl, ap, ◌∙◌, subst, arith}
 use Rattle.std.specs.List.{sum_by}
 use Rattle.std.specs.Prelude.{IsTrue}
-use Rattle.std.proofs.lemmas.Bool.{and_from, lt-ltb, le-leb, eqb-true, eq-eqb, cases_Bool, cond-true, cond-false}
+use Rattle.std.proofs.lemmas.Bool.{and_from, lt-ltb, le-leb, eqb-true, eq-eqb, cond-true}
 use Rattle.std.proofs.lemmas.List.{take_all}
 use Rattle.std.proofs.lemmas.List.Sums.{sum_by-cons}
 use mathlib.Core.Option.{some, some-injective, some-ne-none}
@@ -15,25 +15,22 @@ use Rattle.arrival_moves.specs.declared.view.View.{View}
 use Rattle.arrival_moves.specs.declared.item.Item.{Item}
 use Rattle.arrival_moves.specs.Lists.{one_if, times}
 use Rattle.arrival_moves.specs.Labels.{task_times}
-use Rattle.arrival_moves.specs.Slots.{Slot, fresh, reached, holds, emptied, in_slot, in_slots, was_put}
+use Rattle.arrival_moves.specs.Slots.{Slot, holds, in_slot, in_slots}
 use Rattle.arrival_moves.specs.Plans.{task_count, tasks_of, drawn_of, place_of, tickets_in, batch_size, IsPlan}
-use Rattle.arrival_moves.specs.Items.{in_item, arrived_at, waiting_of, uncounted_in, batch_at, due_at, closed_at}
+use Rattle.arrival_moves.specs.Items.{in_item, waiting_of, uncounted_in, batch_at, due_at, closed_at}
 use Rattle.arrival_moves.specs.Hands.{in_hand, in_hands}
 use Rattle.arrival_moves.specs.Moves.{ArrivalState}
 use Rattle.arrival_moves.specs.Fairness.{everywhere, IsOfSearch, of_search, failed_tasks, skipped_tasks}
 use Rattle.arrival_moves.specs.Closing.{IsAtEnd}
 use Rattle.arrival_moves.proofs.Sums.{Each, sum_by_has, sum_by_pair}
 use Rattle.arrival_moves.proofs.Each.{each_tail}
-use Rattle.arrival_moves.proofs.NumberLists.{one_if_le}
 use Rattle.arrival_moves.proofs.BatchRanges.{batch_some}
-use Rattle.arrival_moves.specs.Fairness.{HasShape}
 use Rattle.arrival_moves.proofs.Places.{place_within, place_at}
 use Rattle.arrival_moves.proofs.LabelsFit.{IsBatch, batch_first, ticket_batch}
-use Rattle.arrival_moves.proofs.Unbatched.{was_emptied}
-use Rattle.arrival_moves.proofs.Batches.{is_complete, has_slot}
+use Rattle.arrival_moves.proofs.SlotStates.{emptied_none, full_slot, full_of, has_slot}
+use Rattle.arrival_moves.proofs.Batches.{is_complete}
 use Rattle.arrival_moves.proofs.Stops.{some_of, cond_some, of_all}
 use Rattle.arrival_moves.proofs.Runs.{IsKept}
-use Rattle.arrival_moves.proofs.Fair.{full_slot}
 
 -- empty hands, empty sums
 none_in_hands : (f : Item → ℕ) (vs : List View) → Each (λ (v : View). v.hand ≡ []) vs → in_hands f vs ≡ 0
@@ -48,18 +45,6 @@ none_in_slots f (y ∷ ys) h = let a = sum_by-cons (in_slot f) y ys in let b = h
 some_slot : (f : Label → ℕ) (xs : List Slot) → 1 ≤ in_slots f xs → (j : ℕ) × (y : Slot) × (get_elem? xs j ≡ some y) × (1 ≤ in_slot f y)
 some_slot f [] h = absurd (omega arith)
 some_slot f (y ∷ ys) h = let a = sum_by-cons (in_slot f) y ys in ⊎_elim (λ (z : 1 ≤ in_slot f y). (0, y, refl, z)) (λ (z : 1 ≤ in_slots f ys). let r = some_slot f ys z in (suc r.0, r.1, r.2, r.3)) (some_of (in_slot f y) (in_slots f ys) (omega arith))
-
-full_of : (f : Label → ℕ) (y : Slot) → 1 ≤ in_slot f y → (l : Label) × (y ≡ holds l) × (1 ≤ f l)
-full_of f fresh h = absurd (omega arith)
-full_of f reached h = absurd (omega arith)
-full_of f (holds l) h = (l, refl, h)
-full_of f emptied h = absurd (omega arith)
-
-emptied_none : (f : Label → ℕ) (y : Slot) → was_emptied y ≡ 1 → in_slot f y ≡ 0
-emptied_none f fresh h = absurd (omega arith)
-emptied_none f reached h = absurd (omega arith)
-emptied_none f (holds l) h = absurd (omega arith)
-emptied_none f emptied h = refl
 
 there_below : {A : Type 0} (xs : List A) (j : ℕ) (y : A) → get_elem? xs j ≡ some y → j < length xs
 there_below [] j y e = absurd (some-ne-none y (sym e))

@@ -5,7 +5,7 @@ use mathlib.Core.Option.{some}
 use mathlib.Core.Logic.{dite}
 use native.Mathlib.Decide.{ℕ_discrete, dec_lt}
 use lib.ListN.{get_elem?}
-use Rattle.arrival_moves.specs.AfterMove.{reached_item, after_claim, after_take_task, after_arrive, after_put, after_count, after_stop, batch_due}
+use Rattle.arrival_moves.specs.AfterMove.{after_claim, after_take_task, after_arrive, after_put, after_count, after_stop, batch_due}
 use Rattle.arrival_moves.specs.Hands.{in_hands, find_item}
 use Rattle.arrival_moves.specs.Items.{arrived_at, put_at, uncounted_in, is_loaded, is_arrived, is_put, is_at_slot}
 use Rattle.arrival_moves.specs.Lists.{one_if}
@@ -13,7 +13,7 @@ use Rattle.arrival_moves.specs.Moves.{ArrivalState, Move, claim, take_task, arri
 use Rattle.arrival_moves.specs.Plans.{task_count, place_of, search_of, tasks_of, tickets_in, IsPlan}
 use Rattle.arrival_moves.specs.Slots.{Slot}
 use Rattle.arrival_moves.specs.declared.item.Item.{Item}
-use Rattle.arrival_moves.specs.declared.item.Item.TheVariants.{Claimed, Loaded, Arrived, Put, Batch, Closed}
+use Rattle.arrival_moves.specs.declared.item.Item.TheVariants.{Claimed, Loaded, Put}
 use Rattle.arrival_moves.specs.declared.plan.Plan.{Plan}
 use Rattle.arrival_moves.specs.declared.view.View.{View}
 use Rattle.arrival_moves.proofs.Cases.{desk_keeps, item_keeps, by_test}
@@ -30,24 +30,10 @@ pub record CountsFit (p : Plan) (s : ArrivalState) : Type 0 where
   pub counts : (q b : ℕ) → b * p.batch < tasks_of p q → get_or s.counts (place_of p q b) 0 + in_hands (uncounted_in p q b) s.desks ≡ tickets_in p b (get_or s.tickets q 0)
 
 put_quiet : (q t : ℕ) → IsQuiet (put_at q t)
-put_quiet q t = record { opens = same; batch = λ z. refl; closed = λ z. refl } where
-  same : (x : Item) → put_at q t (reached_item x) ≡ put_at q t x
-  same (Claimed j) = refl
-  same (Loaded z) = refl
-  same (Arrived z) = refl
-  same (Put z) = refl
-  same (Batch z) = refl
-  same (Closed z) = refl
+put_quiet q t = record { arrived = λ z. refl; batch = λ z. refl; closed = λ z. refl }
 
 pub uncounted_quiet : (p : Plan) (q b : ℕ) → IsQuiet (uncounted_in p q b)
-uncounted_quiet p q b = record { opens = same; batch = λ z. refl; closed = λ z. refl } where
-  same : (x : Item) → uncounted_in p q b (reached_item x) ≡ uncounted_in p q b x
-  same (Claimed j) = refl
-  same (Loaded z) = refl
-  same (Arrived z) = refl
-  same (Put z) = refl
-  same (Batch z) = refl
-  same (Closed z) = refl
+uncounted_quiet p q b = record { arrived = λ z. refl; batch = λ z. refl; closed = λ z. refl }
 
 further : (x y n : ℕ) → x < y → x * n + n ≤ y * n
 further x y n h = let a : suc x * n ≤ y * n = mul-le-mul_right n h in omega (arith, suc-mul x n)

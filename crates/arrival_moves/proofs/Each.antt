@@ -1,8 +1,7 @@
 -- A fact of each element of a list, kept where one item of a hand gives way to others.
-use Rattle.std.proofs.Common.{◌≡◌, ℕ, zero, suc, ⊎_elim, Bool, true, false, cond, List, [], ◌∷◌, ◌++◌, sym, refl, subst, arith}
+use Rattle.std.proofs.Common.{◌≡◌, zero, suc, Bool, List, [], ◌∷◌, ◌++◌, sym, refl, subst}
 use Rattle.std.proofs.lemmas.Bool.{cond_both}
-use mathlib.Core.Option.{Option, none, some, some-injective, some-ne-none}
-use lib.ListN.{get_elem?}
+use mathlib.Core.Option.{Option, some, some-injective, some-ne-none}
 use Rattle.arrival_moves.specs.declared.item.Item.{Item}
 use Rattle.arrival_moves.specs.Hands.{find_item, exchanged}
 use Rattle.arrival_moves.proofs.Sums.{Each}

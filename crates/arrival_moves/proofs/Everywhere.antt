@@ -1,5 +1,5 @@
 -- What each move does to a number of all labels, in the hands and in the slots.
-use Rattle.std.proofs.Common.{◌≡◌, ℕ, ◌+◌, ◌*◌, ◌/◌, ◌<◌, ◌≤◌, Bool, true, false, get_or, ltb, List, [], ◌∷◌, ◌++◌, set, sym, refl, ap, ◌∙◌, arith}
+use Rattle.std.proofs.Common.{◌≡◌, ℕ, ◌+◌, ◌*◌, ◌/◌, ◌<◌, ◌≤◌, Bool, true, false, get_or, List, [], ◌∷◌, set, refl, ap, arith}
 use Rattle.std.specs.Prelude.{◌==◌}
 use Rattle.std.specs.List.{sum_by}
 use Rattle.std.proofs.lemmas.Bool.{cond_both, cond-true, cond-false, lt-ltb, le-ltb}
@@ -15,18 +15,19 @@ use Rattle.arrival_moves.specs.declared.item.ArrivedTask.{ArrivedTask}
 use Rattle.arrival_moves.specs.declared.item.HeldBatch.{HeldBatch}
 use Rattle.arrival_moves.specs.Lists.{numbers_from}
 use Rattle.arrival_moves.specs.Labels.{no_label, task_label, joined_label}
-use Rattle.arrival_moves.specs.Slots.{Slot, fresh, reached, holds, emptied, in_slot, in_slots, was_put}
-use Rattle.arrival_moves.specs.Plans.{task_count, search_of, place_of, batch_size, IsPlan}
-use Rattle.arrival_moves.specs.Items.{is_loaded, is_arrived, is_put, is_batch, is_marked, in_item}
-use Rattle.arrival_moves.specs.Hands.{find_item, in_hands}
+use Rattle.arrival_moves.specs.Slots.{Slot, reached, holds, emptied, in_slot, was_put}
+use Rattle.arrival_moves.specs.Plans.{task_count, search_of, place_of, batch_size}
+use Rattle.arrival_moves.specs.Items.{is_loaded, is_arrived, is_batch, is_marked, in_item}
+use Rattle.arrival_moves.specs.Hands.{find_item}
 use Rattle.arrival_moves.specs.AfterMove.{after_claim, after_take_task, after_arrive, after_reach_result, after_put, after_count, after_take_result, after_reach_batch, after_put_merged, after_close, after_stop, after_stopped, reached_item, batch_due, taken_from}
-use Rattle.arrival_moves.specs.Moves.{ArrivalState, claim, take_task, arrive, count, split, join, close, stopped, move}
+use Rattle.arrival_moves.specs.Moves.{ArrivalState, take_task, arrive, count, split, join, close, stopped, move}
 use Rattle.arrival_moves.specs.Fairness.{everywhere}
 use Rattle.arrival_moves.proofs.Sums.{sum_by_set}
 use Rattle.arrival_moves.proofs.Cases.{desk_keeps, item_keeps, by_label, hands_exchanged}
-use Rattle.arrival_moves.proofs.Items.{hands_more, hands_same, claimed_gives, loaded_gives, arrived_gives, put_gives, batch_gives}
+use Rattle.arrival_moves.proofs.Items.{hands_more, hands_same, claimed_gives, loaded_gives, put_gives}
 use Rattle.arrival_moves.proofs.Quiet.{hands_split, hands_join, apart_from, bare}
 use Rattle.arrival_moves.proofs.Loads.{arrived_items}
+use Rattle.arrival_moves.proofs.SlotStates.{holds_none}
 
 -- a task in hand, marked failed or not
 abbrev pub marked_label : ℕ → Bool → Label
@@ -46,13 +47,7 @@ same_reached f (Put z) = refl
 same_reached f (Batch z) = refl
 same_reached f (Closed z) = refl
 
--- a slot into which nothing was put holds nothing
-holds_none : (f : Label → ℕ) (y : Slot) → was_put y ≡ 0 → in_slot f y ≡ 0
-holds_none f fresh h = refl
-holds_none f reached h = refl
-holds_none f (holds l) h = absurd (omega arith)
-holds_none f emptied h = refl
-
+-- a last count brings a batch of which nothing is taken
 due_nothing : (f : Label → ℕ) (p : Plan) (q b n : ℕ) → f no_label ≡ 0 → sum_by (in_item f) (batch_due p q b n) ≡ 0
 due_nothing f p q b n h = let y : Item = Batch (record { search = q; batch = b; due = numbers_from (b * p.batch) n; taken = no_label; at_slot = false }) in
     cond_both (n == batch_size p q b) (y ∷ []) [] (λ (ys : List Item). sum_by (in_item f) ys ≡ 0) (λ _. let a = sum_by-cons (in_item f) y [] in omega arith) (λ _. refl)

@@ -1,5 +1,5 @@
 -- Every list of moves leaves a fair state.
-use Rattle.std.proofs.Common.{◌≡◌, ℕ, ◌+◌, ◌/◌, ◌<◌, ◌≤◌, ◌⊎◌, ⊎_elim, leb, ltb, get_or, List, sym, refl, ap, ◌∙◌, subst, arith}
+use Rattle.std.proofs.Common.{◌≡◌, ℕ, ◌/◌, ◌<◌, ◌≤◌, ◌⊎◌, ⊎_elim, leb, get_or, List, sym, ap, ◌∙◌, subst, arith}
 use Rattle.std.proofs.lemmas.Bool.{lt-leb}
 use mathlib.Core.Option.{some}
 use lib.ListN.{get_elem?}
@@ -7,26 +7,19 @@ use Rattle.arrival_moves.specs.declared.label.Label.{Label}
 use Rattle.arrival_moves.specs.declared.plan.Plan.{Plan}
 use Rattle.arrival_moves.specs.declared.item.Item.TheVariants.{Batch, Closed}
 use Rattle.arrival_moves.specs.Lists.{one_if}
-use Rattle.arrival_moves.specs.Slots.{Slot, fresh, reached, holds, emptied, was_put}
+use Rattle.arrival_moves.specs.Slots.{holds}
 use Rattle.arrival_moves.specs.Plans.{tasks_of, place_of, batch_size, IsPlan}
-use Rattle.arrival_moves.specs.Items.{arrived_at, put_at, due_at}
+use Rattle.arrival_moves.specs.Items.{arrived_at, due_at}
 use Rattle.arrival_moves.specs.Hands.{in_hands}
 use Rattle.arrival_moves.specs.Moves.{ArrivalState, Move, run}
 use Rattle.arrival_moves.specs.Fairness.{IsFair}
-use Rattle.arrival_moves.proofs.NumberLists.{one_if_le}
+use Rattle.arrival_moves.proofs.OneIf.{one_if_le}
 use Rattle.arrival_moves.proofs.Quiet.{lt_one}
 use Rattle.arrival_moves.proofs.Words.{drawn_le}
 use Rattle.arrival_moves.proofs.Places.{place_within}
-use Rattle.arrival_moves.proofs.Batches.{is_complete, has_slot}
-use Rattle.arrival_moves.proofs.Unbatched.{was_emptied}
+use Rattle.arrival_moves.proofs.Batches.{is_complete}
+use Rattle.arrival_moves.proofs.SlotStates.{was_emptied, full_slot, has_slot}
 use Rattle.arrival_moves.proofs.Runs.{IsKept, kept_run}
-
--- what was put and not emptied is full
-pub full_slot : (y : Slot) → was_put y ≡ 1 → was_emptied y ≡ 0 → (l : Label) × (y ≡ holds l)
-full_slot fresh h k = absurd (omega arith)
-full_slot reached h k = absurd (omega arith)
-full_slot (holds l) h k = (l, refl)
-full_slot emptied h k = absurd (omega arith)
 
 module _ (p : Plan) (good : IsPlan p) (s : ArrivalState) (f : IsKept p s) where
   -- a ticket that was drawn is one of its search

@@ -1,9 +1,9 @@
 -- A result stands for one task of its search, and what a desk has in hand and the merged results for tasks of theirs.
-use Rattle.std.proofs.Common.{◌≡◌, ◌≢◌, ℕ, zero, suc, replicate, div-add-mod', ◌%◌, ◌+◌, ◌*◌, ◌/◌, ◌<◌, ◌≤◌, ⊎_elim, Bool, true, false, not, ◌||◌, ◌&&◌, eqb, ltb, get_or, List, [], ◌∷◌, ◌++◌, length, set, sym, refl, ap, ◌∙◌, subst, arith}
-use Rattle.std.specs.Prelude.{◌==◌, if◌then◌else◌}
+use Rattle.std.proofs.Common.{◌≡◌, ◌≢◌, ℕ, zero, suc, div-add-mod', ◌%◌, ◌+◌, ◌*◌, ◌/◌, ◌<◌, ◌≤◌, ⊎_elim, Bool, true, false, not, ◌&&◌, eqb, ltb, get_or, List, [], ◌∷◌, ◌++◌, length, set, sym, refl, ap, ◌∙◌, subst, arith}
+use Rattle.std.specs.Prelude.{◌==◌}
 use Rattle.std.proofs.lemmas.Bool.{false≢true, and_parts, ltb-true, eqb-true, or_cases, cond_both}
 use Rattle.std.proofs.lemmas.List.{length-append}
-use mathlib.Core.Option.{some, some-injective, some-ne-none}
+use mathlib.Core.Option.{some}
 use lib.ListN.{get_elem?}
 use Rattle.arrival_moves.specs.declared.label.Label.{Label}
 use Rattle.arrival_moves.specs.declared.plan.Plan.{Plan}
@@ -12,22 +12,21 @@ use Rattle.arrival_moves.specs.declared.item.Item.{Item}
 use Rattle.arrival_moves.specs.declared.item.Item.TheVariants.{Claimed, Loaded, Arrived, Put, Batch, Closed}
 use Rattle.arrival_moves.specs.declared.item.ArrivedTask.{ArrivedTask}
 use Rattle.arrival_moves.specs.declared.item.HeldBatch.{HeldBatch}
-use Rattle.arrival_moves.specs.declared.item.ClosedBatch.{ClosedBatch}
-use Rattle.arrival_moves.specs.Lists.{one_if, times, contains, without, numbers_from}
-use Rattle.arrival_moves.specs.Labels.{no_label, joined_label, task_times}
+use Rattle.arrival_moves.specs.Lists.{one_if, times, contains, numbers_from}
+use Rattle.arrival_moves.specs.Labels.{no_label}
 use Rattle.arrival_moves.specs.Slots.{Slot, fresh, reached, holds, emptied}
 use Rattle.arrival_moves.specs.Plans.{task_count, search_of, tasks_of, place_of, batch_size, IsPlan}
 use Rattle.arrival_moves.specs.Items.{is_marked, is_claimed, is_loaded, is_arrived, is_put, is_batch, is_at_slot, is_due}
 use Rattle.arrival_moves.specs.Hands.{find_item, exchanged}
-use Rattle.arrival_moves.specs.AfterMove.{first_view, spent_view, after_close, after_stopped, after_claim, after_arrive, after_count, after_split, split_off, after_join, reached_item, batch_due, taken_from}
+use Rattle.arrival_moves.specs.AfterMove.{first_view, spent_view, after_close, after_stopped, after_claim, after_split, split_off, after_join, reached_item, batch_due, taken_from}
 use Rattle.arrival_moves.specs.Guards.{may_put, may_put_merged, implies}
 use Rattle.arrival_moves.specs.Moves.{ArrivalState, Move, claim, take_task, arrive, put, count, take_result, put_merged, split, join, close, stop, stopped, move, opened}
 use Rattle.arrival_moves.specs.Fairness.{IsOfSearch, HoldsMerged}
 use Rattle.arrival_moves.proofs.Lists.{at_set}
 use Rattle.arrival_moves.proofs.Sums.{Each, each_set, each_snoc}
-use Rattle.arrival_moves.proofs.Each.{each_none, each_cons, each_one, each_append, each_exchanged, each_found}
-use Rattle.arrival_moves.proofs.NumberLists.{one_if_true, times_append, times_one, contains_times, times_without, length_without, numbers_length, same_is}
-use Rattle.arrival_moves.proofs.BatchRanges.{batch_within, batch_some}
+use Rattle.arrival_moves.proofs.Each.{each_none, each_one, each_append, each_exchanged, each_found}
+use Rattle.arrival_moves.proofs.NumberLists.{times_append, times_one, contains_times, times_without, length_without, numbers_length, same_is}
+use Rattle.arrival_moves.proofs.BatchRanges.{batch_within}
 use Rattle.arrival_moves.proofs.Cases.{desk_keeps, item_keeps, by_label, by_test, found_is}
 use Rattle.arrival_moves.proofs.CloseGuards.{close_guard}
 use Rattle.arrival_moves.proofs.Items.{as_claimed, as_loaded, as_arrived, as_batch}
@@ -36,6 +35,8 @@ use Rattle.arrival_moves.proofs.Words.{WordsFit}
 use Rattle.arrival_moves.proofs.Places.{places_apart}
 use Rattle.arrival_moves.proofs.Results.{ResultsFit, in_range}
 use Rattle.arrival_moves.proofs.Counts.{CountsFit, counted, within_batch}
+use Rattle.arrival_moves.proofs.OneIf.{one_if_true}
+use Rattle.arrival_moves.proofs.SlotStates.{is_full, first_slot}
 
 -- of a batch in hand: what was taken and what is due are the batch
 pub record HeldFits (p : Plan) (z : HeldBatch) : Type 0 where
@@ -80,10 +81,6 @@ pub record LabelsFit (p : Plan) (s : ArrivalState) : Type 0 where
   pub batches : SlotsFit (IsBatch p) (MergedFits p) p s.batches
   -- a slot that is no batch's is never full
   pub real : SlotsFit (IsTicket p) (λ q b l. IsBatch p q b) p s.batches
-
-abbrev pub is_full : Slot → ℕ
-is_full (holds l) = 1
-is_full _ = 0
 
 label_in : Slot → Label
 label_in (holds l) = l
@@ -270,15 +267,13 @@ module _ (p : Plan) (good : IsPlan p) where
       desks_only s f _ refl refl (gives_one s f i v e (is_loaded k) (Loaded (record { task = k; failed = true })) (subst (λ y. y < task_count p) z.2 fits)))
   labels_move s (stopped i q) h ws r c f = desk_keeps L s i _ _ f (λ v e _. desks_only s f _ refl refl (each_set (HandFits p) s.desks i (after_stopped v q (get_or s.stops q 0)) f.hands (f.hands i v e)))
 
-  none_full : (n : ℕ) (l : Label) (j : ℕ) → get_elem? (replicate n fresh) j ≡ some (holds l) → ⊥
-  none_full zero l j e = some-ne-none (holds l) (sym e)
-  none_full (suc n) l zero e = let a : is_full fresh ≡ is_full (holds l) = ap is_full (some-injective fresh (holds l) e) in omega arith
-  none_full (suc n) l (suc j) e = none_full n l j e
+  none_full : {A : Type 0} (l : Label) → fresh ≡ holds l → A
+  none_full l e = let a : is_full fresh ≡ is_full (holds l) = ap is_full e in absurd (omega arith)
 
   pub labels_opened : L (opened p)
   labels_opened = record {
     hands = each_one (HandFits p) first_view (each_none (ItemFits p));
-    results = λ q t l _ e. absurd (none_full (task_count p) l _ e);
-    batches = λ q t l _ e. absurd (none_full (task_count p) l _ e);
-    real = λ q t l _ e. absurd (none_full (task_count p) l _ e);
+    results = λ q t l _ e. none_full l (first_slot (task_count p) _ (holds l) e);
+    batches = λ q t l _ e. none_full l (first_slot (task_count p) _ (holds l) e);
+    real = λ q t l _ e. none_full l (first_slot (task_count p) _ (holds l) e);
   }

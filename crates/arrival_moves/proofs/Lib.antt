@@ -1,4 +1,6 @@
 pub mod Lists
+pub mod OneIf
+pub mod SlotStates
 pub mod Sums
 pub mod Cases
 pub mod CloseGuards

@@ -6,7 +6,7 @@ use mathlib.Core.Logic.{dite}
 use native.Mathlib.Decide.{ℕ_discrete, dec_lt}
 use lib.ListN.{get_elem?}
 use Rattle.arrival_moves.proofs.Lists.{set_else}
-use Rattle.arrival_moves.specs.AfterMove.{reached_item, after_claim, after_take_task, after_arrive, after_put, after_count, after_stop, batch_due}
+use Rattle.arrival_moves.specs.AfterMove.{after_claim, after_take_task, after_arrive, after_put, after_count, after_stop, batch_due}
 use Rattle.arrival_moves.specs.Hands.{in_hands, find_item}
 use Rattle.arrival_moves.specs.Items.{claimed_at, is_claimed, is_at_slot, is_marked}
 use Rattle.arrival_moves.specs.Labels.{task_label}
@@ -15,7 +15,7 @@ use Rattle.arrival_moves.specs.Moves.{ArrivalState, Move, claim, take_task, arri
 use Rattle.arrival_moves.specs.Plans.{task_count, place_of, search_of}
 use Rattle.arrival_moves.specs.Slots.{holds, emptied}
 use Rattle.arrival_moves.specs.declared.item.Item.{Item}
-use Rattle.arrival_moves.specs.declared.item.Item.TheVariants.{Claimed, Loaded, Arrived, Put, Batch, Closed}
+use Rattle.arrival_moves.specs.declared.item.Item.TheVariants.{Claimed, Loaded, Arrived, Put}
 use Rattle.arrival_moves.specs.declared.plan.Plan.{Plan}
 use Rattle.arrival_moves.specs.declared.view.View.{View}
 use Rattle.arrival_moves.proofs.Cases.{desk_keeps, item_keeps, by_test}
@@ -28,14 +28,7 @@ pub record LoadsFit (p : Plan) (s : ArrivalState) : Type 0 where
   pub tasks : (k : ℕ) → 1 ≤ in_hands (claimed_at k) s.desks → k < task_count p
 
 pub claimed_quiet : (k : ℕ) → IsQuiet (claimed_at k)
-claimed_quiet k = record { opens = same; batch = λ z. refl; closed = λ z. refl } where
-  same : (x : Item) → claimed_at k (reached_item x) ≡ claimed_at k x
-  same (Claimed j) = refl
-  same (Loaded z) = refl
-  same (Arrived z) = refl
-  same (Put z) = refl
-  same (Batch z) = refl
-  same (Closed z) = refl
+claimed_quiet k = record { arrived = λ z. refl; batch = λ z. refl; closed = λ z. refl }
 
 -- what comes into the hand with a ticket
 abbrev pub arrived_items : ℕ → Item → ℕ → ℕ → List Item

@@ -4,9 +4,9 @@ use Rattle.arrival_moves.specs.declared.label.Label.{Label}
 use Rattle.arrival_moves.specs.declared.plan.Plan.{Plan}
 use Rattle.arrival_moves.specs.declared.view.View.{View}
 use Rattle.arrival_moves.specs.declared.item.Item.{Item}
-use Rattle.arrival_moves.specs.declared.item.Item.TheVariants.{Claimed, Loaded, Arrived, Put, Batch}
+use Rattle.arrival_moves.specs.declared.item.Item.TheVariants.{Claimed, Put, Batch}
 use Rattle.arrival_moves.specs.Labels.{task_label, no_label}
-use Rattle.arrival_moves.specs.Slots.{fresh, reached, holds, emptied}
+use Rattle.arrival_moves.specs.Slots.{fresh, holds, emptied}
 use Rattle.arrival_moves.specs.Moves.{Move, claim, take_task, arrive, put, count, take_result, put_merged, run, move_desk, move_item, move_label}
 
 abbrev three_tasks : Plan

@@ -1,18 +1,11 @@
 -- How often a number is in a list, and the numbers of a range.
-use Rattle.std.proofs.Common.{◌≡◌, ◌≢◌, ℕ, zero, suc, ◌+◌, ◌<◌, ◌≤◌, ⊎_elim, Bool, true, false, cond, ◌||◌, eqb, leb, ltb, ◌&&◌, List, [], ◌∷◌, ◌++◌, length, refl, sym, ap, ◌∙◌, arith}
-use Rattle.std.proofs.lemmas.Bool.{false≢true, and_parts, and_from, and_left, and_right, or_cases, eqb-true, eqb-false, eq-eqb, ne_eqb, le-leb, lt-ltb, lt-leb, le-ltb, cases_Bool, cond-true, cond-false}
+use Rattle.std.proofs.Common.{◌≡◌, ℕ, zero, suc, ◌+◌, ◌<◌, ◌≤◌, ⊎_elim, true, false, ◌||◌, eqb, List, [], ◌∷◌, ◌++◌, length, refl, sym, ap, ◌∙◌, arith}
+use Rattle.std.proofs.lemmas.Bool.{false≢true, and_parts, or_cases, eqb-true, eq-eqb, ne_eqb, cases_Bool, cond-true, cond-false}
 use Rattle.std.proofs.lemmas.List.Sums.{sum_by-cons, sum_by-append}
 use mathlib.Core.Logic.{dite}
-use native.Mathlib.Decide.{ℕ_discrete, dec_lt, dec_le}
+use native.Mathlib.Decide.{ℕ_discrete}
 use Rattle.arrival_moves.specs.Lists.{one_if, times, contains, without, same_list, numbers_from}
-
-pub one_if_le : (b : Bool) → one_if b ≤ 1
-one_if_le true = omega arith
-one_if_le false = omega arith
-
-pub one_if_true : (b : Bool) → 1 ≤ one_if b → b ≡ true
-one_if_true true h = refl
-one_if_true false h = absurd (omega arith)
+use Rattle.arrival_moves.proofs.OneIf.{one_if_true}
 
 pub times_cons : (k x : ℕ) (xs : List ℕ) → times k (x ∷ xs) ≡ one_if (eqb x k) + times k xs
 times_cons k x xs = sum_by-cons (λ y. one_if (eqb y k)) x xs

@@ -16,7 +16,8 @@ use Rattle.arrival_moves.specs.Slots.{Slot}
 use Rattle.arrival_moves.specs.declared.item.ClosedBatch.{ClosedBatch}
 use Rattle.arrival_moves.specs.declared.item.HeldBatch.{HeldBatch}
 use Rattle.arrival_moves.specs.declared.item.Item.{Item}
-use Rattle.arrival_moves.specs.declared.item.Item.TheVariants.{Batch, Closed}
+use Rattle.arrival_moves.specs.declared.item.Item.TheVariants.{Claimed, Loaded, Arrived, Put, Batch, Closed}
+use Rattle.arrival_moves.specs.declared.item.ArrivedTask.{ArrivedTask}
 use Rattle.arrival_moves.specs.declared.label.Label.{Label}
 use Rattle.arrival_moves.specs.declared.plan.Plan.{Plan}
 use Rattle.arrival_moves.specs.declared.view.View.{View}
@@ -38,10 +39,19 @@ eq_none a b h = ap one_if (ne_eqb a b h)
 
 -- a number of tasks and tickets: batches have none, and being at a slot is no matter
 pub record IsQuiet (f : Item → ℕ) : Type 0 where
-  pub opens : (x : Item) → f (reached_item x) ≡ f x
+  pub arrived : (z : ArrivedTask) → f (reached_item (Arrived z)) ≡ f (Arrived z)
   pub batch : (z : HeldBatch) → f (Batch z) ≡ 0
   pub closed : (z : ClosedBatch) → f (Closed z) ≡ 0
 
+pub quiet_reached : (f : Item → ℕ) → IsQuiet f → (x : Item) → f (reached_item x) ≡ f x
+quiet_reached f h (Claimed j) = refl
+quiet_reached f h (Loaded z) = refl
+quiet_reached f h (Arrived z) = h.arrived z
+quiet_reached f h (Put z) = refl
+quiet_reached f h (Batch z) = h.batch (record z { at_slot = true }) ∙ sym (h.batch z)
+quiet_reached f h (Closed z) = refl
+
+-- no such number changes, nor the words and slots that speak of them
 pub record Quietly (s t : ArrivalState) : Type 0 where
   pub claimed : t.claimed ≡ s.claimed
   pub tickets : t.tickets ≡ s.tickets
@@ -75,7 +85,7 @@ apart_from i j m y = true≢false (sym m ∙ ap not (eq-eqb i j (sym y)))
 module _ (p : Plan) (P : ArrivalState → Type 0) (s : ArrivalState) (f : P s) (k : (t : ArrivalState) → Quietly s t → P t) where
   -- the desk is at the slot of the ticket
   pub quiet_open : (i q t : ℕ) (v : View) (x : Item) (rs : List Slot) → get_elem? s.desks i ≡ some v → find_item (is_arrived q t) v.hand ≡ some x → P (record s { results = rs; desks = set s.desks i (after_reach_result v q t x) })
-  quiet_open i q t v x rs e g = k _ (record { claimed = refl; tickets = refl; counts = refl; loads = refl; hands = λ h is. let a = hands_exchanged h s.desks i v (after_reach_result v q t x) (is_arrived q t) (reached_item x ∷ []) x e g refl in let b = is.opens x in omega arith })
+  quiet_open i q t v x rs e g = k _ (record { claimed = refl; tickets = refl; counts = refl; loads = refl; hands = λ h is. let a = hands_exchanged h s.desks i v (after_reach_result v q t x) (is_arrived q t) (reached_item x ∷ []) x e g refl in let b = quiet_reached h is x in omega arith })
 
   pub quiet_take : (i q t : ℕ) → P (move p s (take_result i q t))
   quiet_take i q t = item_keeps P s i _ _ _ f (λ v e x g m. by_label P s _ _ f (λ l o. k _ (record {
@@ -89,7 +99,7 @@ module _ (p : Plan) (P : ArrivalState → Type 0) (s : ArrivalState) (f : P s) (
   pub quiet_merged : (i q b : ℕ) (l : Label) → P (move p s (put_merged i q b l))
   quiet_merged i q b l = item_keeps P s i _ _ _ f (λ v e x g m. by_test P (is_at_slot x) _ _
       (λ _. k _ (record { claimed = refl; tickets = refl; counts = refl; loads = refl; hands = λ h is. let a = batch_gives h s.desks i v (after_put_merged v q b) e q b [] x g refl in let c = is.batch a.0 in let d = a.4 in omega arith }))
-      (λ _. k _ (record { claimed = refl; tickets = refl; counts = refl; loads = refl; hands = λ h is. let a = hands_exchanged h s.desks i v (after_reach_batch v q b x) (is_batch q b) (reached_item x ∷ []) x e g refl in let c = is.opens x in omega arith })))
+      (λ _. k _ (record { claimed = refl; tickets = refl; counts = refl; loads = refl; hands = λ h is. let a = hands_exchanged h s.desks i v (after_reach_batch v q b x) (is_batch q b) (reached_item x ∷ []) x e g refl in let c = quiet_reached h is x in omega arith })))
 
   pub quiet_split : (i n : ℕ) → P (move p s (split i n))
   quiet_split i n = desk_keeps P s i _ _ f (λ v e m. k _ (record { claimed = refl; tickets = refl; counts = refl; loads = refl; hands = λ h is. hands_split h s.desks i n v e }))

@@ -1,11 +1,10 @@
 -- A stopped search beside one that runs on, and two desks by split and join, computed.
-use Rattle.std.specs.Prelude.{◌≡◌, refl, ℕ, true, false, List, [], ◌∷◌, ◌++◌}
+use Rattle.std.specs.Prelude.{◌≡◌, refl, true, false, List, [], ◌∷◌, ◌++◌}
 use Rattle.arrival_moves.specs.declared.label.Label.{Label}
 use Rattle.arrival_moves.specs.declared.plan.Plan.{Plan}
-use Rattle.arrival_moves.specs.declared.view.View.{View}
-use Rattle.arrival_moves.specs.declared.item.Item.TheVariants.{Claimed, Loaded, Arrived, Put, Batch, Closed}
-use Rattle.arrival_moves.specs.Labels.{task_label, no_label}
-use Rattle.arrival_moves.specs.Slots.{fresh, reached, holds, emptied}
+use Rattle.arrival_moves.specs.declared.item.Item.TheVariants.{Claimed, Loaded, Closed}
+use Rattle.arrival_moves.specs.Labels.{task_label}
+use Rattle.arrival_moves.specs.Slots.{fresh, holds, emptied}
 use Rattle.arrival_moves.specs.AfterMove.{spent_view}
 use Rattle.arrival_moves.specs.Moves.{Move, claim, take_task, arrive, put, count, take_result, put_merged, split, join, close, stop, stopped, run, move_desk, move_item, move_label}
 

@@ -1,11 +1,10 @@
 -- A stop word is 1 only where a task or a result of its search failed; where a desk noted its search, or a result of it
 -- was skipped, it is 1.
-use Rattle.std.proofs.Common.{◌≡◌, ◌≢◌, ℕ, zero, suc, ◌+◌, ◌/◌, ◌<◌, ◌≤◌, ⊎_elim, ◌⊎◌, inl, inr, Bool, true, false, not, cond, ◌&&◌, ◌||◌, eqb, get_or, replicate, List, [], ◌∷◌, ◌++◌, length, set, sym, refl, ap, ◌∙◌, subst, arith, get_or-set_same, get_or-set_other}
+use Rattle.std.proofs.Common.{◌≡◌, ℕ, zero, suc, ◌+◌, ◌/◌, ◌<◌, ◌≤◌, ⊎_elim, ◌⊎◌, inl, inr, Bool, true, false, cond, ◌||◌, eqb, get_or, List, [], ◌∷◌, ◌++◌, length, set, sym, refl, ap, ◌∙◌, subst, arith, get_or-set_other}
 use Rattle.std.specs.Prelude.{◌==◌}
-use Rattle.std.specs.List.{sum_by}
-use Rattle.std.proofs.lemmas.Bool.{true≢false, false≢true, or_cases, eqb-true, eq-eqb, ne_eqb, cond-true, cond-false, cond_both, cases_Bool}
+use Rattle.std.proofs.lemmas.Bool.{false≢true, or_cases, eqb-true, cond-true, cond-false, cond_both, cases_Bool}
 use Rattle.std.proofs.lemmas.List.Sums.{sum_by-cons, sum_by-append}
-use mathlib.Core.Option.{some, some-injective, some-ne-none}
+use mathlib.Core.Option.{some}
 use mathlib.Core.Logic.{dite}
 use native.Mathlib.Decide.{ℕ_discrete, dec_lt}
 use lib.ListN.{get_elem?}
@@ -14,24 +13,25 @@ use Rattle.arrival_moves.specs.declared.plan.Plan.{Plan}
 use Rattle.arrival_moves.specs.declared.view.View.{View}
 use Rattle.arrival_moves.specs.declared.item.Item.{Item}
 use Rattle.arrival_moves.specs.Lists.{one_if, times, contains}
-use Rattle.arrival_moves.specs.Labels.{no_label, task_label, joined_label, task_times}
-use Rattle.arrival_moves.specs.Slots.{Slot, fresh, holds, emptied, in_slot, in_slots}
+use Rattle.arrival_moves.specs.Labels.{joined_label}
+use Rattle.arrival_moves.specs.Slots.{holds, in_slot}
 use Rattle.arrival_moves.specs.Plans.{task_count, search_of, tasks_of, place_of, IsPlan}
 use Rattle.arrival_moves.specs.Items.{is_loaded, is_batch, is_at_slot, is_due, in_item}
-use Rattle.arrival_moves.specs.Hands.{find_item, in_hands}
-use Rattle.arrival_moves.specs.AfterMove.{first_view, spent_view, after_claim, after_split, split_off, after_join, after_close, after_stop, after_stopped}
+use Rattle.arrival_moves.specs.Hands.{find_item}
+use Rattle.arrival_moves.specs.AfterMove.{first_view, spent_view, after_claim, after_split, split_off, after_join, after_stop, after_stopped}
 use Rattle.arrival_moves.specs.Guards.{may_put, may_put_merged, implies}
 use Rattle.arrival_moves.specs.Moves.{ArrivalState, Move, claim, take_task, arrive, put, count, take_result, put_merged, split, join, close, stop, stopped, move, opened}
-use Rattle.arrival_moves.specs.Fairness.{everywhere, IsOfSearch, of_search, failed_tasks, skipped_tasks}
+use Rattle.arrival_moves.specs.Fairness.{everywhere, of_search, failed_tasks, skipped_tasks}
 use Rattle.arrival_moves.proofs.Sums.{Each, each_set, each_snoc, sum_by_has}
 use Rattle.arrival_moves.proofs.Each.{each_one}
-use Rattle.arrival_moves.proofs.NumberLists.{one_if_true, times_cons}
+use Rattle.arrival_moves.proofs.NumberLists.{times_cons}
+use Rattle.arrival_moves.proofs.OneIf.{one_if_true}
 use Rattle.arrival_moves.proofs.Cases.{desk_keeps, item_keeps, by_label, by_test}
 use Rattle.arrival_moves.specs.Fairness.{HasShape}
-use Rattle.arrival_moves.proofs.Quiet.{eq_one, eq_none}
+use Rattle.arrival_moves.proofs.Quiet.{eq_one}
 use Rattle.arrival_moves.proofs.Words.{WordsFit, zeros}
 use Rattle.arrival_moves.proofs.Results.{ResultsFit, slot_there}
-use Rattle.arrival_moves.proofs.LabelsFit.{LabelsFit, HeldFits, arrived_found, batch_found, due_now, due_range, put_label, merged_label}
+use Rattle.arrival_moves.proofs.LabelsFit.{LabelsFit, arrived_found, batch_found, due_now, due_range, put_label, merged_label}
 use Rattle.arrival_moves.proofs.Batches.{BatchesKept, batch_slot, hands_has}
 use Rattle.arrival_moves.proofs.Everywhere.{marked_label, Unmoved, unmoved_take_task, unmoved_arrive, unmoved_reach_result, unmoved_count, unmoved_reach_batch, unmoved_split, unmoved_join, unmoved_close, unmoved_stopped, every_claimed, every_ended, every_put, every_taken, every_merged, every_stop}
 use Rattle.arrival_moves.proofs.TasksOnce.{every_opened}

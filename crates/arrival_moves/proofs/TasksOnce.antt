@@ -1,5 +1,5 @@
 -- Each claimed task is at one place, and no label of a result is empty.
-use Rattle.std.proofs.Common.{◌≡◌, ◌≢◌, ℕ, zero, suc, ◌+◌, ◌/◌, ◌<◌, ◌≤◌, Bool, true, false, ◌&&◌, eqb, ltb, get_or, replicate, List, [], ◌∷◌, ◌++◌, length, set, sym, refl, ap, ◌∙◌, subst, arith}
+use Rattle.std.proofs.Common.{◌≡◌, ℕ, zero, suc, ◌+◌, ◌/◌, ◌<◌, ◌≤◌, true, ◌&&◌, eqb, ltb, replicate, [], ◌∷◌, length, set, sym, refl, ap, ◌∙◌, subst, arith}
 use Rattle.std.proofs.lemmas.Bool.{and_from, lt-ltb, le-ltb}
 use Rattle.std.proofs.lemmas.List.Sums.{sum_by-cons}
 use mathlib.Core.Option.{some, some-injective, some-ne-none}
@@ -12,7 +12,7 @@ use Rattle.arrival_moves.specs.declared.view.View.{View}
 use Rattle.arrival_moves.specs.Lists.{one_if, times}
 use Rattle.arrival_moves.specs.Labels.{task_times}
 use Rattle.arrival_moves.specs.Slots.{Slot, fresh, reached, holds, emptied, in_slot, in_slots}
-use Rattle.arrival_moves.specs.Plans.{task_count, search_of, place_of, batch_size, IsPlan}
+use Rattle.arrival_moves.specs.Plans.{task_count, search_of, place_of, IsPlan}
 use Rattle.arrival_moves.specs.Items.{is_at_slot}
 use Rattle.arrival_moves.specs.AfterMove.{after_claim}
 use Rattle.arrival_moves.specs.Guards.{may_put, may_put_merged}
@@ -27,8 +27,9 @@ use Rattle.arrival_moves.proofs.Quiet.{eq_one, eq_none}
 use Rattle.arrival_moves.proofs.Words.{WordsFit}
 use Rattle.arrival_moves.proofs.Results.{ResultsFit, slot_there}
 use Rattle.arrival_moves.proofs.LabelsFit.{LabelsFit, arrived_found, batch_found, put_label, merged_label, none_due}
-use Rattle.arrival_moves.proofs.Batches.{BatchesKept, batch_slot, held_real}
+use Rattle.arrival_moves.proofs.Batches.{BatchesKept, batch_slot}
 use Rattle.arrival_moves.proofs.Everywhere.{Unmoved, unmoved_take_task, unmoved_arrive, unmoved_reach_result, unmoved_count, unmoved_reach_batch, unmoved_split, unmoved_join, unmoved_close, unmoved_stopped, every_claimed, every_ended, every_put, every_taken, every_merged, every_stop}
+use Rattle.arrival_moves.proofs.OneIf.{one_if_never}
 
 -- a full slot stands for some task
 abbrev pub Filled : Slot → Type 0
@@ -49,11 +50,7 @@ first_high : (k n m : ℕ) → n ≤ k → one_if (ltb k n && ltb k m) ≡ 0
 first_high k n m a = ap (λ b. one_if (b && ltb k m)) (le-ltb k n a)
 
 second_high : (k n m : ℕ) → m ≤ k → one_if (ltb k n && ltb k m) ≡ 0
-second_high k n m a = ap (λ b. one_if (ltb k n && b)) (le-ltb k m a) ∙ never (ltb k n)
-  where
-    never : (b : Bool) → one_if (b && false) ≡ 0
-    never true = refl
-    never false = refl
+second_high k n m a = ap (λ b. one_if (ltb k n && b)) (le-ltb k m a) ∙ one_if_never (ltb k n)
 
 -- one claim more draws the task n, where there is one
 claim_step : (k n m : ℕ) → n < m → one_if (ltb k (n + 1) && ltb k m) ≡ one_if (ltb k n && ltb k m) + one_if (eqb n k)

@@ -1,5 +1,5 @@
 -- A search's ticket word is the number of its tasks that were drawn and no longer wait in a hand.
-use Rattle.std.proofs.Common.{◌≡◌, ℕ, zero, suc, ◌+◌, ◌/◌, ◌<◌, ◌≤◌, Bool, true, false, eqb, ltb, get_or, replicate, List, [], ◌∷◌, length, set, sym, refl, ap, ◌∙◌, subst, arith, get_or-set_same, get_or-set_other}
+use Rattle.std.proofs.Common.{◌≡◌, ℕ, zero, suc, ◌+◌, ◌/◌, ◌<◌, ◌≤◌, true, false, eqb, ltb, get_or, replicate, List, [], ◌∷◌, length, set, sym, refl, ap, ◌∙◌, subst, arith, get_or-set_same, get_or-set_other}
 use Rattle.std.proofs.lemmas.Bool.{ltb-true, ltb-false}
 use Rattle.std.proofs.lemmas.List.{take_all}
 use Rattle.std.proofs.lemmas.List.Sums.{sum_by-cons, sum_by_more, sum_by-take-le}
@@ -7,14 +7,14 @@ use mathlib.Core.Option.{some}
 use mathlib.Core.Logic.{dite}
 use native.Mathlib.Decide.{ℕ_discrete, dec_lt}
 use lib.ListN.{get_elem?}
-use Rattle.arrival_moves.specs.AfterMove.{reached_item, after_claim, after_take_task, after_arrive, after_put, after_count, after_stop, batch_due}
+use Rattle.arrival_moves.specs.AfterMove.{after_claim, after_take_task, after_arrive, after_put, after_count, after_stop, batch_due}
 use Rattle.arrival_moves.specs.Hands.{in_hands, find_item}
 use Rattle.arrival_moves.specs.Items.{waiting_of, is_loaded, is_at_slot}
 use Rattle.arrival_moves.specs.Lists.{one_if, times}
 use Rattle.arrival_moves.specs.Moves.{ArrivalState, Move, claim, take_task, arrive, put, count, take_result, put_merged, split, join, close, stop, stopped, move, opened}
 use Rattle.arrival_moves.specs.Plans.{task_count, place_of, search_of, tasks_of, drawn_of, IsPlan}
 use Rattle.arrival_moves.specs.declared.item.Item.{Item}
-use Rattle.arrival_moves.specs.declared.item.Item.TheVariants.{Claimed, Loaded, Arrived, Put, Batch, Closed}
+use Rattle.arrival_moves.specs.declared.item.Item.TheVariants.{Claimed, Loaded, Put}
 use Rattle.arrival_moves.specs.declared.plan.Plan.{Plan}
 use Rattle.arrival_moves.specs.declared.view.View.{View}
 use Rattle.arrival_moves.proofs.Cases.{desk_keeps, item_keeps, by_test}
@@ -22,19 +22,13 @@ use Rattle.arrival_moves.proofs.Items.{hands_more, hands_same, claimed_gives, lo
 use Rattle.arrival_moves.specs.Fairness.{HasShape}
 use Rattle.arrival_moves.proofs.Quiet.{eq_one, eq_none, IsQuiet, Quietly, batch_due_none, quiet_open, quiet_take, quiet_merged, quiet_split, quiet_join, quiet_close, quiet_stopped}
 use Rattle.arrival_moves.proofs.Loads.{arrived_items}
+use Rattle.arrival_moves.proofs.OneIf.{one_if_le}
 
 pub record WordsFit (p : Plan) (s : ArrivalState) : Type 0 where
   pub word : (q : ℕ) → get_or s.tickets q 0 + in_hands (waiting_of p q) s.desks ≡ drawn_of p q s.claimed
 
 pub waiting_quiet : (p : Plan) (q : ℕ) → IsQuiet (waiting_of p q)
-waiting_quiet p q = record { opens = same; batch = λ z. refl; closed = λ z. refl } where
-  same : (x : Item) → waiting_of p q (reached_item x) ≡ waiting_of p q x
-  same (Claimed j) = refl
-  same (Loaded z) = refl
-  same (Arrived z) = refl
-  same (Put z) = refl
-  same (Batch z) = refl
-  same (Closed z) = refl
+waiting_quiet p q = record { arrived = λ z. refl; batch = λ z. refl; closed = λ z. refl }
 
 none_of : (q n : ℕ) (xs : List ℕ) → ((k : ℕ) → k < length xs → get_or xs k 0 < n) → n ≤ q → times q xs ≡ 0
 none_of q n [] h le = refl
@@ -106,8 +100,4 @@ module _ (p : Plan) (good : IsPlan p) where
 
 pub of_search_le : (q : ℕ) (xs : List ℕ) → times q xs ≤ length xs
 of_search_le q [] = omega arith
-of_search_le q (x ∷ xs) = let a = of_search_le q xs in let b = sum_by-cons (λ y. one_if (eqb y q)) x xs in let c = one_or_less (eqb x q) in omega arith
-  where
-    one_or_less : (b : Bool) → one_if b ≤ 1
-    one_or_less true = omega arith
-    one_or_less false = omega arith
+of_search_le q (x ∷ xs) = let a = of_search_le q xs in let b = sum_by-cons (λ y. one_if (eqb y q)) x xs in let c = one_if_le (eqb x q) in omega arith
