@@ -12,7 +12,7 @@ use Rattle.agg_model.specs.declared.aggregation.Kind.{Kind}
 use Rattle.agg_model.specs.declared.aggregation.Kind.TheVariants as kind
 use Rattle.agg_model.specs.declared.aggregation.Order.{Order}
 use Rattle.agg_evaluation.specs.KeyOrder.{key_cmp}
-use Rattle.agg_evaluation.specs.Sorting.{sorted}
+use Rattle.list_laws.specs.Sorting.{sorted}
 use Rattle.agg_evaluation.specs.Rows.{PlacedRow}
 use Rattle.agg_evaluation.specs.Keys.{keys}
 use Rattle.agg_evaluation.specs.Groups.{group, all_keys, total_key_count}

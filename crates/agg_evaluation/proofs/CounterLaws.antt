@@ -7,7 +7,7 @@ use Rattle.std.proofs.Common.{sym, ◌∙◌, ap, subst, arith, zero-add}
 use Rattle.agg_model.specs.declared.key.Key.{Key}
 use Rattle.agg_model.specs.declared.aggregation.Kind.{Kind}
 use Rattle.agg_evaluation.specs.KeyOrder.{key_cmp, key_eq, has_key}
-use Rattle.agg_evaluation.specs.Sorting.{insert_once}
+use Rattle.list_laws.specs.Sorting.{insert_once}
 use Rattle.agg_evaluation.specs.Rows.{PlacedRow}
 use Rattle.agg_evaluation.specs.Keys.{keys, distinct_keys}
 use Rattle.agg_evaluation.specs.Groups.{group, all_keys}

@@ -7,7 +7,7 @@ use Rattle.std.specs.Ordering.{is_eq, is_lt, is_le, ordering_reverse}
 use Rattle.std.proofs.Common.{sym, ◌∙◌, ap, subst, arith}
 use Rattle.agg_model.specs.declared.key.Key.{Key}
 use Rattle.agg_evaluation.specs.KeyOrder.{key_cmp, key_eq}
-use Rattle.agg_evaluation.specs.Sorting.{insert_sorted, sorted}
+use Rattle.list_laws.specs.Sorting.{insert_sorted, sorted}
 use Rattle.agg_evaluation.specs.Trees.{is_ascending}
 use Rattle.agg_evaluation.proofs.KeyCompare.{key_cmp_total}
 use Rattle.agg_evaluation.proofs.KeyLists.{and_left, and_right, both, less_is, holds, key_eq-self, key_eq-exact, is_below, below-trans}

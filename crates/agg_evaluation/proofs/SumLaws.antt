@@ -4,7 +4,7 @@ use Rattle.std.specs.declared.cmp.Ordering.{Ordering}
 use Rattle.std.specs.Ordering.{is_le}
 use Rattle.std.proofs.Common.{sym, ◌∙◌, ap, arith}
 use Rattle.std.proofs.lemmas.List.Sums.{sum_by-cons}
-use Rattle.agg_evaluation.specs.Sorting.{insert_sorted, sorted}
+use Rattle.list_laws.specs.Sorting.{insert_sorted, sorted}
 
 module _ {A : Type 0} (f : A → ℕ) where
   pub sum_by-filter : (p : A → Bool) (xs : List A) → sum_by f (filter p xs) ≤ sum_by f xs

@@ -1,5 +1,4 @@
 pub mod Folds
-pub mod Sorting
 pub mod KeyOrder
 pub mod Rows
 pub mod Matching

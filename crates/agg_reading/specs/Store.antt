@@ -2,6 +2,8 @@
 use Rattle.std.specs.Prelude.{ℕ, ◌+◌, ◌^◌, List, [], ◌∷◌, map, filter, sum_by, flat_map, nat_lt, Option, Some, None, Ok, Bool, true, false, ◌&&◌, ◌==◌, is_some, option_to_list, if◌then◌else◌}
 use Rattle.std.specs.List.{range_with_len}
 use Rattle.std.specs.Str.{bytes_eq}
+use Rattle.agg_model.specs.declared.limits.TheConstants.{WEIGHT_LIMIT}
+use Rattle.agg_model.specs.declared.item_refusal.TheConstants.{INDEX_FULL, VERSION_CONFLICT}
 use Rattle.agg_model.specs.declared.mapping.Mapping.{Mapping}
 use Rattle.agg_model.specs.declared.row.Row.{Row, Row', Row_of-Children, end_of-Children, more_of-Children}
 use Rattle.agg_model.specs.declared.row.Children.{Children, Children', Row_of-Row, end_of-Row, more_of-Row}
@@ -59,14 +61,14 @@ abbrev pub is_create : ActionKind → Bool
 is_create Create = true
 is_create _ = false
 
--- a store whose documents weigh less than 2^32: else 28
+-- a store whose documents weigh less than WEIGHT_LIMIT
 abbrev pub kept : Applied → Store → Reading (Applied × Store)
-kept what store = if nat_lt (store_weight store) (2 ^ 32) then Ok (what, store) else refuse 28 []
+kept what store = if nat_lt (store_weight store) WEIGHT_LIMIT then Ok (what, store) else refuse INDEX_FULL []
 
--- 26 is a create of a live id
+-- a create of a live id is refused
 unfoldable pub put_row : Action → Row → Store → Reading (Applied × Store)
 put_row action root store =
-    if is_create action.kind && is_some (live_at action.id store) then refuse 26 []
+    if is_create action.kind && is_some (live_at action.id store) then refuse VERSION_CONFLICT []
     else kept (if is_some (live_at action.id store) then Updated else Created)
     (with_document action.id (Some (record { id = action.id; routing = action.routing; root = root })) store)
 

@@ -13,7 +13,7 @@ use Rattle.agg_evaluation.specs.KeyOrder.{key_cmp, key_eq, has_key}
 use Rattle.agg_evaluation.specs.Rows.{PlacedRow}
 use Rattle.agg_evaluation.specs.Keys.{keys}
 use Rattle.agg_evaluation.specs.Groups.{group, all_keys, total_key_count}
-use Rattle.agg_evaluation.specs.Sorting.{sorted}
+use Rattle.list_laws.specs.Sorting.{sorted}
 use Rattle.agg_evaluation.specs.Orders.{bucket_cmp, bucket_key, bucket_count}
 use Rattle.agg_evaluation.specs.Shard.{Collector, bucket_of, trimmed_node, sorted_by_key, with_covered}
 use Rattle.agg_evaluation.specs.Trees.{is_ascending}

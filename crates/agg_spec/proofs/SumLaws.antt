@@ -10,7 +10,7 @@ use Rattle.agg_model.specs.declared.answer.BucketAnswer.{BucketAnswer, out-roll-
 use Rattle.agg_model.specs.declared.answer.BucketAnswer.TheOpen.{NodeAnswer-F, BucketAnswer-F}
 use Rattle.agg_model.specs.declared.answer.NodeAnswer.{NodeAnswer, out-roll-NodeAnswer}
 use Rattle.agg_model.specs.declared.aggregation.Order.{Order}
-use Rattle.agg_evaluation.specs.Sorting.{insert_sorted, sorted}
+use Rattle.list_laws.specs.Sorting.{insert_sorted, sorted}
 use Rattle.agg_evaluation.specs.Orders.{bucket_cmp, bucket_count}
 use Rattle.agg_evaluation.specs.Whole.{Parts}
 use Rattle.agg_evaluation.proofs.ListLaws.{sum_by-map}

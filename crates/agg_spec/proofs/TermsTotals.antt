@@ -12,7 +12,7 @@ use Rattle.agg_evaluation.specs.Rows.{PlacedRow}
 use Rattle.agg_evaluation.specs.Keys.{keys, distinct_keys}
 use Rattle.agg_evaluation.specs.Groups.{group, all_keys, total_key_count}
 use Rattle.agg_evaluation.specs.Counters.{raised, raised_by}
-use Rattle.agg_evaluation.specs.Sorting.{sorted}
+use Rattle.list_laws.specs.Sorting.{sorted}
 use Rattle.agg_evaluation.specs.Orders.{bucket_cmp, bucket_key, bucket_count}
 use Rattle.agg_evaluation.specs.Shard.{Collector, bucket_of, trimmed_node, sorted_by_key, with_covered}
 use Rattle.agg_evaluation.specs.Whole.{Parts, parts, parts_at, whole_bucket, whole_by, by_key}

@@ -22,7 +22,7 @@ use Rattle.agg_model.specs.declared.answer.BucketAnswer.TheOpen.{NodeAnswer-F, B
 use Rattle.agg_model.specs.declared.row.Document.{Document}
 use Rattle.agg_evaluation.specs.KeyOrder.{key_cmp}
 use Rattle.agg_evaluation.specs.Keys.{distinct_keys}
-use Rattle.agg_evaluation.specs.Sorting.{sorted, insert_once}
+use Rattle.list_laws.specs.Sorting.{sorted, insert_once}
 use Rattle.agg_evaluation.specs.Orders.{bucket_cmp, bucket_key, bucket_count}
 use Rattle.agg_evaluation.specs.Shard.{with_covered, sorted_by_key, shard_answer}
 use Rattle.agg_evaluation.specs.Trees.{is_tree_of, pass_each}

@@ -20,7 +20,7 @@ use Rattle.agg_model.specs.declared.aggregation.Kind.{Kind}
 use Rattle.agg_model.specs.declared.aggregation.Kind.TheVariants as kind
 use Rattle.agg_evaluation.specs.Folds.{fold_aggs}
 use Rattle.agg_evaluation.specs.KeyOrder.{key_cmp, has_key}
-use Rattle.agg_evaluation.specs.Sorting.{sorted}
+use Rattle.list_laws.specs.Sorting.{sorted}
 use Rattle.agg_evaluation.specs.Rows.{PlacedRow, is_within, beneath}
 use Rattle.agg_evaluation.specs.Keys.{keys, values_or}
 use Rattle.agg_evaluation.specs.Groups.{under, group, all_keys, total_key_count}

@@ -10,7 +10,7 @@ use Rattle.agg_model.specs.declared.mapping.FieldKind.{FieldKind}
 use Rattle.agg_model.specs.declared.aggregation.Kind.{Kind}
 use Rattle.agg_model.specs.declared.aggregation.Kind.TheVariants as kind
 use Rattle.agg_evaluation.specs.KeyOrder.{key_cmp, key_eq, has_key}
-use Rattle.agg_evaluation.specs.Sorting.{insert_once}
+use Rattle.list_laws.specs.Sorting.{insert_once}
 use Rattle.agg_evaluation.specs.Rows.{PlacedRow, is_within, beneath, enclosing}
 use Rattle.agg_evaluation.specs.Keys.{keys, distinct_keys}
 use Rattle.agg_evaluation.specs.Groups.{under, group}

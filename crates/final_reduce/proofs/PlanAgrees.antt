@@ -27,7 +27,7 @@ use Rattle.agg_model.specs.declared.aggregation.Kind.{Kind}
 use Rattle.agg_model.specs.declared.aggregation.Kind.TheVariants as kind
 use Rattle.agg_model.specs.declared.aggregation.Search.{Search}
 use Rattle.agg_evaluation.specs.Folds.{fold_aggs}
-use Rattle.agg_evaluation.specs.Sorting.{sorted}
+use Rattle.list_laws.specs.Sorting.{sorted}
 use Rattle.agg_evaluation.specs.Orders.{bucket_cmp, bucket_key, bucket_count, composite_cmp}
 use Rattle.agg_evaluation.specs.Shard.{fixed_keys}
 use Rattle.agg_evaluation.specs.Trees.{are_same_keys, is_ascending, is_tree_at, have_children, pass_each}

@@ -7,8 +7,8 @@ use Rattle.agg_model.specs.declared.partial.Bucket.{Bucket}
 use Rattle.agg_model.specs.declared.aggregation.Agg.{Agg}
 use Rattle.agg_model.specs.declared.aggregation.Kind.{Kind}
 use Rattle.agg_model.specs.declared.aggregation.Kind.TheVariants as kind
+use Rattle.list_laws.specs.Sorting.{sorted}
 use Rattle.agg_model.specs.Options.{Options, options_of}
-use Rattle.agg_evaluation.specs.Sorting.{sorted}
 use Rattle.agg_evaluation.specs.Orders.{bucket_cmp, bucket_key, composite_cmp}
 use Rattle.bucket_order.specs.Composites.{is_composite_of}
 use Rattle.agg_spec.specs.BucketCount.{member_count}

@@ -22,7 +22,7 @@ use Rattle.agg_evaluation.specs.KeyOrder.{key_cmp, key_eq, has_key}
 use Rattle.agg_model.specs.ValueKeys.{scalar_key}
 use Rattle.agg_evaluation.specs.Keys.{distinct_keys}
 use Rattle.agg_evaluation.specs.Rows.{PlacedRow, values_of, row_of, no_row}
-use Rattle.agg_evaluation.specs.Sorting.{ascending, insert_once}
+use Rattle.list_laws.specs.Sorting.{ascending, insert_once}
 use Rattle.agg_evaluation.specs.Trees.{is_ascending}
 use Rattle.agg_evaluation.proofs.Computing.{computing}
 use Rattle.agg_evaluation.proofs.KeyLists.{and_left, and_right, both, key_eq-self, key_eq-exact, less_is, same_keys, ascending-distinct_keys, has_key-distinct_keys}

@@ -6,7 +6,7 @@ use Rattle.std.specs.Cmp.Lexicographic.{slice_cmp}
 use Rattle.std.proofs.lemmas.List.{length-map, get_or-map, get_or_past}
 use Rattle.std.proofs.lemmas.Bool.{cases_lt}
 use Rattle.agg_evaluation.specs.Rows.{PlacedRow, no_row, row_of}
-use Rattle.agg_evaluation.specs.Sorting.{ascending}
+use Rattle.list_laws.specs.Sorting.{ascending}
 use Rattle.shard_columns.specs.declared.layout.Entry.{Entry}
 use Rattle.shard_columns.specs.declared.layout.Laid.{Laid}
 use Rattle.shard_columns.specs.Contexts.{ContextsBelow, AreEnclosed}

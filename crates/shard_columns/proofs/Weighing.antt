@@ -16,7 +16,7 @@ use Rattle.agg_model.specs.declared.row.Scalar.TheVariants as scalar
 use Rattle.agg_model.specs.declared.row.FieldValues.{FieldValues}
 use Rattle.agg_evaluation.specs.Ceiling.{greatest_of}
 use Rattle.agg_evaluation.specs.Rows.{PlacedRow, values_of, row_of}
-use Rattle.agg_evaluation.specs.Sorting.{ascending, insert_once}
+use Rattle.list_laws.specs.Sorting.{ascending, insert_once}
 use Rattle.shard_columns.specs.Dictionary.{all_words, words_of, longest_word}
 use Rattle.agg_evaluation.specs.ColumnBytes.{value_count, dictionary_bytes}
 use Rattle.shard_columns.specs.Values.{Words, word_in, words_in}

@@ -1,11 +1,11 @@
--- The words of a field in a shard, and what the columns of a shard weigh.
+-- The words of a field in a shard.
 use Rattle.std.specs.Prelude.{ℕ, List, map, flat_map, length, Contains}
 use Rattle.std.specs.Ordering.{nat_cmp}
 use Rattle.std.specs.Cmp.Lexicographic.{slice_cmp}
 use Rattle.agg_model.specs.declared.row.Scalar.{Scalar}
 use Rattle.agg_model.specs.declared.row.Scalar.TheVariants.{Word}
 use Rattle.agg_evaluation.specs.Rows.{PlacedRow, values_of, row_of}
-use Rattle.agg_evaluation.specs.Sorting.{ascending}
+use Rattle.list_laws.specs.Sorting.{ascending}
 use Rattle.agg_evaluation.specs.Ceiling.{greatest_of}
 use Rattle.shard_columns.specs.Values.{Words, words_in}
 
