@@ -1,6 +1,7 @@
 -- What the columns of an index weigh, which is charged once after loading ('Circuit breaker settings', fielddata).
 use Rattle.std.specs.Prelude.{ℕ, ◌+◌, ◌*◌, ◌/◌, List, map, flat_map, length, sum, Option}
 use Rattle.std.specs.List.{range_with_len}
+use Rattle.agg_model.specs.declared.costs.TheConstants.{FIELDDATA_OVERHEAD}
 use Rattle.agg_model.specs.declared.key.Key.{Key}
 use Rattle.agg_model.specs.declared.key.Key.TheVariants.{Word}
 use Rattle.agg_model.specs.declared.breaker.Child.TheVariants.{Fielddata}
@@ -27,9 +28,9 @@ dictionary_bytes all field = sum (map word_bytes (distinct_keys (map scalar_key 
 abbrev pub shard_bytes : ℕ → List PlacedRow → ℕ
 shard_bytes fields all = 8 * sum (map value_count all) + sum (map (dictionary_bytes all) (range_with_len 0 fields))
 
--- an overhead of 3 per cent, rounded up
+-- with the overhead of fielddata, rounded up
 abbrev pub columns_charge : Index → ℕ
-columns_charge index = (sum (map (shard_bytes (length index.mapping.fields)) (rows_by_shard index)) * 103 + 99) / 100
+columns_charge index = (sum (map (shard_bytes (length index.mapping.fields)) (rows_by_shard index)) * FIELDDATA_OVERHEAD + 99) / 100
 
 -- the refusal of the columns' charge
 abbrev pub columns_refusal : Limits → ℕ → Option Tripped

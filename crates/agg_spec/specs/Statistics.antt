@@ -1,5 +1,6 @@
 -- What the statistics line may say after all searches ('Circuit breaker settings'; 'Nodes stats API', breakers).
 use Rattle.std.specs.Prelude.{◌≡◌, ◌≤◌, ℕ, ◌+◌, min, List, [], ◌∷◌, map, flat_map, length, sum, zip}
+use Rattle.agg_model.specs.declared.costs.TheConstants.{FIELDDATA_OVERHEAD, INFLIGHT_OVERHEAD, PARENT_OVERHEAD, REQUEST_OVERHEAD}
 use Rattle.agg_model.specs.declared.breaker.Limits.{Limits}
 use Rattle.agg_model.specs.declared.breaker.BreakerStats.{BreakerStats}
 use Rattle.agg_model.specs.declared.breaker.Totals.{Totals}
@@ -25,10 +26,10 @@ breaker_stats limit estimated granted overhead tripped =
 -- the statistics at the end, when the columns' charge alone is held
 abbrev pub totals_of : Limits → ℕ → Amounts → Amounts → Totals
 totals_of limits held granted trips = record {
-  request = breaker_stats limits.request 0 granted.request 100 trips.request;
-  fielddata = breaker_stats limits.fielddata held granted.fielddata 103 trips.fielddata;
-  inflight = breaker_stats limits.inflight 0 granted.inflight 200 trips.inflight;
-  parent = breaker_stats limits.parent held granted.parent 100 trips.parent;
+  request = breaker_stats limits.request 0 granted.request REQUEST_OVERHEAD trips.request;
+  fielddata = breaker_stats limits.fielddata held granted.fielddata FIELDDATA_OVERHEAD trips.fielddata;
+  inflight = breaker_stats limits.inflight 0 granted.inflight INFLIGHT_OVERHEAD trips.inflight;
+  parent = breaker_stats limits.parent held granted.parent PARENT_OVERHEAD trips.parent;
 }
 
 abbrev pub sum_of_amounts : List Amounts → Amounts
