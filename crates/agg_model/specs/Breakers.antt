@@ -1,5 +1,6 @@
 -- The four breakers, three children and their parent (Elasticsearch Reference 8, 'Circuit breaker settings').
 use Rattle.std.specs.Prelude.{ℕ}
+use Rattle.agg_model.specs.declared.costs.TheConstants.{FIELDDATA_OVERHEAD, INFLIGHT_OVERHEAD, PARENT_OVERHEAD, REQUEST_OVERHEAD}
 use Rattle.agg_model.specs.declared.breaker.Limits.{Limits}
 use Rattle.agg_model.specs.declared.breaker.Child.{Child}
 use Rattle.agg_model.specs.declared.breaker.Child.TheVariants as child
@@ -21,7 +22,7 @@ limit_of l Parent = l.parent
 
 -- in per cent
 abbrev pub overhead_of : Which → ℕ
-overhead_of Request = 100
-overhead_of Fielddata = 103
-overhead_of Inflight = 200
-overhead_of Parent = 100
+overhead_of Request = REQUEST_OVERHEAD
+overhead_of Fielddata = FIELDDATA_OVERHEAD
+overhead_of Inflight = INFLIGHT_OVERHEAD
+overhead_of Parent = PARENT_OVERHEAD
