@@ -1,0 +1,17 @@
+//! The table of arrivals: workers claim tasks, results arrive by tickets, and whoever counts a batch's last result merges
+//! it. Threads share it with no lock. Each call makes single atomic steps, waits for nobody and takes no memory.
+#![tactic(auto)]
+
+mod cell;
+mod claims;
+mod desk;
+mod given;
+mod known;
+mod places;
+mod results;
+mod rule;
+mod table;
+
+pub use cell::Labelled;
+pub use desk::Desk;
+pub use table::Arrivals;
