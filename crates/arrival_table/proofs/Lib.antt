@@ -6,3 +6,6 @@ pub mod Guards
 pub mod Allowed
 pub mod AllowedPut
 pub mod AllowedCount
+pub mod AllowedMerge
+pub mod AllowedStop
+pub mod AllowedShare

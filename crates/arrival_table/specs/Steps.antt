@@ -1,5 +1,5 @@
 -- The rule that the table keeps between any two atomic steps, and what each step tells its desk.
-use Rattle.std.specs.Prelude.{◌≡◌, ℕ, ◌+◌, ◌<◌, ◌≤◌, List, [], ◌∷◌, ◌++◌, map, length, IsTrue, false}
+use Rattle.std.specs.Prelude.{◌≡◌, ℕ, ◌+◌, ◌/◌, ◌<◌, ◌≤◌, List, [], ◌∷◌, ◌++◌, map, length, IsTrue, false}
 use mathlib.Core.Option.{Option, some}
 use lib.ListN.{get_elem?}
 use Rattle.atomic_table.specs.Table.{State, Me, Step}
@@ -86,3 +86,27 @@ module _ {A R : Type 0} (load : A → Label) (outcome : R → Label) where
   -- the count that is made
   abbrev pub Counts : Plan → ℕ → ℕ → StepTells
   Counts p q t s v n w = (w ≡ (now_knows v.0 (after_count p v.0.view q t (n + 1)), v.1)) × (n ≤ 65536)
+
+  -- the result of a due ticket comes with its slot; it stands for one task of the search
+  abbrev pub TakesResult : Plan → ℕ → ℕ → StepTells
+  TakesResult p q t s v n w = (x : Item) × (find_item (is_batch q (t / p.batch)) v.0.view.hand ≡ some x) × (y : R) × (w ≡ (now_has_out v.0 (after_take_result p v.0.view q t x (outcome y)) (result_slot p q t), (result_slot p q t, Outcome y) ∷ v.1)) × (t < tasks_of p q) × (length (outcome y).tasks ≡ 1) × IsOfSearch p q (outcome y)
+
+  -- the desk is at the empty slot of the batch's merged result
+  abbrev pub ReachesBatch : Plan → ℕ → ℕ → StepTells
+  ReachesBatch p q b s v n w = (x : Item) × (find_item (is_batch q b) v.0.view.hand ≡ some x) × (w ≡ (now_has_out v.0 (after_reach_batch v.0.view q b x) (batch_slot p q b), (batch_slot p q b, Vacant) ∷ v.1)) × (b < tasks_of p q)
+
+  -- the merged result lies in its slot
+  abbrev pub PutsMerged : ℕ → ℕ → StepTells
+  PutsMerged q b s v n w = w ≡ (knows (after_put_merged v.0.view q b), [])
+
+  -- the task is marked failed
+  abbrev pub Stops : ℕ → StepTells
+  Stops k s v n w = w ≡ (now_knows v.0 (after_stop v.0.view k), v.1)
+
+  -- the stop word that is read
+  abbrev pub ReadsStop : ℕ → StepTells
+  ReadsStop q s v n w = (w ≡ (now_knows v.0 (after_stopped v.0.view q n), v.1)) × (n ≤ 1)
+
+  -- nothing changes; no desk has more than all claims
+  abbrev pub Looks : StepTells
+  Looks s v n w = (w ≡ v) × (v.0.view.left + v.0.view.drawn ≤ 4294967296)

@@ -38,6 +38,20 @@ impl<A, R> Drop for Desk<A, R> {
 }
 
 impl<A, R> Desk<A, R> {
+    pub(crate) fn into_parts(self) -> (u64, u64, bool, Seat<Cell<A, R>, Known>)
+        ensures numbers { (result.0 ≡ self.view.left) × (result.1 ≡ self.view.drawn) × (result.2 ≡ self.view.ended) }
+        ensures few { result.0 + result.1 ≤ 4294967296 }
+        ensures seat { (result.3.table_id ≡ self.table) × (result.3.me ≡ (knows self.view, [])) }
+    {
+        let Desk {
+            left,
+            drawn,
+            ended,
+            seat,
+        } = self;
+        (left, drawn, ended, seat)
+    }
+
     /// The claims that it may still make, up to 2^32.
     pub fn left(&self) -> u64
         ensures { result ≡ self.now.view.left }

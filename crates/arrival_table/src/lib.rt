@@ -7,9 +7,12 @@ mod claims;
 mod desk;
 mod given;
 mod known;
+mod merging;
 mod places;
 mod results;
 mod rule;
+mod sharing;
+mod stops;
 mod table;
 
 pub use cell::Labelled;

@@ -3,7 +3,7 @@ use crate::cell::{Cell, Labelled};
 use crate::given::Given;
 use crate::known::Known;
 use arrival_moves::Plan;
-use atomic_table::{Play, TableRule};
+use atomic_table::{Join, Play, Split, TableRule};
 use std::marker::PhantomData;
 
 /// Some list of moves from the opening makes the words, the slots at home and the views of all desks.
@@ -91,4 +91,89 @@ impl<A: Labelled, R: Labelled, Z: Given> Play<Cell<A, R>, Known> for Count<A, R,
     ghost use Rattle.arrival_table.specs.Steps.{Counts};
 
     ghost then = { Counts A.label R.label Z.plan Z.search Z.number };
+}
+
+pub(crate) struct TakeResult<A, R, Z> {
+    of: PhantomData<(A, R, Z)>,
+}
+
+impl<A: Labelled, R: Labelled, Z: Given> Play<Cell<A, R>, Known> for TakeResult<A, R, Z> {
+    ghost use Rattle.arrival_table.specs.Steps.{TakesResult};
+
+    ghost then = { TakesResult A.label R.label Z.plan Z.search Z.number };
+}
+
+/// The desk comes to the slot of a batch, and then the merged result is put there.
+pub(crate) struct ReachBatch<A, R, Z> {
+    of: PhantomData<(A, R, Z)>,
+}
+
+impl<A: Labelled, R: Labelled, Z: Given> Play<Cell<A, R>, Known> for ReachBatch<A, R, Z> {
+    ghost use Rattle.arrival_table.specs.Steps.{ReachesBatch};
+
+    ghost then = { ReachesBatch A.label R.label Z.plan Z.search Z.number };
+}
+
+pub(crate) struct PutMerged<A, R, Z> {
+    of: PhantomData<(A, R, Z)>,
+}
+
+impl<A: Labelled, R: Labelled, Z: Given> Play<Cell<A, R>, Known> for PutMerged<A, R, Z> {
+    ghost use Rattle.arrival_table.specs.Steps.{PutsMerged};
+
+    ghost then = { PutsMerged A.label R.label Z.search Z.number };
+}
+
+pub(crate) struct Stop<A, R, Z> {
+    of: PhantomData<(A, R, Z)>,
+}
+
+impl<A: Labelled, R: Labelled, Z: Given> Play<Cell<A, R>, Known> for Stop<A, R, Z> {
+    ghost use Rattle.arrival_table.specs.Steps.{Stops};
+
+    ghost then = { Stops A.label R.label Z.task };
+}
+
+pub(crate) struct ReadStop<A, R, Z> {
+    of: PhantomData<(A, R, Z)>,
+}
+
+impl<A: Labelled, R: Labelled, Z: Given> Play<Cell<A, R>, Known> for ReadStop<A, R, Z> {
+    ghost use Rattle.arrival_table.specs.Steps.{ReadsStop};
+
+    ghost then = { ReadsStop A.label R.label Z.search };
+}
+
+pub(crate) struct Look<A, R> {
+    of: PhantomData<(A, R)>,
+}
+
+impl<A: Labelled, R: Labelled> Play<Cell<A, R>, Known> for Look<A, R> {
+    ghost use Rattle.arrival_table.specs.Steps.{Looks};
+
+    ghost then = { Looks A.label R.label };
+}
+
+pub(crate) struct SplitClaims<Z> {
+    of: PhantomData<Z>,
+}
+
+impl<Z: Given> Split<Known> for SplitClaims<Z> {
+    ghost use Rattle.arrival_moves.specs.AfterMove.{after_split, split_off};
+    ghost use Rattle.arrival_table.specs.Outs.{knows, now_knows};
+
+    ghost left = { λ d. now_knows d (after_split d.view Z.claims) };
+
+    ghost right = { λ _. knows (split_off Z.claims) };
+}
+
+pub(crate) struct JoinDesks;
+
+impl Join<Known> for JoinDesks {
+    ghost use Rattle.arrival_moves.specs.AfterMove.{after_join, spent_view};
+    ghost use Rattle.arrival_table.specs.Outs.{knows, now_knows};
+
+    ghost both = { λ d e. now_knows d (after_join d.view e.view) };
+
+    ghost spent = { knows spent_view };
 }

@@ -1,5 +1,5 @@
 // The table that workers share.
-ghost use Rattle.std.specs.Prelude.{◌≡◌, ◌+◌};
+ghost use Rattle.std.specs.Prelude.{◌≡◌, ◌+◌, ◌<◌};
 ghost use Rattle.arrival_moves.specs.Plans.{task_count, IsPlan};
 ghost use Rattle.arrival_table.specs.Models.{ArrivalsModel};
 
@@ -25,4 +25,15 @@ impl<A: Labelled, R: Labelled> Model for Arrivals<A, R> {
     ghost view = { λ a. record { table = a.table.shared.table_id; plan = a.places } };
 
     ghost invariant = { λ a. (a.table.shared.key ≡ a.places) × IsPlan a.places × (a.table.shared.table_id.words ≡ 1 + a.places.searches + task_count a.places + a.places.searches) × (a.table.shared.table_id.slots ≡ task_count a.places + task_count a.places + task_count a.places) };
+}
+
+impl<A: Labelled, R: Labelled> Arrivals<A, R> {
+    /// The place of a search's stop word, behind the count words.
+    pub(crate) fn stop_word(&self, search: u32) -> usize
+        requires range { search < self.now.plan.searches }
+        ensures value { result ≡ 1 + self.now.plan.searches + task_count self.now.plan + search }
+        ensures range { result < self.now.table.words }
+    {
+        1 + self.places.searches() as usize + self.places.task_count() + search as usize
+    }
 }

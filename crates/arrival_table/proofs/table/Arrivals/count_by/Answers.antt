@@ -4,8 +4,8 @@ use Rattle.arrival_moves.specs.declared.plan.Plan.{Plan}
 use Rattle.arrival_moves.specs.Plans.{place_of, task_count, tasks_of, batch_size}
 use Rattle.arrival_table.proofs.AllowedCount.{allows_count_at}
 use Rattle.arrival_table.proofs.Starts.{batch_within, search_valid}
-use Rattle.arrival_table.proofs.table.Arrivals.count_by.Goals as goal
 use Rattle.arrival_table.proofs.table.Arrivals.count_by.Goals.{then-found-batch_size, else-found-batch_size}
+use Rattle.arrival_table.proofs.table.Arrivals.count_by.Goals as goal
 
 pub place_of-place-requires : goal.place_of-place-requires
 place_of-place-requires g c = let p : Plan = c.self.inside.places in let r : c.args.ticket < tasks_of p c.args.search = search rules in
