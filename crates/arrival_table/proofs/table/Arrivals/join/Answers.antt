@@ -18,7 +18,7 @@ use Rattle.arrival_table.proofs.Desks.{exchanged_out, taken_last, shows}
 use Rattle.arrival_table.proofs.table.Arrivals.join.Goals as goal
 
 pub join_seat-requires : goal.join_seat-requires
-join_seat-requires g c = let m = c.into_parts-seat.ensures.seat.1 in let o : Known = c.into_parts-seat.result.3.me.0 in let is : o ≡ knows c.args.other.view = ap (λ (m : Me (Cell g.row.A.Denot g.row.R.Denot) Known). m.0) m in (
+join_seat-requires g c = let m = c.into_parts-left.ensures.seat.1 in let o : Known = c.into_parts-left.result.3.me.0 in let is : o ≡ knows c.args.other.view = ap (λ (m : Me (Cell g.row.A.Denot g.row.R.Denot) Known). m.0) m in (
   search rules,
   search rules,
   search rules,
