@@ -1,6 +1,5 @@
 -- A task, a ticket and a batch are in one desk's hand, and the task that the next claim finds is in none.
-use Rattle.std.proofs.Common.{Bool, [], length, ◌≡◌, ◌≢◌, ℕ, ◌+◌, ◌-◌, ◌*◌, ◌/◌, min, ◌<◌, ◌≤◌, inr, true, ◌&&◌, leb, ltb, eqb, get_or, List, sym, refl, ap, ◌∙◌, subst, arith}
-use Rattle.std.specs.List.{sum_by}
+use Rattle.std.proofs.Common.{Bool, [], length, ◌≡◌, ℕ, ◌+◌, ◌-◌, ◌*◌, ◌/◌, min, ◌<◌, ◌≤◌, true, ◌&&◌, leb, ltb, eqb, get_or, List, sym, refl, ap, ◌∙◌, subst, arith}
 use Rattle.std.proofs.lemmas.Bool.{le-ltb, leb-true, eq-eqb, cond-true}
 use Rattle.std.proofs.lemmas.List.Sums.{sum_by-le-sum_by}
 use mathlib.Core.Option.{some}
@@ -12,28 +11,27 @@ use Rattle.arrival_moves.specs.declared.plan.Plan.{Plan}
 use Rattle.arrival_moves.specs.declared.view.View.{View}
 use Rattle.arrival_moves.specs.declared.item.Item.{Item}
 use Rattle.arrival_moves.specs.declared.item.Item.TheVariants.{Claimed, Loaded, Arrived, Put, Batch, Closed}
-use Rattle.arrival_moves.specs.Lists.{one_if, times, contains}
+use Rattle.arrival_moves.specs.Lists.{one_if, times}
 use Rattle.arrival_moves.specs.Labels.{task_times}
-use Rattle.arrival_moves.specs.Slots.{Slot, holds}
+use Rattle.arrival_moves.specs.Slots.{holds}
 use Rattle.arrival_moves.specs.Plans.{task_count, tasks_of, place_of, batch_size, IsPlan}
-use Rattle.arrival_moves.specs.Items.{is_arrived, is_put, is_batch, is_due, in_item, arrived_at, uncounted_in, batch_at, due_at}
+use Rattle.arrival_moves.specs.Items.{is_arrived, is_batch, is_due, in_item, arrived_at, uncounted_in, batch_at, due_at}
 use Rattle.arrival_moves.specs.Hands.{find_item, in_hand, in_hands, HasItem}
 use Rattle.arrival_moves.specs.Moves.{ArrivalState}
 use Rattle.arrival_moves.specs.Fairness.{everywhere, IsOfSearch}
 use Rattle.arrival_moves.proofs.Sums.{sum_by_pair}
-use Rattle.arrival_moves.proofs.NumberLists.{one_if_le, one_if_true, contains_times}
+use Rattle.arrival_moves.proofs.NumberLists.{contains_times}
+use Rattle.arrival_moves.proofs.OneIf.{one_if_le, one_if_true}
 use Rattle.arrival_moves.proofs.Cases.{found_is, exchanged_sum}
-use Rattle.arrival_moves.specs.Fairness.{HasShape}
 use Rattle.arrival_moves.proofs.BatchRanges.{in_batch}
 use Rattle.arrival_moves.proofs.Quiet.{lt_one}
 use Rattle.arrival_moves.proofs.Words.{drawn_le}
 use Rattle.arrival_moves.proofs.Results.{both_none}
 use Rattle.arrival_moves.proofs.Places.{place_within}
 use Rattle.arrival_moves.proofs.LabelsFit.{batch_first, ticket_batch, batch_found, due_now, due_range}
-use Rattle.arrival_moves.proofs.Batches.{is_complete, has_slot, hands_has, held_real}
-use Rattle.arrival_moves.proofs.Unbatched.{was_emptied}
+use Rattle.arrival_moves.proofs.Batches.{is_complete, hands_has, held_real}
+use Rattle.arrival_moves.proofs.SlotStates.{full_slot, has_slot}
 use Rattle.arrival_moves.proofs.Runs.{IsKept}
-use Rattle.arrival_moves.proofs.Fair.{full_slot}
 
 -- where a number is at most 1 over all hands, one desk has it
 one_desk : (f : Item → ℕ) (vs : List View) (i j : ℕ) (v u : View) → in_hands f vs ≤ 1 → get_elem? vs i ≡ some v → get_elem? vs j ≡ some u → 1 ≤ in_hand f v → 1 ≤ in_hand f u → i ≡ j
@@ -54,6 +52,7 @@ arrived_le p q t (Put z) = omega arith
 arrived_le p q t (Batch z) = omega arith
 arrived_le p q t (Closed z) = omega arith
 
+-- a number that is no greater at each item is none greater in all hands
 hands_le : (f g : Item → ℕ) → ((x : Item) → f x ≤ g x) → (vs : List View) → in_hands f vs ≤ in_hands g vs
 hands_le f g le vs = sum_by-le-sum_by (in_hand f) (in_hand g) vs (λ v. sum_by-le-sum_by f g v.hand le)
 
@@ -66,9 +65,11 @@ module _ (p : Plan) (good : IsPlan p) (s : ArrivalState) (f : IsKept p s) where
       let n : ℕ = p.batch in let bn : ℕ = b * n in let m : ℕ = get_or s.tickets q 0 in let k : ℕ = tasks_of p q in let low : bn ≤ t = place.0 in let high : t < bn + min n (k - bn) = place.1 in let room : min n (k - bn) ≤ min n (m - bn) = omega arith in
       let small : min n (m - bn) ≤ min n (k - bn) = omega arith in (omega arith, omega arith)
 
+  -- no two desks have one task
   pub tasks_alone : (i j k : ℕ) (v u : View) → get_elem? s.desks i ≡ some v → get_elem? s.desks j ≡ some u → 1 ≤ in_hand (in_item (task_times k)) v → 1 ≤ in_hand (in_item (task_times k)) u → i ≡ j
   tasks_alone i j k v u e d h m = let a = f.tasks.once k in let b = one_if_le (ltb k s.claimed && ltb k (task_count p)) in one_desk (in_item (task_times k)) s.desks i j v u (omega arith) e d h m
 
+  -- no two desks have one ticket with its task
   pub tickets_alone : (i j q t : ℕ) (v u : View) → get_elem? s.desks i ≡ some v → get_elem? s.desks j ≡ some u → HasItem (is_arrived q t) v → HasItem (is_arrived q t) u → i ≡ j
   tickets_alone i j q t v u e d h m = let a = f.results.below q t in let b = one_if_le (ltb t (get_or s.tickets q 0)) in one_desk (arrived_at q t) s.desks i j v u (omega arith) e d (has_one (is_arrived q t) v h) (has_one (is_arrived q t) u m)
 
@@ -77,6 +78,7 @@ module _ (p : Plan) (good : IsPlan p) (s : ArrivalState) (f : IsKept p s) where
   batch_held i q b v e h = let real = held_real p good s f.shape f.labels f.batches i q b v h.0 e h.1 in let y = has_slot s.batches (place_of p q b) (subst (λ z. place_of p q b < z) (sym f.shape.batches) (place_within p q b (batch_first p good q b real))) in
       let a = f.batches.last q b y.0 real y.1 in let c = hands_has (batch_at q b) s.desks i v (is_batch q b) h.0 e h.1 in let d : batch_at q b h.0 ≡ 1 = ap one_if (found_is (is_batch q b) v.hand h.0 h.1) in let k = one_if_le (leb (batch_size p q b) (get_or s.counts (place_of p q b) 0)) in (omega arith, omega arith)
 
+  -- no two desks have one batch
   pub batches_alone : (i j q b : ℕ) (v u : View) → get_elem? s.desks i ≡ some v → get_elem? s.desks j ≡ some u → HasItem (is_batch q b) v → HasItem (is_batch q b) u → i ≡ j
   batches_alone i j q b v u e d h m = let a = (batch_held i q b v e h).0 in one_desk (batch_at q b) s.desks i j v u (omega arith) e d (has_one (is_batch q b) v h) (has_one (is_batch q b) u m)
 

@@ -1,5 +1,5 @@
 -- Every list of moves leaves a fair state.
-use Rattle.std.proofs.Common.{◌≡◌, ℕ, ◌+◌, ◌/◌, ◌<◌, ◌≤◌, ◌⊎◌, ⊎_elim, leb, ltb, get_or, List, sym, refl, ap, ◌∙◌, subst, arith}
+use Rattle.std.proofs.Common.{◌≡◌, ℕ, ◌/◌, ◌<◌, ◌≤◌, ◌⊎◌, ⊎_elim, leb, get_or, List, sym, ap, ◌∙◌, subst, arith}
 use Rattle.std.proofs.lemmas.Bool.{lt-leb}
 use mathlib.Core.Option.{some}
 use lib.ListN.{get_elem?}
@@ -7,26 +7,19 @@ use Rattle.arrival_moves.specs.declared.label.Label.{Label}
 use Rattle.arrival_moves.specs.declared.plan.Plan.{Plan}
 use Rattle.arrival_moves.specs.declared.item.Item.TheVariants.{Batch, Closed}
 use Rattle.arrival_moves.specs.Lists.{one_if}
-use Rattle.arrival_moves.specs.Slots.{Slot, fresh, reached, holds, emptied, was_put}
+use Rattle.arrival_moves.specs.Slots.{holds}
 use Rattle.arrival_moves.specs.Plans.{tasks_of, place_of, batch_size, IsPlan}
-use Rattle.arrival_moves.specs.Items.{arrived_at, put_at, due_at}
+use Rattle.arrival_moves.specs.Items.{arrived_at, due_at}
 use Rattle.arrival_moves.specs.Hands.{in_hands}
 use Rattle.arrival_moves.specs.Moves.{ArrivalState, Move, run}
 use Rattle.arrival_moves.specs.Fairness.{IsFair}
-use Rattle.arrival_moves.proofs.NumberLists.{one_if_le}
+use Rattle.arrival_moves.proofs.OneIf.{one_if_le}
 use Rattle.arrival_moves.proofs.Quiet.{lt_one}
 use Rattle.arrival_moves.proofs.Words.{drawn_le}
 use Rattle.arrival_moves.proofs.Places.{place_within}
-use Rattle.arrival_moves.proofs.Batches.{is_complete, has_slot}
-use Rattle.arrival_moves.proofs.Unbatched.{was_emptied}
+use Rattle.arrival_moves.proofs.Batches.{is_complete}
+use Rattle.arrival_moves.proofs.SlotStates.{was_emptied, full_slot, has_slot}
 use Rattle.arrival_moves.proofs.Runs.{IsKept, kept_run}
-
--- what was put and not emptied is full
-pub full_slot : (y : Slot) → was_put y ≡ 1 → was_emptied y ≡ 0 → (l : Label) × (y ≡ holds l)
-full_slot fresh h k = absurd (omega arith)
-full_slot reached h k = absurd (omega arith)
-full_slot (holds l) h k = (l, refl)
-full_slot emptied h k = absurd (omega arith)
 
 module _ (p : Plan) (good : IsPlan p) (s : ArrivalState) (f : IsKept p s) where
   -- a ticket that was drawn is one of its search
@@ -41,6 +34,7 @@ module _ (p : Plan) (good : IsPlan p) (s : ArrivalState) (f : IsKept p s) where
       let kept : was_emptied y.0 ≡ 0 = ⊎_elim (λ (z : get_or s.counts (place_of p q (t / p.batch)) 0 < batch_size p q (t / p.batch)). let none : is_complete p s q (t / p.batch) ≡ 0 = ap one_if (lt-leb _ _ z) in omega arith) (λ (z : 1 ≤ in_hands (due_at q t) s.desks). omega arith) why in
       let l = full_slot y.0 (omega arith) kept in (l.0, y.1 ∙ ap some l.1)
 
+  -- what every move keeps is fair
   pub fair_of : IsFair p s
   fair_of = record {
     shape = f.shape;
@@ -60,5 +54,6 @@ module _ (p : Plan) (good : IsPlan p) (s : ArrivalState) (f : IsKept p s) where
     stops = record { failed = f.stops.failed; noted = λ i v q e h. f.notes.noted i v e q h; skipped = f.stops.skipped };
   }
 
+-- after every list of moves
 pub fair_run : (p : Plan) → IsPlan p → (ms : List Move) → IsFair p (run p ms)
 fair_run p good ms = fair_of p good (run p ms) (kept_run p good ms)

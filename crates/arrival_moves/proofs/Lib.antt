@@ -1,4 +1,6 @@
 pub mod Lists
+pub mod OneIf
+pub mod SlotStates
 pub mod Sums
 pub mod Cases
 pub mod CloseGuards
@@ -25,3 +27,5 @@ pub mod Stops
 pub mod Fair
 pub mod Closing
 pub mod Alone
+mod MergeExamples
+mod StopExamples

@@ -1,5 +1,5 @@
 -- The moves that touch no batch and no merged result: no number of batches in the hands changes, and no slot is emptied.
-use Rattle.std.proofs.Common.{◌≡◌, ◌≢◌, ℕ, true, false, ◌+◌, ⊎_elim, ltb, get_or, List, [], ◌∷◌, ◌++◌, set, sym, refl, ap, ◌∙◌, arith}
+use Rattle.std.proofs.Common.{◌≡◌, ℕ, true, false, ltb, get_or, List, [], ◌∷◌, ◌++◌, set, sym, refl, ap, arith}
 use Rattle.std.proofs.lemmas.Bool.{cond_both}
 use mathlib.Core.Option.{some}
 use lib.ListN.{get_elem?}
@@ -11,24 +11,20 @@ use Rattle.arrival_moves.specs.declared.item.LoadedTask.{LoadedTask}
 use Rattle.arrival_moves.specs.declared.item.ArrivedTask.{ArrivedTask}
 use Rattle.arrival_moves.specs.declared.item.Ticket.{Ticket}
 use Rattle.arrival_moves.specs.declared.label.Label.{Label}
-use Rattle.arrival_moves.specs.Slots.{Slot, fresh, reached, holds, emptied, was_put}
+use Rattle.arrival_moves.specs.Slots.{Slot, reached, holds}
 use Rattle.arrival_moves.specs.Plans.{task_count, search_of, place_of, IsPlan}
 use Rattle.arrival_moves.specs.Items.{is_marked, is_at_slot}
-use Rattle.arrival_moves.specs.Hands.{find_item, in_hands}
+use Rattle.arrival_moves.specs.Hands.{in_hands}
 use Rattle.arrival_moves.specs.AfterMove.{after_claim, after_take_task, after_arrive, after_reach_result, after_put, after_stop, after_stopped, reached_item}
 use Rattle.arrival_moves.specs.Moves.{ArrivalState, claim, take_task, arrive, put, split, join, stop, stopped, move}
-use Rattle.arrival_moves.proofs.Lists.{at_set}
-use Rattle.arrival_moves.proofs.Cases.{desk_keeps, item_keeps, by_test, hands_exchanged}
+use Rattle.arrival_moves.proofs.Cases.{desk_keeps, item_keeps, by_test}
 use Rattle.arrival_moves.proofs.Items.{hands_more, hands_same, claimed_gives, loaded_gives, arrived_gives}
 use Rattle.arrival_moves.specs.Fairness.{HasShape}
 use Rattle.arrival_moves.proofs.Quiet.{hands_split, hands_join, apart_from, bare}
 use Rattle.arrival_moves.proofs.Loads.{arrived_items}
 use Rattle.arrival_moves.proofs.Words.{WordsFit}
 use Rattle.arrival_moves.proofs.Results.{ResultsFit, slot_there}
-
-abbrev pub was_emptied : Slot → ℕ
-was_emptied emptied = 1
-was_emptied _ = 0
+use Rattle.arrival_moves.proofs.SlotStates.{was_emptied, not_emptied, alike_here, alike_set}
 
 -- a number of batches and merged results alone
 pub record IsOfBatches (f : Item → ℕ) : Type 0 where
@@ -43,26 +39,12 @@ pub record Unbatched (s t : ArrivalState) : Type 0 where
   pub results : (j : ℕ) (x : Slot) → get_elem? t.results j ≡ some x → (y : Slot) × (get_elem? s.results j ≡ some y) × (was_emptied x ≡ was_emptied y)
   pub hands : (f : Item → ℕ) → IsOfBatches f → in_hands f t.desks ≡ in_hands f s.desks
 
--- a slot changes from y to z, which count alike
-pub alike_set : (m : Slot → ℕ) (xs : List Slot) (j : ℕ) (y z : Slot) → get_elem? xs j ≡ some y → m z ≡ m y → (i : ℕ) (x : Slot) → get_elem? (set xs j z) i ≡ some x → (w : Slot) × (get_elem? xs i ≡ some w) × (m x ≡ m w)
-alike_set m xs j y z here same i x e = ⊎_elim (λ (q : (i ≡ j) × (z ≡ x)). (y, ap (get_elem? xs) q.0 ∙ here, ap m (sym q.1) ∙ same)) (λ (q : (i ≢ j) × (get_elem? xs i ≡ some x)). (x, q.1, refl)) (at_set xs j i z x e)
-
--- a slot into which nothing was put was not emptied
-pub not_emptied : (y : Slot) → was_put y ≡ 0 → was_emptied y ≡ 0
-not_emptied fresh h = refl
-not_emptied reached h = refl
-not_emptied (holds l) h = refl
-not_emptied emptied h = h
-
 module _ (p : Plan) (good : IsPlan p) (P : ArrivalState → Type 0) (s : ArrivalState) (f : P s) (k : (t : ArrivalState) → Unbatched s t → P t) where
-  same_results : (j : ℕ) (x : Slot) → get_elem? s.results j ≡ some x → (y : Slot) × (get_elem? s.results j ≡ some y) × (was_emptied x ≡ was_emptied y)
-  same_results j x e = (x, e, refl)
-
   pub unbatched_claim : (i : ℕ) → P (move p s (claim i))
   unbatched_claim i = desk_keeps P s i _ _ f (λ v e m. k _ (record {
     counts = refl;
     batches = refl;
-    results = same_results;
+    results = alike_here was_emptied s.results;
     hands = λ h is. let w : View = after_claim p v s.claimed in cond_both (ltb s.claimed (task_count p)) (v.hand ++ Claimed s.claimed ∷ []) v.hand (λ (hand : List Item). w.hand ≡ hand → in_hands h (set s.desks i w) ≡ in_hands h s.desks)
         (λ _ g. let a = hands_more h s.desks i v w (Claimed s.claimed) e g in let z = is.claimed s.claimed in omega arith) (λ _ g. hands_same h s.desks i v w e g) refl;
   }))
@@ -71,7 +53,7 @@ module _ (p : Plan) (good : IsPlan p) (P : ArrivalState → Type 0) (s : Arrival
   unbatched_take_task i n = item_keeps P s i _ _ _ f (λ v e x g m. k _ (record {
     counts = refl;
     batches = refl;
-    results = same_results;
+    results = alike_here was_emptied s.results;
     hands = λ h is. let y : LoadedTask = record { task = n; failed = false } in let a = claimed_gives h s.desks i v (after_take_task v n) e n (Loaded y ∷ []) x g refl in let b = is.claimed n in let c = is.loaded y in omega arith;
   }))
 
@@ -79,7 +61,7 @@ module _ (p : Plan) (good : IsPlan p) (P : ArrivalState → Type 0) (s : Arrival
   unbatched_arrive i n = item_keeps P s i _ _ _ f (λ v e x g m. let q : ℕ = search_of p n in let t : ℕ = get_or s.tickets q 0 in k _ (record {
     counts = refl;
     batches = refl;
-    results = same_results;
+    results = alike_here was_emptied s.results;
     hands = λ h is. let a = loaded_gives h s.desks i v (after_arrive v n x q t) e n (arrived_items n x q t) x g refl in let b = a.2 in let c = is.loaded (record { task = n; failed = a.0 }) in let d = is.arrived (record { task = n; failed = is_marked x; search = q; ticket = t; at_slot = false }) in omega arith;
   }))
 
@@ -100,18 +82,18 @@ module _ (p : Plan) (good : IsPlan p) (P : ArrivalState → Type 0) (s : Arrival
       })))
 
   pub unbatched_split : (i n : ℕ) → P (move p s (split i n))
-  unbatched_split i n = desk_keeps P s i _ _ f (λ v e m. k _ (record { counts = refl; batches = refl; results = same_results; hands = λ h is. hands_split h s.desks i n v e }))
+  unbatched_split i n = desk_keeps P s i _ _ f (λ v e m. k _ (record { counts = refl; batches = refl; results = alike_here was_emptied s.results; hands = λ h is. hands_split h s.desks i n v e }))
 
   pub unbatched_join : (i j : ℕ) → P (move p s (join i j))
-  unbatched_join i j = desk_keeps P s i _ _ f (λ v e m. desk_keeps P s j _ _ f (λ w d z. k _ (record { counts = refl; batches = refl; results = same_results; hands = λ h is. hands_join h s.desks i j v w e d (apart_from i j m) (bare w.hand z) })))
+  unbatched_join i j = desk_keeps P s i _ _ f (λ v e m. desk_keeps P s j _ _ f (λ w d z. k _ (record { counts = refl; batches = refl; results = alike_here was_emptied s.results; hands = λ h is. hands_join h s.desks i j v w e d (apart_from i j m) (bare w.hand z) })))
 
   pub unbatched_stop : (i n : ℕ) → P (move p s (stop i n))
   unbatched_stop i n = item_keeps P s i _ _ _ f (λ v e x g m. k _ (record {
     counts = refl;
     batches = refl;
-    results = same_results;
+    results = alike_here was_emptied s.results;
     hands = λ h is. let y : LoadedTask = record { task = n; failed = true } in let a = loaded_gives h s.desks i v (after_stop v n) e n (Loaded y ∷ []) x g refl in let b = a.2 in let c = is.loaded (record { task = n; failed = a.0 }) in let d = is.loaded y in omega arith;
   }))
 
   pub unbatched_stopped : (i q : ℕ) → P (move p s (stopped i q))
-  unbatched_stopped i q = desk_keeps P s i _ _ f (λ v e m. k _ (record { counts = refl; batches = refl; results = same_results; hands = λ h is. hands_same h s.desks i v (after_stopped v q (get_or s.stops q 0)) e refl }))
+  unbatched_stopped i q = desk_keeps P s i _ _ f (λ v e m. k _ (record { counts = refl; batches = refl; results = alike_here was_emptied s.results; hands = λ h is. hands_same h s.desks i v (after_stopped v q (get_or s.stops q 0)) e refl }))

@@ -1,4 +1,5 @@
 -- The tasks of the searches, their batches, and where the words and slots of a search stand.
+-- Elasticsearch Reference 8, 'Search API', `batched_reduce_size`: results of shards are merged in batches.
 use Rattle.std.specs.Prelude.{ℕ, ◌<◌, ◌≤◌, ◌+◌, ◌-◌, ◌*◌, min, nat_lt, length, take, slice_index}
 use Rattle.std.specs.List.{sum_by}
 use Rattle.arrival_moves.specs.declared.plan.Plan.{Plan}
