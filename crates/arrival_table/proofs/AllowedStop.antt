@@ -20,6 +20,7 @@ use Rattle.arrival_table.specs.Steps.{IsReached, Stops, ReadsStop, Looks}
 use Rattle.arrival_moves.proofs.Runs.{kept_run, move_item_is, move_desk_is}
 use Rattle.arrival_moves.proofs.Sums.{sum_by_has}
 use Rattle.arrival_table.proofs.Allowed.{again, desk_there, desks_now}
+use Rattle.arrival_moves.proofs.Stops.{NotesKept}
 use Rattle.arrival_table.proofs.Lists.{set_word, get_right, set_right}
 use Rattle.arrival_table.proofs.Outs.{out_stays}
 
@@ -41,7 +42,7 @@ module _ {A R : Type 0} (load : A → Label) (outcome : R → Label) (p : Plan) 
       let there : get_elem? b.desks id ≡ some v = desk_there load outcome p good s b id me.0 r.1 here in
       let start : j ≡ length b.tickets + (task_count p + q) = (let l = f.shape.tickets in omega arith) in let next : task_count p + q ≡ length b.counts + q = (let l = f.shape.counts in omega arith) in
       let is : n ≡ get_or b.stops q 0 = ap (λ ws. get_or ws (suc j) 0) r.1.words ∙ (get_right b.tickets (b.counts ++ b.stops) j (task_count p + q) start ∙ get_right b.counts b.stops (task_count p + q) q next) in
-      let low = f.stops.low q in let one : bit_or n 1 ≡ 1 = or_one n (omega arith) in let w : Known = now_knows me.0 (after_stop v k) in (
+      let low = f.notes.low q in let one : bit_or n 1 ≡ 1 = or_one n (omega arith) in let w : Known = now_knows me.0 (after_stop v k) in (
         w,
         keeps,
         tt,
@@ -60,7 +61,7 @@ module _ {A R : Type 0} (load : A → Label) (outcome : R → Label) (p : Plan) 
       let there : get_elem? b.desks id ≡ some v = desk_there load outcome p good s b id me.0 r.1 here in
       let start : j ≡ length b.tickets + (task_count p + q) = (let l = f.shape.tickets in omega arith) in let next : task_count p + q ≡ length b.counts + q = (let l = f.shape.counts in omega arith) in
       let is : n ≡ get_or b.stops q 0 = ap (λ ws. get_or ws (suc j) 0) r.1.words ∙ (get_right b.tickets (b.counts ++ b.stops) j (task_count p + q) start ∙ get_right b.counts b.stops (task_count p + q) q next) in
-      let low = f.stops.low q in let w : Known = now_knows me.0 (after_stopped v q n) in
+      let low = f.notes.low q in let w : Known = now_knows me.0 (after_stopped v q n) in
       let to : record b { desks = set b.desks id (after_stopped v q (get_or b.stops q 0)) } ≡ record b { desks = set b.desks id (after_stopped v q n) } = ap (λ z. record b { desks = set b.desks id (after_stopped v q z) }) (sym is) in (
         w,
         keeps,
