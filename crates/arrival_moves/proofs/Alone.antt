@@ -52,6 +52,7 @@ arrived_le p q t (Put z) = omega arith
 arrived_le p q t (Batch z) = omega arith
 arrived_le p q t (Closed z) = omega arith
 
+-- a number that is no greater at each item is none greater in all hands
 hands_le : (f g : Item → ℕ) → ((x : Item) → f x ≤ g x) → (vs : List View) → in_hands f vs ≤ in_hands g vs
 hands_le f g le vs = sum_by-le-sum_by (in_hand f) (in_hand g) vs (λ v. sum_by-le-sum_by f g v.hand le)
 
@@ -64,9 +65,11 @@ module _ (p : Plan) (good : IsPlan p) (s : ArrivalState) (f : IsKept p s) where
       let n : ℕ = p.batch in let bn : ℕ = b * n in let m : ℕ = get_or s.tickets q 0 in let k : ℕ = tasks_of p q in let low : bn ≤ t = place.0 in let high : t < bn + min n (k - bn) = place.1 in let room : min n (k - bn) ≤ min n (m - bn) = omega arith in
       let small : min n (m - bn) ≤ min n (k - bn) = omega arith in (omega arith, omega arith)
 
+  -- no two desks have one task
   pub tasks_alone : (i j k : ℕ) (v u : View) → get_elem? s.desks i ≡ some v → get_elem? s.desks j ≡ some u → 1 ≤ in_hand (in_item (task_times k)) v → 1 ≤ in_hand (in_item (task_times k)) u → i ≡ j
   tasks_alone i j k v u e d h m = let a = f.tasks.once k in let b = one_if_le (ltb k s.claimed && ltb k (task_count p)) in one_desk (in_item (task_times k)) s.desks i j v u (omega arith) e d h m
 
+  -- no two desks have one ticket with its task
   pub tickets_alone : (i j q t : ℕ) (v u : View) → get_elem? s.desks i ≡ some v → get_elem? s.desks j ≡ some u → HasItem (is_arrived q t) v → HasItem (is_arrived q t) u → i ≡ j
   tickets_alone i j q t v u e d h m = let a = f.results.below q t in let b = one_if_le (ltb t (get_or s.tickets q 0)) in one_desk (arrived_at q t) s.desks i j v u (omega arith) e d (has_one (is_arrived q t) v h) (has_one (is_arrived q t) u m)
 
@@ -75,6 +78,7 @@ module _ (p : Plan) (good : IsPlan p) (s : ArrivalState) (f : IsKept p s) where
   batch_held i q b v e h = let real = held_real p good s f.shape f.labels f.batches i q b v h.0 e h.1 in let y = has_slot s.batches (place_of p q b) (subst (λ z. place_of p q b < z) (sym f.shape.batches) (place_within p q b (batch_first p good q b real))) in
       let a = f.batches.last q b y.0 real y.1 in let c = hands_has (batch_at q b) s.desks i v (is_batch q b) h.0 e h.1 in let d : batch_at q b h.0 ≡ 1 = ap one_if (found_is (is_batch q b) v.hand h.0 h.1) in let k = one_if_le (leb (batch_size p q b) (get_or s.counts (place_of p q b) 0)) in (omega arith, omega arith)
 
+  -- no two desks have one batch
   pub batches_alone : (i j q b : ℕ) (v u : View) → get_elem? s.desks i ≡ some v → get_elem? s.desks j ≡ some u → HasItem (is_batch q b) v → HasItem (is_batch q b) u → i ≡ j
   batches_alone i j q b v u e d h m = let a = (batch_held i q b v e h).0 in one_desk (batch_at q b) s.desks i j v u (omega arith) e d (has_one (is_batch q b) v h) (has_one (is_batch q b) u m)
 

@@ -8,7 +8,8 @@ use Rattle.arrival_moves.specs.Lists.{one_if, times, numbers_from}
 use Rattle.arrival_moves.specs.Plans.{tasks_of, batch_size, IsPlan}
 use Rattle.arrival_moves.proofs.NumberLists.{numbers_in, numbers_else}
 
-further : (x y n : ℕ) → x < y → x * n + n ≤ y * n
+-- one batch more begins a whole batch later
+pub further : (x y n : ℕ) → x < y → x * n + n ≤ y * n
 further x y n h = let a : suc x * n ≤ y * n = mul-le-mul_right n h in omega (arith, suc-mul x n)
 
 module _ (p : Plan) (good : IsPlan p) where
@@ -29,6 +30,7 @@ module _ (p : Plan) (good : IsPlan p) where
       (λ y. let a = in_batch q b u h y in let c = numbers_in u (b * p.batch) (batch_size p q b) a.0 a.1 in let d : one_if (eqb (u / p.batch) b) ≡ 1 = ap one_if (eq-eqb (u / p.batch) b y) in omega arith)
       (λ y. let c = numbers_else u (b * p.batch) (batch_size p q b) (not_in_batch q b u y) in let d : one_if (eqb (u / p.batch) b) ≡ 0 = ap one_if (ne_eqb (u / p.batch) b y) in omega arith)
 
+  -- a whole batch has no ticket of another batch, and none past the search's last
   pub batch_within : (q b u : ℕ) → times u (numbers_from (b * p.batch) (batch_size p q b)) ≤ one_if (eqb (u / p.batch) b && ltb u (tasks_of p q))
   batch_within q b u = dite (dec_lt u (tasks_of p q))
       (λ y. dite (ℕ_discrete (u / p.batch) b)

@@ -51,6 +51,7 @@ pub record BatchesKept (p : Plan) (s : ArrivalState) : Type 0 where
   pub merging : (q b : ℕ) (x : Slot) → IsBatch p q b → get_elem? s.batches (place_of p q b) ≡ some x → in_hands (merging_at q b) s.desks ≡ is_reached x
   pub closed : (q b : ℕ) (x : Slot) → IsBatch p q b → get_elem? s.batches (place_of p q b) ≡ some x → in_hands (closed_at q b) s.desks ≡ was_emptied x
 
+-- these four count batches and merged results alone
 batch_alone : (q b : ℕ) → IsOfBatches (batch_at q b)
 batch_alone q b = record { claimed = λ k. refl; loaded = λ z. refl; arrived = λ z. refl; put = λ z. refl }
 
@@ -79,24 +80,31 @@ set_cases p xs q t r n y x l m e same other = ⊎_elim
 abbrev whole_batch : Plan → ℕ → ℕ → ℕ → Item
 whole_batch p q b n = Batch (record { search = q; batch = b; due = numbers_from (b * p.batch) n; taken = no_label; at_slot = false })
 
+-- what a count brings that is the batch's last
 due_yes : (f : Item → ℕ) (p : Plan) (q b n : ℕ) → n ≡ batch_size p q b → sum_by f (batch_due p q b n) ≡ f (whole_batch p q b n)
 due_yes f p q b n h = let a = sum_by-cons f (whole_batch p q b n) [] in let c : sum_by f (batch_due p q b n) ≡ sum_by f (whole_batch p q b n ∷ []) = ap (sum_by f) (cond-true _ _ _ (eq-eqb n (batch_size p q b) h)) in omega arith
 
+-- what any other count brings
 due_no : (f : Item → ℕ) (p : Plan) (q b n : ℕ) → n ≢ batch_size p q b → sum_by f (batch_due p q b n) ≡ 0
 due_no f p q b n h = ap (sum_by f) (cond-false _ _ _ (ne_eqb n (batch_size p q b) h))
 
+-- a number that is reached counts 1
 le_one : (a b : ℕ) → a ≤ b → one_if (leb a b) ≡ 1
 le_one a b h = ap one_if (le-leb a b h)
 
+-- and one that is not counts 0
 le_none : (a b : ℕ) → b < a → one_if (leb a b) ≡ 0
 le_none a b h = ap one_if (lt-leb a b h)
 
+-- of a batch whose desk is at its slot
 at_slot_one : (q b r c : ℕ) (w : Bool) → w ≡ true → one_if (eqb q r && eqb b c && w) ≡ one_if (eqb q r && eqb b c)
 at_slot_one q b r c w h = ap (λ y. one_if (eqb q r && eqb b c && y)) h ∙ one_if_always (eqb q r && eqb b c)
 
+-- and of one whose desk is not
 at_slot_none : (q b r c : ℕ) (w : Bool) → w ≡ false → one_if (eqb q r && eqb b c && w) ≡ 0
 at_slot_none q b r c w h = ap (λ y. one_if (eqb q r && eqb b c && y)) h ∙ one_if_never (eqb q r && eqb b c)
 
+-- a batch at its slot is a batch
 merging_le : (q b : ℕ) (x : Item) → merging_at q b x ≤ batch_at q b x
 merging_le q b (Claimed j) = omega arith
 merging_le q b (Loaded z) = omega arith
@@ -109,6 +117,7 @@ module _ (p : Plan) (good : IsPlan p) where
   abbrev B : ArrivalState → Type 0
   B = BatchesKept p
 
+  -- a move that touches no batch keeps all four
   untouched : (s : ArrivalState) → B s → (t : ArrivalState) → Unbatched s t → B t
   untouched s f t u = let complete : (q b : ℕ) → is_complete p t q b ≡ is_complete p s q b = λ q b. ap (λ ws. one_if (leb (batch_size p q b) (get_or ws (place_of p q b) 0))) u.counts in
       let old : (j : ℕ) (x : Slot) → get_elem? t.batches j ≡ some x → get_elem? s.batches j ≡ some x = λ j x e. sym (ap (λ xs. get_elem? xs j) u.batches) ∙ e in record {
@@ -127,6 +136,7 @@ module _ (p : Plan) (good : IsPlan p) where
   whole_at : (q d r b n : ℕ) → batch_at r b (whole_batch p q d n) ≡ one_if (eqb q r && eqb d b)
   whole_at q d r b n = refl
 
+  -- a whole batch has each of its own tickets due once
   whole_due : (q d r u n : ℕ) → n ≡ batch_size p q d → u < tasks_of p r → due_at r u (whole_batch p q d n) ≡ one_if (eqb q r && eqb d (u / p.batch))
   whole_due q d r u n is range = dite (ℕ_discrete q r)
       (λ same. let a : due_at r u (whole_batch p q d n) ≡ times u (numbers_from (d * p.batch) n) = cond-true _ _ _ (eq-eqb q r same) in let b : times u (numbers_from (d * p.batch) n) ≡ times u (numbers_from (d * p.batch) (batch_size p q d)) = ap (λ m. times u (numbers_from (d * p.batch) m)) is in
@@ -136,6 +146,7 @@ module _ (p : Plan) (good : IsPlan p) where
 
   module _ (s : ArrivalState) (shape : HasShape p s) (labels : LabelsFit p s) (f : B s) where
     module _ (i q t : ℕ) (v : View) (x : Item) (words : WordsFit p s) (counts : CountsFit p s) (e : get_elem? s.desks i ≡ some v) (g : find_item (is_put q t) v.hand ≡ some x) where
+      -- a count is kept track of, whether it is the last or not
       counts_one : let c = place_of p q (t / p.batch) in let n = get_or s.counts c 0 + 1 in B (record s { counts = set s.counts c n; desks = set s.desks i (after_count p v q t n) })
       counts_one = let d : ℕ = t / p.batch in let c : ℕ = place_of p q d in let n : ℕ = get_or s.counts c 0 + 1 in let w : View = after_count p v q t n in let vs : List View = set s.desks i w in let ys : List Item = batch_due p q d n in let ws : List ℕ = set s.counts c n in
           let range = (counted p good s i q t v x shape words counts e g).0 in let room = count_room s i q t v x words counts range e g in let real = ticket_batch p good q t range in let low = batch_first p good q d real in
@@ -164,6 +175,7 @@ module _ (p : Plan) (good : IsPlan p) where
           }
 
     module _ (i q t : ℕ) (v : View) (x : Item) (l : Label) (e : get_elem? s.desks i ≡ some v) (g : find_item (is_batch q (t / p.batch)) v.hand ≡ some x) (m : is_due t x ≡ true) (o : get_elem? s.results (place_of p q t) ≡ some (holds l)) where
+      -- a result that is taken is due no longer, and its slot is emptied
       takes_one : B (record s { results = set s.results (place_of p q t) emptied; desks = set s.desks i (after_take_result p v q t x l) })
       takes_one = let w : View = after_take_result p v q t x l in let vs : List View = set s.desks i w in let z = batch_found p good s labels i v e q (t / p.batch) x g in let h : HeldBatch = z.0 in let has = due_now t h (subst (λ y. is_due t y ≡ true) z.1 m) in
           let range : t < tasks_of p q = subst (λ y. t < tasks_of p y) z.2 (due_range p good h t z.4 has).1 in
@@ -183,13 +195,16 @@ module _ (p : Plan) (good : IsPlan p) where
           }
 
     module _ (i q b : ℕ) (v : View) (x : Item) (e : get_elem? s.desks i ≡ some v) (g : find_item (is_batch q b) v.hand ≡ some x) where
+      -- the item is a batch that fits
       held : (z : HeldBatch) × (x ≡ Batch z) × (z.search ≡ q) × (z.batch ≡ b) × HeldFits p z
       held = batch_found p good s labels i v e q b x g
 
+      -- the batch is one that its search has
       pub held_real : IsBatch p q b
       unfolding held
       held_real = subst (λ y. y * p.batch < tasks_of p q) held.3 (subst (λ y. held.0.batch * p.batch < tasks_of p y) held.2 held.4.real)
 
+      -- the numbers of the batch in hand, before and after its desk comes to the slot
       own : (r c : ℕ) → (batch_at r c x ≡ one_if (eqb q r && eqb b c)) × (merging_at r c x ≡ one_if (eqb q r && eqb b c && is_at_slot x)) × (merging_at r c (reached_item x) ≡ one_if (eqb q r && eqb b c && true)) × (batch_at r c (reached_item x) ≡ one_if (eqb q r && eqb b c))
           × (closed_at r c x ≡ 0) × (closed_at r c (reached_item x) ≡ 0)
       own r c = let z = as_held in (
@@ -215,6 +230,7 @@ module _ (p : Plan) (good : IsPlan p) where
           let h = hands_rest (merging_at q b) (batch_at q b) (merging_le q b) s.desks i v (is_batch q b) x e g in let a = f.last q b y.0 real y.1 in let k = one_if_le (leb (batch_size p q b) (get_or s.counts (place_of p q b) 0)) in let n = f.merging q b y.0 real y.1 in let put = y.2 in
           y.1 ∙ ap some (none_but y.0 y.2 (omega arith))
 
+      -- the desk comes to the slot of the merged result
       reaches : is_at_slot x ≡ false → B (record s { batches = set s.batches (place_of p q b) reached; desks = set s.desks i (after_reach_batch v q b x) })
       reaches shut = let w : View = after_reach_batch v q b x in let vs : List View = set s.desks i w in let real = held_real in let low = batch_first p good q b real in let was = fresh_batch shut in
           let moved : (k : Item → ℕ) → in_hands k vs + k x ≡ in_hands k s.desks + k (reached_item x) = λ k. let a = hands_exchanged k s.desks i v w (is_batch q b) (reached_item x ∷ []) x e g refl in omega arith in
@@ -233,6 +249,7 @@ module _ (p : Plan) (good : IsPlan p) where
           due_reached : (r u : ℕ) → due_at r u (reached_item x) ≡ due_at r u x
           due_reached r u = let z = batch_found p good s labels i v e q b x g in ap (λ y. due_at r u (reached_item y)) z.1 ∙ sym (ap (due_at r u) z.1)
 
+      -- the merged result is put, and the batch leaves the hand
       puts_merged : (l : Label) → may_put_merged l x ≡ true → is_at_slot x ≡ true → B (record s { batches = set s.batches (place_of p q b) (holds l); desks = set s.desks i (after_put_merged v q b) })
       puts_merged l m at = let w : View = after_put_merged v q b in let vs : List View = set s.desks i w in let real = held_real in let low = batch_first p good q b real in let was = batch_slot in
           let moved : (k : Item → ℕ) → in_hands k vs + k x ≡ in_hands k s.desks = λ k. let a = hands_exchanged k s.desks i v w (is_batch q b) [] x e g refl in omega arith in
@@ -252,6 +269,7 @@ module _ (p : Plan) (good : IsPlan p) where
           nothing_due r u = let z = batch_found p good s labels i v e q b x g in let none = none_due l z.0 (subst (λ y. may_put_merged l y ≡ true) z.1 m) in
               ap (due_at r u) z.1 ∙ ⊎_elim (λ (y : eqb z.0.search r ≡ true). cond-true _ _ _ y ∙ ap (times u) none) (λ (y : eqb z.0.search r ≡ false). cond-false _ _ _ y) (cases_Bool (eqb z.0.search r))
 
+    -- a merged result is taken out
     closes : (i q b : ℕ) (v : View) (l : Label) → IsBatch p q b → get_elem? s.desks i ≡ some v → get_elem? s.batches (place_of p q b) ≡ some (holds l) → B (record s { batches = set s.batches (place_of p q b) emptied; desks = set s.desks i (after_close v q b l) })
     closes i q b v l real e o = let w : View = after_close v q b l in let vs : List View = set s.desks i w in let low = batch_first p good q b real in let new : Item = Closed (record { search = q; batch = b; taken = l }) in
         let moved : (k : Item → ℕ) → in_hands k vs ≡ in_hands k s.desks + k new = λ k. hands_more k s.desks i v w new e refl in
@@ -266,6 +284,7 @@ module _ (p : Plan) (good : IsPlan p) where
               (λ u z is one. let a = f.closed r c (holds l) there (place r c u z) in let n : was_emptied emptied ≡ was_emptied y = ap was_emptied is in omega arith) (λ none old. let a = f.closed r c y there old in omega arith);
         }
 
+  -- every move keeps all four
   pub batches_move : (s : ArrivalState) (m : Move) → HasShape p s → WordsFit p s → ResultsFit p s → CountsFit p s → LabelsFit p s → B s → B (move p s m)
   batches_move s (claim i) h ws r c n f = unbatched_claim p good B s f (untouched s f) i
   batches_move s (take_task i k) h ws r c n f = unbatched_take_task p good B s f (untouched s f) i k
@@ -280,9 +299,11 @@ module _ (p : Plan) (good : IsPlan p) where
   batches_move s (stop i k) h ws r c n f = unbatched_stop p good B s f (untouched s f) i k
   batches_move s (stopped i q) h ws r c n f = unbatched_stopped p good B s f (untouched s f) i q
 
+  -- at the opening no batch is complete
   none_counted : (q b : ℕ) → IsBatch p q b → is_complete p (opened p) q b ≡ 0
   none_counted q b h = let z = zeros p good (task_count p) (place_of p q b) in let a = batch_some p good q b h in le_none (batch_size p q b) (get_or (opened p).counts (place_of p q b) 0) (omega arith)
 
+  -- and all four hold
   pub batches_opened : B (opened p)
   batches_opened = record {
     last = λ q b x h e. let a = none_counted q b h in let c : was_put fresh ≡ was_put x = ap was_put (first_slot (task_count p) _ x e) in omega arith;

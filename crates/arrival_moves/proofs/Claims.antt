@@ -22,9 +22,11 @@ use Rattle.arrival_moves.proofs.CloseGuards.{close_guard}
 use Rattle.arrival_moves.proofs.Cases.{desk_keeps, item_keeps, by_label, by_test, not_idle}
 
 module _ (p : Plan) where
+  -- where the desk has ended, all tasks are claimed
   abbrev Ended : ℕ → View → Type 0
   Ended n v = IsTrue v.ended → task_count p ≤ n
 
+  -- a desk that made no claim has nothing in hand
   abbrev Idle : View → Type 0
   Idle v = v.drawn ≡ 0 → v.hand ≡ []
 
@@ -38,9 +40,11 @@ module _ (p : Plan) where
     idle = λ j u e. each_set Idle s.desks i w f.idle idle j u (sym (ap (λ us. get_elem? us j) desks) ∙ e);
   }
 
+  -- an exchange in a hand changes no claim
   item_same : (s t : ArrivalState) (i : ℕ) (v : View) (is : Item → Bool) (x : Item) (h : List Item) → ClaimsFit p s → get_elem? s.desks i ≡ some v → find_item is v.hand ≡ some x → t.claimed ≡ s.claimed → t.desks ≡ set s.desks i (record v { hand = h }) → ClaimsFit p t
   item_same s t i v is x h f here found claimed desks = claims_same s t i v (record v { hand = h }) f here claimed desks refl refl refl (λ z. absurd (not_idle is v x found (f.idle i v here) z))
 
+  -- a claim raises the word and the desk's number by one
   claims_drawn : (s : ArrivalState) (i : ℕ) (v : View) → ClaimsFit p s → get_elem? s.desks i ≡ some v → 1 ≤ v.left → ClaimsFit p (record s { claimed = s.claimed + 1; desks = set s.desks i (after_claim p v s.claimed) })
   claims_drawn s i v f here left = let n : ℕ = s.claimed in let w : View = after_claim p v n in record {
     word = let a = sum_by_set (λ (u : View). u.drawn) s.desks i v w here in let c = f.word in omega arith;
@@ -53,6 +57,7 @@ module _ (p : Plan) where
     by_or false true h k y = k refl
     by_or false false h k y = absurd (false≢true y)
 
+  -- what one desk gives the new one has
   claims_split : (s : ArrivalState) (i k : ℕ) (v : View) → ClaimsFit p s → get_elem? s.desks i ≡ some v → k ≤ v.left → ClaimsFit p (record s { desks = set s.desks i (after_split v k) ++ split_off k ∷ [] })
   claims_split s i k v f here room = let w : View = after_split v k in let u : View = split_off k in let vs : List View = set s.desks i w in record {
     word = let a = sum_by_set (λ (y : View). y.drawn) s.desks i v w here in let b = sum_by_push (λ (y : View). y.drawn) vs u in let c = f.word in omega arith;
@@ -61,6 +66,7 @@ module _ (p : Plan) where
     idle = each_snoc Idle vs u (each_set Idle s.desks i w f.idle (f.idle i v here)) (λ _. refl);
   }
 
+  -- one desk has what two had
   claims_join : (s : ArrivalState) (i j : ℕ) (v w : View) → ClaimsFit p s → get_elem? s.desks i ≡ some v → get_elem? s.desks j ≡ some w → j ≢ i → w.hand ≡ [] → ClaimsFit p (record s { desks = set (set s.desks i (after_join v w)) j spent_view })
   claims_join s i j v w f here there apart bare = let u : View = after_join v w in let vs : List View = set s.desks i u in let there' : get_elem? vs j ≡ some w = set_else s.desks i j u apart ∙ there in record {
     word = let a = sum_by_set (λ (y : View). y.drawn) s.desks i v u here in let b = sum_by_set (λ (y : View). y.drawn) vs j w spent_view there' in let c = f.word in omega arith;
@@ -72,6 +78,7 @@ module _ (p : Plan) where
     by_or s true b h k y = h refl
     by_or s false b h k y = k y
 
+  -- every move keeps the claims fit
   pub claims_move : (s : ArrivalState) (m : Move) → ClaimsFit p s → ClaimsFit p (move p s m)
   claims_move s (claim i) f = desk_keeps (ClaimsFit p) s i _ _ f (λ v e m. claims_drawn s i v f e (leb-true _ _ m))
   claims_move s (take_task i k) f = item_keeps (ClaimsFit p) s i _ _ _ f (λ v e x found _. item_same s _ i v _ x _ f e found refl refl)
@@ -96,6 +103,7 @@ module _ (p : Plan) where
       drawn : (v : View) → may_close p q b v ≡ true → v.drawn ≡ 0 → ⊥
       drawn v m z = let d = (close_guard p q b v m).drawn in absurd (omega arith)
 
+  -- at the opening one desk has all claims
   pub claims_opened : ClaimsFit p (opened p)
   claims_opened = record {
     word = refl;

@@ -15,6 +15,7 @@ pub record MayClose (p : Plan) (q b : ℕ) (v : View) : Type 0 where
   pub closed : all_closed v.hand ≡ true
   pub real : b * p.batch < tasks_of p q
 
+-- the guard says all of it
 pub close_guard : (p : Plan) (q b : ℕ) (v : View) → may_close p q b v ≡ true → MayClose p q b v
 close_guard p q b v m = let a = and_parts _ _ m in let c = and_parts _ _ a.0 in let d = and_parts _ _ c.0 in let e = and_parts _ _ d.0 in record {
   drawn = leb-true _ _ e.0;

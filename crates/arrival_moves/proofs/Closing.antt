@@ -37,6 +37,7 @@ none_in_hands : (f : Item → ℕ) (vs : List View) → Each (λ (v : View). v.h
 none_in_hands f [] h = refl
 none_in_hands f (v ∷ vs) h = let a = sum_by-cons (in_hand f) v vs in let b : in_hand f v ≡ 0 = ap (sum_by f) (h 0 v refl) in let c = none_in_hands f vs (each_tail (λ (w : View). w.hand ≡ []) v vs h) in omega arith
 
+-- slots that hold nothing add up to nothing
 none_in_slots : (f : Label → ℕ) (xs : List Slot) → Each (λ y. in_slot f y ≡ 0) xs → in_slots f xs ≡ 0
 none_in_slots f [] h = refl
 none_in_slots f (y ∷ ys) h = let a = sum_by-cons (in_slot f) y ys in let b = h 0 y refl in let c = none_in_slots f ys (each_tail (λ z. in_slot f z ≡ 0) y ys h) in omega arith
@@ -46,26 +47,32 @@ some_slot : (f : Label → ℕ) (xs : List Slot) → 1 ≤ in_slots f xs → (j 
 some_slot f [] h = absurd (omega arith)
 some_slot f (y ∷ ys) h = let a = sum_by-cons (in_slot f) y ys in ⊎_elim (λ (z : 1 ≤ in_slot f y). (0, y, refl, z)) (λ (z : 1 ≤ in_slots f ys). let r = some_slot f ys z in (suc r.0, r.1, r.2, r.3)) (some_of (in_slot f y) (in_slots f ys) (omega arith))
 
+-- an element stands below the length
 there_below : {A : Type 0} (xs : List A) (j : ℕ) (y : A) → get_elem? xs j ≡ some y → j < length xs
 there_below [] j y e = absurd (some-ne-none y (sym e))
 there_below (x ∷ xs) zero y e = omega arith
 there_below (x ∷ xs) (suc j) y e = let r = there_below xs j y e in omega arith
 
 module _ (p : Plan) (good : IsPlan p) (s : ArrivalState) (f : IsKept p s) (i : ℕ) (v : View) (e : get_elem? s.desks i ≡ some v) (at : IsAtEnd v) where
+  -- no other desk has made a claim, so no hand holds anything
   no_hands : Each (λ (u : View). u.hand ≡ []) s.desks
   no_hands j u d = dite (ℕ_discrete j i)
       (λ same. let is : v ≡ u = some-injective v u (sym e ∙ (ap (get_elem? s.desks) (sym same) ∙ d)) in subst (λ (w : View). w.hand ≡ []) is at.bare)
       (λ other. let a = sum_by_pair (λ (w : View). w.left + w.drawn) s.desks i j v u other e d in let b = f.claims.whole in let c = at.whole in f.claims.idle j u d (omega arith))
 
+  -- every number of the hands is 0
   pub no_items : (h : Item → ℕ) → in_hands h s.desks ≡ 0
   no_items h = none_in_hands h s.desks no_hands
 
+  -- every task is claimed
   all_claimed : task_count p ≤ s.claimed
   all_claimed = f.claims.ended i v e at.ended
 
+  -- and has arrived
   pub all_arrived : (q : ℕ) → get_or s.tickets q 0 ≡ tasks_of p q
   all_arrived q = let a = f.words.word q in let b = no_items (waiting_of p q) in let c : drawn_of p q s.claimed ≡ tasks_of p q = ap (times q) (take_all s.claimed p.tasks all_claimed) in omega arith
 
+  -- and its batch is counted
   all_counted : (q b : ℕ) → IsBatch p q b → is_complete p s q b ≡ 1
   all_counted q b real = let a = f.counts.counts q b real in let c = no_items (uncounted_in p q b) in let d : tickets_in p b (get_or s.tickets q 0) ≡ batch_size p q b = ap (tickets_in p b) (all_arrived q) in ap one_if (le-leb (batch_size p q b) (get_or s.counts (place_of p q b) 0) (omega arith))
 
@@ -80,12 +87,15 @@ module _ (p : Plan) (good : IsPlan p) (s : ArrivalState) (f : IsKept p s) (i : �
   no_results h = none_in_slots h s.results (λ j y d. let low = there_below s.results j y d in let place = place_at p good j (subst (λ n. j < n) f.shape.results low) in let q : ℕ = place.0 in let t : ℕ = place.1 in
       let a = f.batches.due q t y place.2 (ap (get_elem? s.results) (sym place.3) ∙ d) in let b = no_items (due_at q t) in let c = all_counted q (t / p.batch) (ticket_batch p good q t place.2) in emptied_none h y (omega arith))
 
+  -- whatever there is lies in the slots of merged results
   all_merged : (h : Label → ℕ) → everywhere h s ≡ in_slots h s.batches
   all_merged h = let a = no_items (in_item h) in let b = no_results h in omega arith
 
+  -- these have each task once
   pub merged_once : (k : ℕ) → k < task_count p → in_slots (task_times k) s.batches ≡ 1
   merged_once k low = let a = f.tasks.once k in let b = all_merged (task_times k) in let all = all_claimed in let c : one_if (ltb k s.claimed && ltb k (task_count p)) ≡ 1 = ap one_if (and_from _ _ (lt-ltb k s.claimed (omega arith)) (lt-ltb k (task_count p) low)) in omega arith
 
+  -- and where one is skipped, one of its search failed
   pub merged_failed : (q b : ℕ) (l : Label) → IsBatch p q b → get_elem? s.batches (place_of p q b) ≡ some (holds l) → IsTrue l.skipped → (c : ℕ) × (m : Label) × IsBatch p q c × (get_elem? s.batches (place_of p q c) ≡ some (holds m)) × IsTrue m.failed
   merged_failed q b l real there skipped = let lab = f.labels.batches q b l real there in let own : of_search p q l.tasks ≡ cond (eqb q q) (length l.tasks) 0 = of_all p good q q l.tasks (λ k y. (lab.1 k y).1) in
       let same : cond (eqb q q) (length l.tasks) 0 ≡ length l.tasks = cond-true _ _ _ (eq-eqb q q refl) in let size = batch_some p good q b real in let len = lab.0 in

@@ -16,6 +16,7 @@ use Rattle.arrival_moves.specs.declared.item.Item.{Item}
 use Rattle.arrival_moves.specs.declared.item.Item.TheVariants.{Claimed, Loaded, Put}
 use Rattle.arrival_moves.specs.declared.plan.Plan.{Plan}
 use Rattle.arrival_moves.specs.declared.view.View.{View}
+use Rattle.arrival_moves.proofs.BatchRanges.{further}
 use Rattle.arrival_moves.proofs.Cases.{desk_keeps, item_keeps, by_test}
 use Rattle.arrival_moves.proofs.Items.{hands_more, hands_same, claimed_gives, loaded_gives, arrived_gives, put_gives}
 use Rattle.arrival_moves.specs.Fairness.{HasShape}
@@ -29,14 +30,12 @@ pub record CountsFit (p : Plan) (s : ArrivalState) : Type 0 where
   pub uncounted : (q t : ℕ) → in_hands (arrived_at q t) s.desks + in_hands (put_at q t) s.desks ≤ one_if (ltb t (get_or s.tickets q 0))
   pub counts : (q b : ℕ) → b * p.batch < tasks_of p q → get_or s.counts (place_of p q b) 0 + in_hands (uncounted_in p q b) s.desks ≡ tickets_in p b (get_or s.tickets q 0)
 
+-- these numbers know no batch and no slot
 put_quiet : (q t : ℕ) → IsQuiet (put_at q t)
 put_quiet q t = record { arrived = λ z. refl; batch = λ z. refl; closed = λ z. refl }
 
 pub uncounted_quiet : (p : Plan) (q b : ℕ) → IsQuiet (uncounted_in p q b)
 uncounted_quiet p q b = record { arrived = λ z. refl; batch = λ z. refl; closed = λ z. refl }
-
-further : (x y n : ℕ) → x < y → x * n + n ≤ y * n
-further x y n h = let a : suc x * n ≤ y * n = mul-le-mul_right n h in omega (arith, suc-mul x n)
 
 -- the number of tickets of a batch grows by one exactly with a ticket of it
 batch_step : (p : Plan) (t b : ℕ) → 2 ≤ p.batch → tickets_in p b (t + 1) ≡ tickets_in p b t + one_if (eqb (t / p.batch) b)
@@ -47,6 +46,7 @@ batch_step p t b big = let n : ℕ = p.batch in let d : ℕ = t / n in let m = d
     (λ y. let f : dn + n ≤ bn = further d b n y in let g : min n ((t + 1) - bn) ≡ min n (t - bn) = omega arith in omega arith)
     (λ y. let f : bn + n ≤ dn = further b d n (omega arith) in let g : min n ((t + 1) - bn) ≡ min n (t - bn) = omega arith in omega arith))
 
+-- a batch's number is below the number of its tickets and those before
 pub within_batch : (t n b k : ℕ) → 2 ≤ n → b * n < k → b < k
 within_batch t n zero k big h = omega arith
 within_batch t n (suc b) k big h = let a = within_batch t n b (k - 1) big (omega (arith, suc-mul b n)) in omega (arith, suc-mul b n)
@@ -55,6 +55,7 @@ module _ (p : Plan) (good : IsPlan p) where
   abbrev C : ArrivalState → Type 0
   C = CountsFit p
 
+  -- the counts fit where no word changes and no uncounted ticket comes or goes
   counts_same : (s t : ArrivalState) (vs : List View) → C s → t.tickets ≡ s.tickets → t.counts ≡ s.counts → t.desks ≡ vs → ((q n : ℕ) → in_hands (arrived_at q n) vs + in_hands (put_at q n) vs ≡ in_hands (arrived_at q n) s.desks + in_hands (put_at q n) s.desks)
       → ((q b : ℕ) → in_hands (uncounted_in p q b) vs ≡ in_hands (uncounted_in p q b) s.desks) → C t
   counts_same s t vs f tickets counts desks both same = record {
@@ -64,9 +65,11 @@ module _ (p : Plan) (good : IsPlan p) where
         let c : tickets_in p b (get_or t.tickets q 0) ≡ tickets_in p b (get_or s.tickets q 0) = ap (λ ws. tickets_in p b (get_or ws q 0)) tickets in let e : get_or t.counts (place_of p q b) 0 ≡ get_or s.counts (place_of p q b) 0 = ap (λ ws. get_or ws (place_of p q b) 0) counts in omega arith;
   }
 
+  -- and after a move that draws and counts nothing
   quietly : (s : ArrivalState) → C s → (t : ArrivalState) → Quietly s t → C t
   quietly s f t u = counts_same s t t.desks f u.tickets u.counts refl (λ q n. let a = u.hands (arrived_at q n) (arrived_quiet q n) in let b = u.hands (put_at q n) (put_quiet q n) in omega arith) (λ q b. u.hands (uncounted_in p q b) (uncounted_quiet p q b))
 
+  -- a ticket that is drawn is an uncounted one more
   arrives : (s : ArrivalState) (i k : ℕ) (v : View) (x : Item) → HasShape p s → WordsFit p s → C s → get_elem? s.desks i ≡ some v → find_item (is_loaded k) v.hand ≡ some x → let q = search_of p k in let t = get_or s.tickets q 0 in
       C (record s { tickets = set s.tickets q (t + 1); desks = set s.desks i (after_arrive v k x q t) })
   arrives s i k v x shape words f e g = let q : ℕ = search_of p k in let t : ℕ = get_or s.tickets q 0 in let w : View = after_arrive v k x q t in let vs : List View = set s.desks i w in let ys : List Item = arrived_items k x q t in
@@ -80,6 +83,7 @@ module _ (p : Plan) (good : IsPlan p) where
             (λ other. let u : tickets_in p b (get_or (set s.tickets q (t + 1)) r 0) ≡ tickets_in p b (get_or s.tickets r 0) = ap (tickets_in p b) (get_or-set_other s.tickets q r (t + 1) 0 (λ y. other (sym y))) in let m = both_none q (t / p.batch) r b (λ y. other y.0) in omega arith);
       }
 
+  -- a ticket that is put stays uncounted
   puts : (s : ArrivalState) (i q t : ℕ) (v : View) (x : Item) (rs : List Slot) → C s → get_elem? s.desks i ≡ some v → find_item (is_arrived q t) v.hand ≡ some x → C (record s { results = rs; desks = set s.desks i (after_put v q t) })
   puts s i q t v x rs f e g = let w : View = after_put v q t in let ys : List Item = Put (record { search = q; ticket = t }) ∷ [] in counts_same s _ (set s.desks i w) f refl refl refl
       (λ r n. let a = arrived_gives (arrived_at r n) s.desks i v w e q t ys x g refl in let a' = a.4 in let z = a.0 in let c : one_if (eqb z.search r && eqb z.ticket n) ≡ one_if (eqb q r && eqb t n) = λ j. one_if (eqb (a.2 j) r && eqb (a.3 j) n) in let d = arrived_gives (put_at r n) s.desks i v w e q t ys x g refl in let d' = d.4 in omega arith)
@@ -104,6 +108,7 @@ module _ (p : Plan) (good : IsPlan p) where
         },
       )
 
+  -- every move keeps the counts fit
   pub counts_move : (s : ArrivalState) (m : Move) → HasShape p s → WordsFit p s → C s → C (move p s m)
   counts_move s (claim i) h ws f = desk_keeps C s i _ _ f (λ v e _. let w : View = after_claim p v s.claimed in let vs : List View = set s.desks i w in
       let same : (g : Item → ℕ) → g (Claimed s.claimed) ≡ 0 → in_hands g vs ≡ in_hands g s.desks = λ g z. by_test (λ (hand : List Item). w.hand ≡ hand → in_hands g vs ≡ in_hands g s.desks) (ltb s.claimed (task_count p)) _ _ (λ _ k. let a = hands_more g s.desks i v w (Claimed s.claimed) e k in omega arith) (λ _ k. hands_same g s.desks i v w e k) refl in
@@ -122,6 +127,7 @@ module _ (p : Plan) (good : IsPlan p) where
       (λ q n. let a = loaded_gives (arrived_at q n) s.desks i v w e k ys x g refl in let b = loaded_gives (put_at q n) s.desks i v w e k ys x g refl in let a' = a.2 in let b' = b.2 in omega arith) (λ q b. let a = loaded_gives (uncounted_in p q b) s.desks i v w e k ys x g refl in let a' = a.2 in omega arith))
   counts_move s (stopped i q) h ws f = quiet_stopped p C s f (quietly s f) i q
 
+  -- at the opening nothing is drawn and nothing counted
   pub counts_opened : C (opened p)
   counts_opened = record {
     uncounted = λ q t. omega arith;

@@ -7,19 +7,24 @@ use Rattle.arrival_moves.specs.Hands.{find_item, exchanged}
 use Rattle.arrival_moves.proofs.Sums.{Each}
 
 module _ {X : Type 0} (F : X → Type 0) where
+  -- of no element
   pub each_none : Each F []
   each_none i v e = absurd (some-ne-none v (sym e))
 
+  -- of one element more
   pub each_cons : (x : X) (xs : List X) → F x → Each F xs → Each F (x ∷ xs)
   each_cons x xs f h zero v e = subst F (some-injective x v e) f
   each_cons x xs f h (suc i) v e = h i v e
 
+  -- of one element
   pub each_one : (x : X) → F x → Each F (x ∷ [])
   each_one x f = each_cons x [] f each_none
 
+  -- of the elements behind the first
   pub each_tail : (x : X) (xs : List X) → Each F (x ∷ xs) → Each F xs
   each_tail x xs h i v e = h (suc i) v e
 
+  -- of two lists in a row
   pub each_append : (xs ys : List X) → Each F xs → Each F ys → Each F (xs ++ ys)
   each_append [] ys h k = k
   each_append (x ∷ xs) ys h k = each_cons x (xs ++ ys) (h 0 x refl) (each_append xs ys (each_tail x xs h) k)

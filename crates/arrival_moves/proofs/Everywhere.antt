@@ -39,6 +39,7 @@ pub record Unmoved (s t : ArrivalState) : Type 0 where
   pub stops : t.stops ≡ s.stops
   pub every : (f : Label → ℕ) → f no_label ≡ 0 → everywhere f t ≡ everywhere f s
 
+-- an item at its slot stands for the same tasks
 same_reached : (f : Label → ℕ) (x : Item) → in_item f (reached_item x) ≡ in_item f x
 same_reached f (Claimed k) = refl
 same_reached f (Loaded z) = refl
@@ -104,27 +105,33 @@ module _ (p : Plan) (P : ArrivalState → Type 0) (s : ArrivalState) (f : P s) (
 
 -- the moves that change labels
 module _ (p : Plan) (s : ArrivalState) (h : Label → ℕ) (i : ℕ) (v : View) (e : get_elem? s.desks i ≡ some v) where
+  -- a task is claimed
   pub every_claimed : s.claimed < task_count p → everywhere h (record s { claimed = s.claimed + 1; desks = set s.desks i (after_claim p v s.claimed) }) ≡ everywhere h s + h (task_label s.claimed)
   every_claimed low = let w : View = after_claim p v s.claimed in let a = hands_more (in_item h) s.desks i v w (Claimed s.claimed) e (cond-true _ _ _ (lt-ltb s.claimed (task_count p) low)) in omega arith
 
+  -- a claim finds no task
   pub every_ended : task_count p ≤ s.claimed → everywhere h (record s { claimed = s.claimed + 1; desks = set s.desks i (after_claim p v s.claimed) }) ≡ everywhere h s
   every_ended high = let w : View = after_claim p v s.claimed in let a = hands_same (in_item h) s.desks i v w e (cond-false _ _ _ (le-ltb s.claimed (task_count p) high)) in omega arith
 
+  -- a result is put in the place of its task
   pub every_put : (q t : ℕ) (x : Item) (y : Slot) (z : ArrivedTask) (l : Label) → h no_label ≡ 0 → find_item (is_arrived q t) v.hand ≡ some x → x ≡ Arrived z → get_elem? s.results (place_of p q t) ≡ some y → was_put y ≡ 0
       → everywhere h (record s { results = set s.results (place_of p q t) (holds l); desks = set s.desks i (after_put v q t) }) + h (marked_label z.task z.failed) ≡ everywhere h s + h l
   every_put q t x y z l zero g is o none = let a = hands_exchanged (in_item h) s.desks i v (after_put v q t) (is_arrived q t) (Put (record { search = q; ticket = t }) ∷ []) x e g refl in let b : in_item h x ≡ h (marked_label z.task z.failed) = ap (in_item h) is in
       let c = sum_by_set (in_slot h) s.results (place_of p q t) y (holds l) o in let d = holds_none h y none in omega arith
 
+  -- a result's label joins those that were taken
   pub every_taken : (q t : ℕ) (x : Item) (z : HeldBatch) (l : Label) → find_item (is_batch q (t / p.batch)) v.hand ≡ some x → x ≡ Batch z → get_elem? s.results (place_of p q t) ≡ some (holds l)
       → everywhere h (record s { results = set s.results (place_of p q t) emptied; desks = set s.desks i (after_take_result p v q t x l) }) + (h z.taken + h l) ≡ everywhere h s + h (joined_label z.taken l)
   every_taken q t x z l g is o = let a = hands_exchanged (in_item h) s.desks i v (after_take_result p v q t x l) (is_batch q (t / p.batch)) (taken_from x t l ∷ []) x e g refl in let b : in_item h x ≡ h z.taken = ap (in_item h) is in
       let d : in_item h (taken_from x t l) ≡ h (joined_label z.taken l) = ap (λ y. in_item h (taken_from y t l)) is in let c = sum_by_set (in_slot h) s.results (place_of p q t) (holds l) emptied o in omega arith
 
+  -- a merged result is put in the place of its batch
   pub every_merged : (q b : ℕ) (x : Item) (y : Slot) (z : HeldBatch) (l : Label) → find_item (is_batch q b) v.hand ≡ some x → x ≡ Batch z → get_elem? s.batches (place_of p q b) ≡ some y → was_put y ≡ 0
       → everywhere h (record s { batches = set s.batches (place_of p q b) (holds l); desks = set s.desks i (after_put_merged v q b) }) + h z.taken ≡ everywhere h s + h l
   every_merged q b x y z l g is o none = let a = hands_exchanged (in_item h) s.desks i v (after_put_merged v q b) (is_batch q b) [] x e g refl in let c : in_item h x ≡ h z.taken = ap (in_item h) is in
       let d = sum_by_set (in_slot h) s.batches (place_of p q b) y (holds l) o in let n = holds_none h y none in omega arith
 
+  -- a task is marked failed
   pub every_stop : (n : ℕ) (x : Item) (ws : List ℕ) → find_item (is_loaded n) v.hand ≡ some x
       → (b : Bool) × (x ≡ Loaded (record { task = n; failed = b })) × (everywhere h (record s { stops = ws; desks = set s.desks i (after_stop v n) }) + h (marked_label n b) ≡ everywhere h s + h (marked_label n true))
   every_stop n x ws g = let a = loaded_gives (in_item h) s.desks i v (after_stop v n) e n (Loaded (record { task = n; failed = true }) ∷ []) x g refl in let c = a.2 in (a.0, a.1, omega arith)

@@ -34,6 +34,7 @@ module _ (p : Plan) (good : IsPlan p) (s : ArrivalState) (f : IsKept p s) where
       let kept : was_emptied y.0 ≡ 0 = ⊎_elim (λ (z : get_or s.counts (place_of p q (t / p.batch)) 0 < batch_size p q (t / p.batch)). let none : is_complete p s q (t / p.batch) ≡ 0 = ap one_if (lt-leb _ _ z) in omega arith) (λ (z : 1 ≤ in_hands (due_at q t) s.desks). omega arith) why in
       let l = full_slot y.0 (omega arith) kept in (l.0, y.1 ∙ ap some l.1)
 
+  -- what every move keeps is fair
   pub fair_of : IsFair p s
   fair_of = record {
     shape = f.shape;
@@ -53,5 +54,6 @@ module _ (p : Plan) (good : IsPlan p) (s : ArrivalState) (f : IsKept p s) where
     stops = record { failed = f.stops.failed; noted = λ i v q e h. f.notes.noted i v e q h; skipped = f.stops.skipped };
   }
 
+-- after every list of moves
 pub fair_run : (p : Plan) → IsPlan p → (ms : List Move) → IsFair p (run p ms)
 fair_run p good ms = fair_of p good (run p ms) (kept_run p good ms)

@@ -47,6 +47,7 @@ pub record HeldFits (p : Plan) (z : HeldBatch) : Type 0 where
   -- no task, no skipped one
   pub told : z.taken.skipped ≡ true → 1 ≤ length z.taken.tasks
 
+-- what the item stands for is as it should be
 abbrev pub ItemFits : Plan → Item → Type 0
 ItemFits p (Claimed k) = k < task_count p
 ItemFits p (Loaded z) = z.task < task_count p
@@ -55,6 +56,7 @@ ItemFits p (Put z) = Unit {0}
 ItemFits p (Batch z) = HeldFits p z
 ItemFits p (Closed z) = HoldsMerged p z
 
+-- and all that a desk has in hand
 abbrev pub HandFits : Plan → View → Type 0
 HandFits p v = Each (ItemFits p) v.hand
 
@@ -65,6 +67,7 @@ IsTicket p q t = t < tasks_of p q
 abbrev pub IsBatch : Plan → ℕ → ℕ → Type 0
 IsBatch p q b = b * p.batch < tasks_of p q
 
+-- what a result's label and a merged result's must be
 abbrev pub ResultFits : Plan → ℕ → ℕ → Label → Type 0
 ResultFits p q t l = (length l.tasks ≡ 1) × IsOfSearch p q l
 
@@ -82,10 +85,12 @@ pub record LabelsFit (p : Plan) (s : ArrivalState) : Type 0 where
   -- a slot that is no batch's is never full
   pub real : SlotsFit (IsTicket p) (λ q b l. IsBatch p q b) p s.batches
 
+-- the label that a full slot holds
 label_in : Slot → Label
 label_in (holds l) = l
 label_in _ = no_label
 
+-- equal full slots hold equal labels
 pub holds_same : (l m : Label) → holds l ≡ holds m → l ≡ m
 unfolding label_in
 holds_same l m e = ap label_in e
@@ -99,6 +104,7 @@ module _ (p : Plan) (R : ℕ → ℕ → Type 0) (F : ℕ → ℕ → Label → 
       (λ (u : (place_of p r n ≢ place_of p q t) × (get_elem? xs (place_of p r n) ≡ some (holds m))). f r n m there u.1)
       (at_set xs (place_of p q t) (place_of p r n) (holds l) (holds m) e)
 
+  -- and so where one comes to hold nothing
   pub slots_bare : (xs : List Slot) (j : ℕ) (y : Slot) → is_full y ≡ 0 → SlotsFit R F p xs → SlotsFit R F p (set xs j y)
   slots_bare xs j y bare f r n m there e = ⊎_elim
       (λ (u : (place_of p r n ≡ j) × (y ≡ holds m)). let a : is_full y ≡ 1 = ap is_full u.1 in absurd (omega arith))
@@ -115,9 +121,11 @@ pub record MergedLabel (l : Label) (z : HeldBatch) : Type 0 where
   pub failed : implies z.taken.failed l.failed ≡ true
   pub skipped : implies l.skipped z.taken.skipped ≡ true
 
+-- a batch that may be merged has no ticket due
 pub none_due : (l : Label) (z : HeldBatch) → may_put_merged l (Batch z) ≡ true → z.due ≡ []
 none_due l z m = same_is _ _ (and_parts _ _ m).0
 
+-- the label of a merged result at its slot
 pub merged_label : (l : Label) (z : HeldBatch) → may_put_merged l (Batch z) ≡ true → z.at_slot ≡ true → MergedLabel l z
 merged_label l z m at = let a = ⊎_elim (λ (y : not z.at_slot ≡ true). absurd (false≢true (sym (ap not at) ∙ y))) (λ y. y) (or_cases _ _ (and_parts _ _ m).1) in let b = and_parts _ _ a in let c = and_parts _ _ b.0 in let d = and_parts _ _ c.0 in
     record { tasks = same_is _ _ d.0; failed = d.1; skipped = c.1 }
@@ -130,6 +138,7 @@ module _ (p : Plan) (good : IsPlan p) where
   abbrev L : ArrivalState → Type 0
   L = LabelsFit p
 
+  -- a batch's number is that of a ticket too
   pub batch_first : (q b : ℕ) → IsBatch p q b → b < tasks_of p q
   batch_first q b h = within_batch 0 p.batch b (tasks_of p q) good.batch h
 
@@ -137,6 +146,7 @@ module _ (p : Plan) (good : IsPlan p) where
   pub ticket_batch : (q t : ℕ) → IsTicket p q t → IsBatch p q (t / p.batch)
   ticket_batch q t h = let m = div-add-mod' t p.batch in let dn : ℕ = (t / p.batch) * p.batch in let r : ℕ = t % p.batch in let m' : dn + r ≡ t = m in omega arith
 
+  -- a ticket is one
   ticket_first : (q t : ℕ) → IsTicket p q t → t < tasks_of p q
   ticket_first q t h = h
 
@@ -145,6 +155,7 @@ module _ (p : Plan) (good : IsPlan p) where
   due_range z t f h = let a = contains_times t z.due h in let b = f.due t in let c = and_parts _ _ (one_if_true _ (omega arith)) in (eqb-true _ _ c.0, ltb-true _ _ c.1)
 
   module _ (s : ArrivalState) (f : L s) where
+    -- a move that changes no slot keeps the slots' labels
     desks_only : (t : ArrivalState) → t.results ≡ s.results → t.batches ≡ s.batches → Each (HandFits p) t.desks → L t
     desks_only t results batches h = record {
       hands = h;
@@ -158,18 +169,23 @@ module _ (p : Plan) (good : IsPlan p) where
       pub fits_found : (is : Item → Bool) (x : Item) → find_item is v.hand ≡ some x → ItemFits p x
       fits_found is x g = each_found (ItemFits p) is v.hand x g (f.hands i v e)
 
+      -- the hand after others came for one item
       gives : (is : Item → Bool) (ys : List Item) → Each (ItemFits p) ys → Each (HandFits p) (set s.desks i (record v { hand = exchanged is ys v.hand }))
       gives is ys h = each_set (HandFits p) s.desks i (record v { hand = exchanged is ys v.hand }) f.hands (each_exchanged (ItemFits p) is ys v.hand (f.hands i v e) h)
 
+      -- and after one came for it
       gives_one : (is : Item → Bool) (y : Item) → ItemFits p y → Each (HandFits p) (set s.desks i (record v { hand = exchanged is (y ∷ []) v.hand }))
       gives_one is y h = gives is (y ∷ []) (each_one (ItemFits p) y h)
 
+      -- the batch in hand, with what holds of it
       pub batch_found : (q b : ℕ) (x : Item) → find_item (is_batch q b) v.hand ≡ some x → (z : HeldBatch) × (x ≡ Batch z) × (z.search ≡ q) × (z.batch ≡ b) × HeldFits p z
       batch_found q b x g = let z = as_batch q b x (found_is (is_batch q b) v.hand x g) in (z.0, z.1, z.2, z.3, subst (ItemFits p) z.1 (fits_found (is_batch q b) x g))
 
+      -- the task with its ticket in hand, with what holds of it
       pub arrived_found : (q t : ℕ) (x : Item) → find_item (is_arrived q t) v.hand ≡ some x → (z : ArrivedTask) × (x ≡ Arrived z) × (z.search ≡ q) × (z.ticket ≡ t) × (z.task < task_count p) × (search_of p z.task ≡ z.search)
       arrived_found q t x g = let z = as_arrived q t x (found_is (is_arrived q t) v.hand x g) in let fits : ItemFits p (Arrived z.0) = subst (ItemFits p) z.1 (fits_found (is_arrived q t) x g) in (z.0, z.1, z.2, z.3, fits.0, fits.1)
 
+      -- coming to the slot changes no label
       reached_fits : (x : Item) → ItemFits p x → ItemFits p (reached_item x)
       reached_fits (Claimed k) h = h
       reached_fits (Loaded z) h = h
@@ -178,6 +194,7 @@ module _ (p : Plan) (good : IsPlan p) where
       reached_fits (Batch z) h = record { size = h.size; search = h.search; real = h.real; due = h.due; told = h.told }
       reached_fits (Closed z) h = h
 
+      -- a claimed task is one of the plan
       drawn : L (record s { claimed = s.claimed + 1; desks = set s.desks i (after_claim p v s.claimed) })
       drawn = desks_only _ refl refl (each_set (HandFits p) s.desks i (after_claim p v s.claimed) f.hands
           (cond_both (ltb s.claimed (task_count p)) (v.hand ++ Claimed s.claimed ∷ []) v.hand (Each (ItemFits p)) (λ y. each_append (ItemFits p) v.hand _ (f.hands i v e) (each_one (ItemFits p) (Claimed s.claimed) (ltb-true _ _ y))) (λ _. f.hands i v e)))
@@ -215,6 +232,7 @@ module _ (p : Plan) (good : IsPlan p) where
           }))
           (λ _. each_none (ItemFits p))
 
+  -- every move keeps the labels fit
   pub labels_move : (s : ArrivalState) (m : Move) → HasShape p s → WordsFit p s → ResultsFit p s → CountsFit p s → L s → L (move p s m)
   labels_move s (claim i) h ws r c f = desk_keeps L s i _ _ f (λ v e _. drawn s f i v e)
   labels_move s (take_task i k) h ws r c f = item_keeps L s i _ _ _ f (λ v e x g _. desks_only s f _ refl refl (gives_one s f i v e (is_claimed k) (Loaded (record { task = k; failed = false })) (subst (ItemFits p) (as_claimed k x (found_is (is_claimed k) v.hand x g)) (fits_found s f i v e (is_claimed k) x g))))
@@ -267,9 +285,11 @@ module _ (p : Plan) (good : IsPlan p) where
       desks_only s f _ refl refl (gives_one s f i v e (is_loaded k) (Loaded (record { task = k; failed = true })) (subst (λ y. y < task_count p) z.2 fits)))
   labels_move s (stopped i q) h ws r c f = desk_keeps L s i _ _ f (λ v e _. desks_only s f _ refl refl (each_set (HandFits p) s.desks i (after_stopped v q (get_or s.stops q 0)) f.hands (f.hands i v e)))
 
+  -- a fresh slot is not full
   none_full : {A : Type 0} (l : Label) → fresh ≡ holds l → A
   none_full l e = let a : is_full fresh ≡ is_full (holds l) = ap is_full e in absurd (omega arith)
 
+  -- at the opening there is no label but the loads'
   pub labels_opened : L (opened p)
   labels_opened = record {
     hands = each_one (HandFits p) first_view (each_none (ItemFits p));

@@ -27,6 +27,7 @@ pub record LoadsFit (p : Plan) (s : ArrivalState) : Type 0 where
   pub loads : (k : ℕ) → k < task_count p → (s.claimed ≤ k) ⊎ (1 ≤ in_hands (claimed_at k) s.desks) → get_elem? s.loads k ≡ some (holds (task_label k))
   pub tasks : (k : ℕ) → 1 ≤ in_hands (claimed_at k) s.desks → k < task_count p
 
+-- the number of a claimed task knows no batch and no slot
 pub claimed_quiet : (k : ℕ) → IsQuiet (claimed_at k)
 claimed_quiet k = record { arrived = λ z. refl; batch = λ z. refl; closed = λ z. refl }
 
@@ -38,6 +39,7 @@ module _ (p : Plan) where
   abbrev L : ArrivalState → Type 0
   L = LoadsFit p
 
+  -- the loads fit where no claimed task comes and no slot changes
   fewer : (s t : ArrivalState) → L s → t.claimed ≡ s.claimed → t.loads ≡ s.loads → ((k : ℕ) → in_hands (claimed_at k) t.desks ≤ in_hands (claimed_at k) s.desks) → L t
   fewer s t f claimed loads less = record {
     alone = λ k. let a = f.alone k in let b = less k in let c : one_if (ltb k t.claimed) ≡ one_if (ltb k s.claimed) = ap (λ n. one_if (ltb k n)) claimed in omega arith;
@@ -45,9 +47,11 @@ module _ (p : Plan) where
     tasks = λ k h. let b = less k in f.tasks k (omega arith);
   }
 
+  -- and after a move that draws and counts nothing
   quietly : (s : ArrivalState) → L s → (t : ArrivalState) → Quietly s t → L t
   quietly s f t u = fewer s t f u.claimed u.loads (λ k. let h = u.hands (claimed_at k) (claimed_quiet k) in omega arith)
 
+  -- a claim draws one task, if any
   drawn : (s : ArrivalState) (i : ℕ) (v : View) → L s → get_elem? s.desks i ≡ some v → L (record s { claimed = s.claimed + 1; desks = set s.desks i (after_claim p v s.claimed) })
   drawn s i v f e = let n : ℕ = s.claimed in let w : View = after_claim p v n in let vs : List View = set s.desks i w in
       let more : (k : ℕ) → in_hands (claimed_at k) vs ≤ in_hands (claimed_at k) s.desks + one_if (eqb n k) = λ k.
@@ -67,6 +71,7 @@ module _ (p : Plan) where
       below : (k n a : ℕ) → a ≤ one_if (ltb k n) → a ≤ one_if (ltb k (n + 1))
       below k n a h = dite (dec_lt k n) (λ y. let b = lt_one k n y in let c = lt_one k (n + 1) (omega arith) in omega arith) (λ y. let b = lt_none k n (omega arith) in omega arith)
 
+  -- the load that is taken is that of the task that goes from the hand
   taken : (s : ArrivalState) (i k : ℕ) (v : View) (x : Item) → L s → get_elem? s.desks i ≡ some v → find_item (is_claimed k) v.hand ≡ some x → L (record s { loads = set s.loads k emptied; desks = set s.desks i (after_take_task v k) })
   taken s i k v x f e g = let w : View = after_take_task v k in let vs : List View = set s.desks i w in
       let less : (j : ℕ) → in_hands (claimed_at j) vs + one_if (eqb k j) ≡ in_hands (claimed_at j) s.desks = λ j. let a = claimed_gives (claimed_at j) s.desks i v w e k (Loaded (record { task = k; failed = false }) ∷ []) x g refl in omega arith in
@@ -80,6 +85,7 @@ module _ (p : Plan) where
         tasks = λ j h. let m = less j in f.tasks j (omega arith);
       }
 
+  -- every move keeps the loads fit
   pub loads_move : (s : ArrivalState) (m : Move) → L s → L (move p s m)
   loads_move s (claim i) f = desk_keeps L s i _ _ f (λ v e _. drawn s i v f e)
   loads_move s (take_task i k) f = item_keeps L s i _ _ _ f (λ v e x g _. taken s i k v x f e g)
@@ -95,10 +101,12 @@ module _ (p : Plan) where
   loads_move s (stop i k) f = item_keeps L s i _ _ _ f (λ v e x g _. fewer s _ f refl refl (λ j. let a = loaded_gives (claimed_at j) s.desks i v (after_stop v k) e k (Loaded (record { task = k; failed = true }) ∷ []) x g refl in let b = a.2 in omega arith))
   loads_move s (stopped i q) f = quiet_stopped p L s f (quietly s f) i q
 
+  -- at the opening each slot has its load
   at_first : (n k : ℕ) (qs : List ℕ) → k < length qs → get_elem? (load_slots n qs) k ≡ some (holds (task_label (n + k)))
   at_first n k [] h = absurd (omega arith)
   at_first n zero (q ∷ qs) h = ap (λ m. some (holds (task_label m))) (omega arith)
   at_first n (suc k) (q ∷ qs) h = at_first (suc n) k qs (omega arith) ∙ (let e : suc n + k ≡ n + suc k = omega arith in ap (λ m. some (holds (task_label m))) e)
 
+  -- and no task is claimed
   pub loads_opened : L (opened p)
   loads_opened = record { alone = λ k. omega arith; tasks = λ k h. absurd (omega arith); loads = λ k h _. at_first 0 k p.tasks h ∙ (let e : 0 + k ≡ k = omega arith in ap (λ m. some (holds (task_label m))) e) }

@@ -7,9 +7,11 @@ use native.Mathlib.Decide.{ℕ_discrete}
 use Rattle.arrival_moves.specs.Lists.{one_if, times, contains, without, same_list, numbers_from}
 use Rattle.arrival_moves.proofs.OneIf.{one_if_true}
 
+-- one number more in front
 pub times_cons : (k x : ℕ) (xs : List ℕ) → times k (x ∷ xs) ≡ one_if (eqb x k) + times k xs
 times_cons k x xs = sum_by-cons (λ y. one_if (eqb y k)) x xs
 
+-- two lists in a row
 pub times_append : (k : ℕ) (xs ys : List ℕ) → times k (xs ++ ys) ≡ times k xs + times k ys
 times_append k xs ys = sum_by-append (λ y. one_if (eqb y k)) xs ys
 
@@ -24,10 +26,12 @@ same_is (x ∷ xs) (y ∷ ys) h = let a = and_parts _ _ h in let e = eqb-true x 
 pub times_one : (k x : ℕ) → 1 ≤ times k (x ∷ []) → x ≡ k
 times_one k x h = let a = times_cons k x [] in eqb-true x k (one_if_true (eqb x k) (omega arith))
 
+-- what the list contains is there at least once
 pub contains_times : (k : ℕ) (xs : List ℕ) → contains k xs ≡ true → 1 ≤ times k xs
 contains_times k [] h = absurd (false≢true h)
 contains_times k (x ∷ xs) h = let a = times_cons k x xs in ⊎_elim (λ y. let b : one_if (eqb x k) ≡ 1 = ap one_if y in omega arith) (λ y. let r = contains_times k xs y in omega arith) (or_cases _ _ h)
 
+-- what is not the first stands behind it
 contains_head : (k x : ℕ) (xs : List ℕ) → eqb x k ≡ false → contains k (x ∷ xs) ≡ true → contains k xs ≡ true
 contains_head k x xs n h = sym (ap (λ b. b || contains k xs) n) ∙ h
 
@@ -39,6 +43,7 @@ times_without n k (x ∷ xs) h = let a = times_cons n x xs in ⊎_elim
     (λ (y : eqb x k ≡ false). let c : times n (without k (x ∷ xs)) ≡ times n (x ∷ without k xs) = ap (times n) (cond-false _ _ _ y) in let d = times_cons n x (without k xs) in let r = times_without n k xs (contains_head k x xs y h) in omega arith)
     (cases_Bool (eqb x k))
 
+-- the list is shorter by one
 pub length_without : (k : ℕ) (xs : List ℕ) → contains k xs ≡ true → suc (length (without k xs)) ≡ length xs
 length_without k [] h = absurd (false≢true h)
 length_without k (x ∷ xs) h = ⊎_elim
@@ -46,6 +51,7 @@ length_without k (x ∷ xs) h = ⊎_elim
     (λ (y : eqb x k ≡ false). ap (λ ys. suc (length ys)) (cond-false _ _ _ y) ∙ ap suc (length_without k xs (contains_head k x xs y h)))
     (cases_Bool (eqb x k))
 
+-- the range has its length
 pub numbers_length : (t n : ℕ) → length (numbers_from t n) ≡ n
 numbers_length t zero = refl
 numbers_length t (suc n) = ap suc (numbers_length (suc t) n)
@@ -61,6 +67,7 @@ numbers_in k t (suc n) low high = let a = times_cons k t (numbers_from (suc t) n
     numbers_out k t zero h = refl
     numbers_out k t (suc n) h = let a = times_cons k t (numbers_from (suc t) n) in let b : one_if (eqb t k) ≡ 0 = ap one_if (ne_eqb t k (λ y. h (omega arith))) in let c = numbers_out k (suc t) n (λ y. h (omega arith)) in omega arith
 
+-- and every other number not at all
 pub numbers_else : (k t n : ℕ) → (t ≤ k → k < t + n → ⊥) → times k (numbers_from t n) ≡ 0
 numbers_else k t zero h = refl
 numbers_else k t (suc n) h = let a = times_cons k t (numbers_from (suc t) n) in let b : one_if (eqb t k) ≡ 0 = ap one_if (ne_eqb t k (λ y. h (omega arith) (omega arith))) in let c = numbers_else k (suc t) n (λ y z. h (omega arith) (omega arith)) in omega arith

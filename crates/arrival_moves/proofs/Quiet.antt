@@ -25,15 +25,19 @@ use Rattle.std.specs.Prelude.{◌==◌, if◌then◌else◌}
 use Rattle.arrival_moves.proofs.Cases.{desk_keeps, item_keeps, by_label, by_test, hands_exchanged}
 use Rattle.arrival_moves.proofs.Items.{hands_more, hands_same, batch_gives}
 
+-- a number below another counts 1
 pub lt_one : (a b : ℕ) → a < b → one_if (ltb a b) ≡ 1
 lt_one a b h = ap one_if (lt-ltb a b h)
 
+-- and one that is not counts 0
 pub lt_none : (a b : ℕ) → b ≤ a → one_if (ltb a b) ≡ 0
 lt_none a b h = ap one_if (le-ltb a b h)
 
+-- equal numbers count 1
 pub eq_one : (a b : ℕ) → a ≡ b → one_if (eqb a b) ≡ 1
 eq_one a b h = ap one_if (eq-eqb a b h)
 
+-- and others 0
 pub eq_none : (a b : ℕ) → a ≢ b → one_if (eqb a b) ≡ 0
 eq_none a b h = ap one_if (ne_eqb a b h)
 
@@ -43,6 +47,7 @@ pub record IsQuiet (f : Item → ℕ) : Type 0 where
   pub batch : (z : HeldBatch) → f (Batch z) ≡ 0
   pub closed : (z : ClosedBatch) → f (Closed z) ≡ 0
 
+-- being at a slot is no matter, whatever the item
 pub quiet_reached : (f : Item → ℕ) → IsQuiet f → (x : Item) → f (reached_item x) ≡ f x
 quiet_reached f h (Claimed j) = refl
 quiet_reached f h (Loaded z) = refl
@@ -59,12 +64,15 @@ pub record Quietly (s t : ArrivalState) : Type 0 where
   pub loads : t.loads ≡ s.loads
   pub hands : (f : Item → ℕ) → IsQuiet f → in_hands f t.desks ≡ in_hands f s.desks
 
+-- a new desk has an empty hand
 pub hands_split : (f : Item → ℕ) (vs : List View) (i k : ℕ) (v : View) → get_elem? vs i ≡ some v → in_hands f (set vs i (after_split v k) ++ split_off k ∷ []) ≡ in_hands f vs
 hands_split f vs i k v here = let a = hands_same f vs i v (after_split v k) here refl in let b = sum_by_push (in_hand f) (set vs i (after_split v k)) (split_off k) in omega arith
 
+-- one desk has what two had, as the other's hand is empty
 pub hands_join : (f : Item → ℕ) (vs : List View) (i j : ℕ) (v w : View) → get_elem? vs i ≡ some v → get_elem? vs j ≡ some w → j ≢ i → w.hand ≡ [] → in_hands f (set (set vs i (after_join v w)) j spent_view) ≡ in_hands f vs
 hands_join f vs i j v w here there apart bare = let u : View = after_join v w in let a = hands_same f vs i v u here refl in let b = hands_same f (set vs i u) j w spent_view (set_else vs i j u apart ∙ there) (sym bare) in omega arith
 
+-- a batch that a last count brings does not count
 pub batch_due_none : (f : Item → ℕ) (p : Plan) (q b n : ℕ) → IsQuiet f → sum_by f (batch_due p q b n) ≡ 0
 batch_due_none f p q b n h = one_or_none f (n == batch_size p q b) _ (h.batch _)
   where
@@ -72,13 +80,16 @@ batch_due_none f p q b n h = one_or_none f (n == batch_size p q b) _ (h.batch _)
     one_or_none f true y e = omega arith
     one_or_none f false y e = refl
 
+-- nor does one of which a result was taken
 pub taken_none : (f : Item → ℕ) (x : Item) (z : HeldBatch) (t : ℕ) (l : Label) → IsQuiet f → x ≡ Batch z → f (taken_from x t l) ≡ 0
 taken_none f x z t l h e = ap (λ y. f (taken_from y t l)) e ∙ h.batch _
 
+-- a hand that is empty has no item
 pub bare : (xs : List Item) → is_empty xs ≡ true → xs ≡ []
 bare [] z = refl
 bare (x ∷ xs) z = absurd (false≢true z)
 
+-- a desk is not joined to itself
 pub apart_from : (i j : ℕ) → not (eqb i j) ≡ true → j ≡ i → ⊥
 apart_from i j m y = true≢false (sym m ∙ ap not (eq-eqb i j (sym y)))
 

@@ -38,9 +38,11 @@ pub record ReachedFit (p : Plan) (s : ArrivalState) : Type 0 where
 rest_of : (f g : Item → ℕ) → ((x : Item) → f x ≤ g x) → (xs : List Item) (is : Item → Bool) (x : Item) → find_item is xs ≡ some x → sum_by f xs + g x ≤ sum_by g xs + f x
 rest_of f g le xs is x e = let a = exchanged_sum f is [] xs x e in let b = exchanged_sum g is [] xs x e in let c = sum_by-le-sum_by f g (exchanged is [] xs) le in omega arith
 
+-- and so in one desk's hand
 pub hands_rest : (f g : Item → ℕ) → ((x : Item) → f x ≤ g x) → (vs : List View) (i : ℕ) (v : View) (is : Item → Bool) (x : Item) → get_elem? vs i ≡ some v → find_item is v.hand ≡ some x → in_hands f vs + g x ≤ in_hands g vs + f x
 hands_rest f g le vs i v is x e h = let a = rest_of f g le v.hand is x h in let b = sum_by_rest (in_hand f) (in_hand g) vs (λ j u d. sum_by-le-sum_by f g u.hand le) i v e in omega arith
 
+-- a ticket whose desk is at its slot is in hand
 reached_le : (q t : ℕ) (x : Item) → reached_at q t x ≤ arrived_at q t x
 reached_le q t (Claimed j) = omega arith
 reached_le q t (Loaded z) = omega arith
@@ -53,14 +55,17 @@ module _ (p : Plan) (good : IsPlan p) where
   abbrev F : ArrivalState → Type 0
   F = ReachedFit p
 
+  -- it holds where no desk comes to a slot or leaves one
   reached_same : (s t : ArrivalState) (vs : List View) → F s → t.desks ≡ vs → ((q n : ℕ) → in_hands (reached_at q n) vs ≡ in_hands (reached_at q n) s.desks)
       → ((j : ℕ) (x : Slot) → get_elem? t.results j ≡ some x → (y : Slot) × (get_elem? s.results j ≡ some y) × (is_reached x ≡ is_reached y)) → F t
   reached_same s t vs f desks same slots = record { at = λ q n x l e. let y = slots (place_of p q n) x e in let a = f.at q n y.0 l y.1 in let w = y.2 in let b = same q n in let h : in_hands (reached_at q n) t.desks ≡ in_hands (reached_at q n) vs = ap (in_hands (reached_at q n)) desks in omega arith }
 
   module _ (s : ArrivalState) (i q t : ℕ) (v : View) (x : Item) (shape : HasShape p s) (words : WordsFit p s) (r : ResultsFit p s) (f : F s) (e : get_elem? s.desks i ≡ some v) (g : find_item (is_arrived q t) v.hand ≡ some x) where
+    -- the ticket's slot, into which nothing was put
     there : (y : Slot) × (get_elem? s.results (place_of p q t) ≡ some y) × (was_put y ≡ 0)
     there = slot_there p good s i q t v x shape words r e g
 
+    -- the ticket is one of its search
     range : t < tasks_of p q
     range = in_range p good s i q t v x shape words r e g
 
@@ -70,11 +75,13 @@ module _ (p : Plan) (good : IsPlan p) where
         let c : reached_at a b x ≡ one_if (eqb z.0.search a && eqb z.0.ticket b && z.0.at_slot) = ap (reached_at a b) z.1 in let d : one_if (eqb z.0.search a && eqb z.0.ticket b && z.0.at_slot) ≡ one_if (eqb q a && eqb t b && z.0.at_slot) = λ j. one_if (eqb (z.2 j) a && eqb (z.3 j) b && z.0.at_slot) in
         let k : arrived_at q t x ≡ arrived_at q t (Arrived z.0) = ap (arrived_at q t) z.1 in (z.0, z.1, c ∙ d, k ∙ both_one z.0.search z.0.ticket q t z.2 z.3)
 
+    -- where the desk is not yet at it, it is fresh
     pub fresh_there : is_at_slot x ≡ false → get_elem? s.results (place_of p q t) ≡ some fresh
     fresh_there shut = let o = own q t in let z = o.0 in let c : z.at_slot ≡ false = sym (ap is_at_slot o.1) ∙ shut in let d : reached_at q t x ≡ 0 = o.2 ∙ (ap (λ b. one_if (eqb q q && eqb t t && b)) c ∙ one_if_never (eqb q q && eqb t t)) in
         let h = hands_rest (reached_at q t) (arrived_at q t) (reached_le q t) s.desks i v (is_arrived q t) x e g in let a = r.below q t in let k = o.3 in let m = one_if_le (ltb t (get_or s.tickets q 0)) in let n = f.at q t there.0 range there.1 in
         there.1 ∙ ap some (none_but there.0 there.2 (omega arith))
 
+    -- the desk comes to the slot
     opens : is_at_slot x ≡ false → F (record s { results = set s.results (place_of p q t) reached; desks = set s.desks i (after_reach_result v q t x) })
     unfolding own
     opens shut = let w : View = after_reach_result v q t x in let old = fresh_there shut in
@@ -89,6 +96,7 @@ module _ (p : Plan) (good : IsPlan p) where
               (at_set s.results (place_of p q t) (place_of p a b) reached y h);
         }
 
+    -- and puts the result
     puts : (l : Label) → is_at_slot x ≡ true → F (record s { results = set s.results (place_of p q t) (holds l); desks = set s.desks i (after_put v q t) })
     puts lab open_now = let w : View = after_put v q t in
         let gone : (a b : ℕ) → in_hands (reached_at a b) (set s.desks i w) + one_if (eqb q a && eqb t b) ≡ in_hands (reached_at a b) s.desks = λ a b. let o = own a b in let z = o.0 in let c : z.at_slot ≡ true = sym (ap is_at_slot o.1) ∙ open_now in
@@ -101,6 +109,7 @@ module _ (p : Plan) (good : IsPlan p) where
               (at_set s.results (place_of p q t) (place_of p a b) (holds lab) y h);
         }
 
+  -- a batch is at no result's slot
   due_none : (a b q c n : ℕ) → sum_by (reached_at a b) (batch_due p q c n) ≡ 0
   due_none a b q c n = one_or_none (n == batch_size p q c) _ refl
     where
@@ -108,6 +117,7 @@ module _ (p : Plan) (good : IsPlan p) where
       one_or_none true y e = omega arith
       one_or_none false y e = refl
 
+  -- every move keeps it
   pub reached_move : (s : ArrivalState) (m : Move) → HasShape p s → WordsFit p s → ResultsFit p s → F s → F (move p s m)
   reached_move s (claim i) h ws r f = desk_keeps F s i _ _ f (λ v e _. reached_same s _ (set s.desks i (after_claim p v s.claimed)) f refl (λ q n. let w : View = after_claim p v s.claimed in
       by_test (λ (hand : List Item). w.hand ≡ hand → in_hands (reached_at q n) (set s.desks i w) ≡ in_hands (reached_at q n) s.desks) (ltb s.claimed (task_count p)) _ _
@@ -130,5 +140,6 @@ module _ (p : Plan) (good : IsPlan p) where
   reached_move s (stop i k) h ws r f = item_keeps F s i _ _ _ f (λ v e x g _. reached_same s _ (set s.desks i (after_stop v k)) f refl (λ a n. let d = loaded_gives (reached_at a n) s.desks i v (after_stop v k) e k (Loaded (record { task = k; failed = true }) ∷ []) x g refl in let b = d.2 in omega arith) (alike_here is_reached s.results))
   reached_move s (stopped i q) h ws r f = desk_keeps F s i _ _ f (λ v e m. let w : View = after_stopped v q (get_or s.stops q 0) in reached_same s _ (set s.desks i w) f refl (λ a n. hands_same (reached_at a n) s.desks i v w e refl) (alike_here is_reached s.results))
 
+  -- at the opening no desk is at a slot
   pub reached_opened : F (opened p)
   reached_opened = record { at = λ q t x l e. let a : is_reached fresh ≡ is_reached x = ap is_reached (first_slot (task_count p) (place_of p q t) x e) in omega arith }

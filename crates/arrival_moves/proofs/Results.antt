@@ -32,12 +32,15 @@ pub record ResultsFit (p : Plan) (s : ArrivalState) : Type 0 where
   pub below : (q t : ℕ) → in_hands (arrived_at q t) s.desks ≤ one_if (ltb t (get_or s.tickets q 0))
   pub once : (q t : ℕ) (x : Slot) → t < tasks_of p q → get_elem? s.results (place_of p q t) ≡ some x → in_hands (arrived_at q t) s.desks + was_put x ≡ one_if (ltb t (get_or s.tickets q 0))
 
+-- the number of a ticket in hand knows no batch and no slot
 pub arrived_quiet : (q t : ℕ) → IsQuiet (arrived_at q t)
 arrived_quiet q t = record { arrived = λ z. refl; batch = λ z. refl; closed = λ z. refl }
 
+-- two equal pairs count 1
 pub both_one : (a b c d : ℕ) → a ≡ c → b ≡ d → one_if (eqb a c && eqb b d) ≡ 1
 both_one a b c d e f = ap one_if (and_from _ _ (eq-eqb a c e) (eq-eqb b d f))
 
+-- and others 0
 pub both_none : (a b c d : ℕ) → ((a ≡ c) × (b ≡ d) → ⊥) → one_if (eqb a c && eqb b d) ≡ 0
 both_none a b c d n = by_cases (eqb a c && eqb b d) (λ y. let g = and_parts _ _ y in n (eqb-true a c g.0, eqb-true b d g.1))
   where
@@ -66,6 +69,7 @@ module _ (p : Plan) (good : IsPlan p) where
       (λ not_is. let c = both_none q t r n (λ y. not_is y.1) in dite (dec_lt n t) (λ y. let d = lt_one n (t + 1) (omega arith) in let e = lt_one n t y in omega arith) (λ y. let d = lt_none n (t + 1) (omega arith) in let e = lt_none n t (omega arith) in omega arith)))
       (λ other. let a : one_if (ltb n (get_or (set ts q (t + 1)) r 0)) ≡ one_if (ltb n (get_or ts r 0)) = ap (λ z. one_if (ltb n z)) (get_or-set_other ts q r (t + 1) 0 (λ y. other (sym y))) in let c = both_none q t r n (λ y. other y.0) in omega arith)
 
+  -- a ticket is drawn
   arrives : (s : ArrivalState) (i k : ℕ) (v : View) (x : Item) → HasShape p s → WordsFit p s → R s → get_elem? s.desks i ≡ some v → find_item (is_loaded k) v.hand ≡ some x → let q = search_of p k in let t = get_or s.tickets q 0 in
       R (record s { tickets = set s.tickets q (t + 1); desks = set s.desks i (after_arrive v k x q t) })
   arrives s i k v x shape words f e g = let q : ℕ = search_of p k in let t : ℕ = get_or s.tickets q 0 in let w : View = after_arrive v k x q t in let vs : List View = set s.desks i w in
@@ -78,20 +82,25 @@ module _ (p : Plan) (good : IsPlan p) where
 
   -- of a ticket in a desk's hand: it is in range, and its result is not put
   module _ (s : ArrivalState) (i q t : ℕ) (v : View) (x : Item) (shape : HasShape p s) (words : WordsFit p s) (f : R s) (e : get_elem? s.desks i ≡ some v) (g : find_item (is_arrived q t) v.hand ≡ some x) where
+    -- a ticket goes from the hand where its result is put
     gone : (r n : ℕ) → in_hands (arrived_at r n) (set s.desks i (after_put v q t)) + one_if (eqb q r && eqb t n) ≡ in_hands (arrived_at r n) s.desks
     gone r n = let a = arrived_gives (arrived_at r n) s.desks i v (after_put v q t) e q t (Put (record { search = q; ticket = t }) ∷ []) x g refl in let z = a.0 in let b = a.4 in
         let c : one_if (eqb z.search r && eqb z.ticket n) ≡ one_if (eqb q r && eqb t n) = λ j. one_if (eqb (a.2 j) r && eqb (a.3 j) n) in omega arith
 
+    -- it is a ticket of its search
     pub in_range : t < tasks_of p q
     in_range = let a = gone q t in let b = both_one q t q t refl refl in let c = f.below q t in let d = words.word q in let m = drawn_le p good q s.claimed in dite (dec_lt t (get_or s.tickets q 0)) (λ y. omega arith) (λ y. let z = lt_none t (get_or s.tickets q 0) (omega arith) in absurd (omega arith))
 
+    -- its slot is there, and nothing was put into it
     pub slot_there : (y : Slot) × (get_elem? s.results (place_of p q t) ≡ some y) × (was_put y ≡ 0)
     slot_there = let y = has_slot s.results (place_of p q t) (subst (λ z. place_of p q t < z) (sym shape.results) (place_within p q t in_range)) in let a = gone q t in let b = both_one q t q t refl refl in let c = f.once q t y.0 in_range y.1 in let d = one_if_le (ltb t (get_or s.tickets q 0)) in (y.0, y.1, omega arith)
 
+    -- the desk comes to the slot
     opens : R (record s { results = set s.results (place_of p q t) reached; desks = set s.desks i (after_reach_result v q t x) })
     opens = results_same s _ (set s.desks i (after_reach_result v q t x)) f refl refl (λ r n. let a = hands_exchanged (arrived_at r n) s.desks i v (after_reach_result v q t x) (is_arrived q t) (reached_item x ∷ []) x e g refl in let b = quiet_reached (arrived_at r n) (arrived_quiet r n) x in omega arith)
         (alike_set was_put s.results (place_of p q t) slot_there.0 reached slot_there.1 (sym slot_there.2))
 
+    -- and puts the result
     puts : (l : Label) → R (record s { results = set s.results (place_of p q t) (holds l); desks = set s.desks i (after_put v q t) })
     puts l = record {
       below = λ r n. let a = gone r n in let b = f.below r n in omega arith;
@@ -102,6 +111,7 @@ module _ (p : Plan) (good : IsPlan p) where
           (at_set s.results (place_of p q t) (place_of p r n) (holds l) y h);
     }
 
+  -- every move keeps it
   pub results_move : (s : ArrivalState) (m : Move) → HasShape p s → WordsFit p s → R s → R (move p s m)
   results_move s (claim i) h ws f = desk_keeps R s i _ _ f (λ v e _. results_same s _ (set s.desks i (after_claim p v s.claimed)) f refl refl (λ q n. let w : View = after_claim p v s.claimed in
       by_test (λ (hand : List Item). w.hand ≡ hand → in_hands (arrived_at q n) (set s.desks i w) ≡ in_hands (arrived_at q n) s.desks) (ltb s.claimed (task_count p)) _ _
@@ -123,6 +133,7 @@ module _ (p : Plan) (good : IsPlan p) where
   results_move s (stop i k) h ws f = item_keeps R s i _ _ _ f (λ v e x g _. results_same s _ (set s.desks i (after_stop v k)) f refl refl (λ r n. let a = loaded_gives (arrived_at r n) s.desks i v (after_stop v k) e k (Loaded (record { task = k; failed = true }) ∷ []) x g refl in let b = a.2 in omega arith) (alike_here was_put s.results))
   results_move s (stopped i q) h ws f = desk_keeps R s i _ _ f (λ v e m. let w : View = after_stopped v q (get_or s.stops q 0) in results_same s _ (set s.desks i w) f refl refl (λ r n. hands_same (arrived_at r n) s.desks i v w e refl) (alike_here was_put s.results))
 
+  -- at the opening no ticket is drawn
   pub results_opened : R (opened p)
   results_opened = record {
     below = λ q t. omega arith;

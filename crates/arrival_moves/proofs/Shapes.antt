@@ -11,6 +11,7 @@ module _ (p : Plan) where
   abbrev H : ArrivalState → Type 0
   H = HasShape p
 
+  -- every move keeps the lengths
   pub shape_move : (s : ArrivalState) (m : Move) → H s → H (move p s m)
   shape_move s (claim i) f = desk_keeps H s i _ _ f (λ v e m. record { tickets = f.tickets; counts = f.counts; stops = f.stops; loads = f.loads; results = f.results; batches = f.batches })
   shape_move s (take_task i k) f = item_keeps H s i _ _ _ f (λ v e x g m. record { tickets = f.tickets; counts = f.counts; stops = f.stops; loads = length-set s.loads _ _ ∙ f.loads; results = f.results; batches = f.batches })
@@ -29,9 +30,11 @@ module _ (p : Plan) where
   shape_move s (stop i k) f = item_keeps H s i _ _ _ f (λ v e x g m. record { tickets = f.tickets; counts = f.counts; stops = length-set s.stops _ _ ∙ f.stops; loads = f.loads; results = f.results; batches = f.batches })
   shape_move s (stopped i q) f = desk_keeps H s i _ _ f (λ v e m. record { tickets = f.tickets; counts = f.counts; stops = f.stops; loads = f.loads; results = f.results; batches = f.batches })
 
+  -- there is a load for each task
   loads_length : (k : ℕ) (qs : List ℕ) → length (load_slots k qs) ≡ length qs
   loads_length k [] = refl
   loads_length k (q ∷ qs) = ap suc (loads_length (suc k) qs)
 
+  -- at the opening they are as the plan says
   pub shape_opened : H (opened p)
   shape_opened = record { tickets = length-replicate _ _; counts = length-replicate _ _; stops = length-replicate _ _; loads = loads_length 0 p.tasks; results = length-replicate _ _; batches = length-replicate _ _ }

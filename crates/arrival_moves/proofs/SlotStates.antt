@@ -6,14 +6,17 @@ use Rattle.arrival_moves.specs.declared.label.Label.{Label}
 use Rattle.arrival_moves.specs.Slots.{Slot, fresh, reached, holds, emptied, in_slot, was_put}
 use Rattle.arrival_moves.proofs.Lists.{at_set}
 
+-- 1 where a desk is at the slot to put something
 abbrev pub is_reached : Slot → ℕ
 is_reached reached = 1
 is_reached _ = 0
 
+-- 1 where something lies in it
 abbrev pub is_full : Slot → ℕ
 is_full (holds l) = 1
 is_full _ = 0
 
+-- 1 where what lay in it was taken out
 abbrev pub was_emptied : Slot → ℕ
 was_emptied emptied = 1
 was_emptied _ = 0

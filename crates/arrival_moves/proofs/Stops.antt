@@ -57,6 +57,7 @@ still_one (w ∷ ws) zero (suc q) e = e
 still_one (w ∷ ws) (suc j) zero e = e
 still_one (w ∷ ws) (suc j) (suc q) e = still_one ws j q e
 
+-- and none becomes greater than 1
 still_low : (ws : List ℕ) (j q : ℕ) → get_or ws q 0 ≤ 1 → get_or (set ws j 1) q 0 ≤ 1
 still_low [] j q h = h
 still_low (w ∷ ws) zero zero h = omega arith
@@ -64,6 +65,7 @@ still_low (w ∷ ws) zero (suc q) h = h
 still_low (w ∷ ws) (suc j) zero h = h
 still_low (w ∷ ws) (suc j) (suc q) h = still_low ws j q h
 
+-- what two lists in a row contain, one of them does
 contains_append : (k : ℕ) (xs ys : List ℕ) → contains k (xs ++ ys) ≡ true → (contains k xs ≡ true) ⊎ (contains k ys ≡ true)
 contains_append k [] ys h = inr h
 contains_append k (x ∷ xs) ys h = ⊎_elim (λ (e : eqb x k ≡ true). inl (ap (λ b. b || contains k xs) e)) (λ (e : contains k (xs ++ ys) ≡ true). ⊎_elim (λ (y : contains k xs ≡ true). inl (right (eqb x k) (contains k xs) y)) (λ (y : contains k ys ≡ true). inr y) (contains_append k xs ys e)) (or_cases (eqb x k) (contains k (xs ++ ys)) h)
@@ -72,12 +74,14 @@ contains_append k (x ∷ xs) ys h = ⊎_elim (λ (e : eqb x k ≡ true). inl (ap
     right true b e = refl
     right false b e = e
 
+-- a move that changes no stop word and no note keeps the notes
 noted_same : (s t : ArrivalState) (i : ℕ) (v w : View) → NotesKept s → get_elem? s.desks i ≡ some v → t.stops ≡ s.stops → t.desks ≡ set s.desks i w → w.stopped ≡ v.stopped → NotesKept t
 noted_same s t i v w f e stops desks same = record {
   noted = subst (λ ws. Each (Noted ws) t.desks) (sym stops) (subst (Each (Noted s.stops)) (sym desks) (each_set (Noted s.stops) s.desks i w f.noted (λ q h. f.noted i v e q (subst (λ xs. contains q xs ≡ true) same h))));
   low = λ q. let a = f.low q in let b : get_or t.stops q 0 ≡ get_or s.stops q 0 = ap (λ ws. get_or ws q 0) stops in omega arith;
 }
 
+-- every move keeps the notes
 pub noted_move : (p : Plan) (s : ArrivalState) (m : Move) → NotesKept s → NotesKept (move p s m)
 noted_move p s (claim i) f = desk_keeps NotesKept s i _ _ f (λ v e _. noted_same s _ i v _ f e refl refl refl)
 noted_move p s (take_task i k) f = item_keeps NotesKept s i _ _ _ f (λ v e x g _. noted_same s _ i v _ f e refl refl refl)
@@ -101,6 +105,7 @@ noted_move p s (stopped i q) f = desk_keeps NotesKept s i _ _ f (λ v e _. let n
   low = f.low;
 })
 
+-- at the opening there are none
 pub noted_opened : (p : Plan) → IsPlan p → NotesKept (opened p)
 noted_opened p good = record { noted = each_one (Noted (opened p).stops) first_view (λ q h. absurd (false≢true h)); low = λ q. let z = zeros p good p.searches q in omega arith }
 
@@ -109,28 +114,34 @@ implied : (a b : Bool) → implies a b ≡ true → a ≡ true → b ≡ true
 implied true b h e = h
 implied false b h e = absurd (false≢true e)
 
+-- a greater number under a weaker condition is no smaller
 cond_le : (a b : Bool) (x y : ℕ) → (a ≡ true → b ≡ true) → x ≤ y → cond a x 0 ≤ cond b y 0
 cond_le true b x y h le = let c : cond b y 0 ≡ y = cond-true b y 0 (h refl) in omega arith
 cond_le false b x y h le = omega arith
 
+-- two numbers under two conditions are at most their sum under either
 cond_or : (a b : Bool) (x y n : ℕ) → n ≡ x + y → cond a x 0 + cond b y 0 ≤ cond (a || b) n 0
 cond_or true true x y n e = omega arith
 cond_or true false x y n e = omega arith
 cond_or false true x y n e = omega arith
 cond_or false false x y n e = omega arith
 
+-- a number that is not 0 has its condition
 pub cond_some : (b : Bool) (x : ℕ) → 1 ≤ cond b x 0 → (b ≡ true) × (1 ≤ x)
 cond_some true x h = (refl, h)
 cond_some false x h = absurd (omega arith)
 
+-- a sum that is not 0 has a part that is not
 pub some_of : (a b : ℕ) → 1 ≤ a + b → (1 ≤ a) ⊎ (1 ≤ b)
 some_of zero b h = inr (omega arith)
 some_of (suc a) b h = inl (omega arith)
 
 module _ (p : Plan) (good : IsPlan p) where
+  -- two lists of tasks in a row
   of_append : (q : ℕ) (xs ys : List ℕ) → of_search p q (xs ++ ys) ≡ of_search p q xs + of_search p q ys
   of_append q xs ys = sum_by-append (λ k. one_if (eqb (search_of p k) q)) xs ys
 
+  -- one task
   of_one : (q k : ℕ) → of_search p q (k ∷ []) ≡ one_if (eqb (search_of p k) q)
   of_one q k = let a = sum_by-cons (λ j. one_if (eqb (search_of p j) q)) k [] in omega arith
 
@@ -148,12 +159,15 @@ module _ (p : Plan) (good : IsPlan p) where
       one_more true n = omega arith
       one_more false n = omega arith
 
+  -- a label of the same tasks that fails where the other does
   failed_le : (q : ℕ) (l m : Label) → l.tasks ≡ m.tasks → implies l.failed m.failed ≡ true → failed_tasks p q l ≤ failed_tasks p q m
   failed_le q l m same h = cond_le l.failed m.failed (of_search p q l.tasks) (of_search p q m.tasks) (implied l.failed m.failed h) (let a : of_search p q l.tasks ≡ of_search p q m.tasks = ap (of_search p q) same in omega arith)
 
+  -- and one that is skipped only where the other is
   skipped_le : (q : ℕ) (l m : Label) → l.tasks ≡ m.tasks → implies l.skipped m.skipped ≡ true → skipped_tasks p q l ≤ skipped_tasks p q m
   skipped_le q l m same h = cond_le l.skipped m.skipped (of_search p q l.tasks) (of_search p q m.tasks) (implied l.skipped m.skipped h) (let a : of_search p q l.tasks ≡ of_search p q m.tasks = ap (of_search p q) same in omega arith)
 
+  -- a joined label fails where one of the two does
   failed_joined : (q : ℕ) (l m : Label) → failed_tasks p q l + failed_tasks p q m ≤ failed_tasks p q (joined_label l m)
   failed_joined q l m = cond_or l.failed m.failed (of_search p q l.tasks) (of_search p q m.tasks) (of_search p q (l.tasks ++ m.tasks)) (of_append q l.tasks m.tasks)
 
@@ -167,14 +181,17 @@ module _ (p : Plan) (good : IsPlan p) where
     skipped = λ q h. ap (λ ws. get_or ws q 0) stops ∙ less q h;
   }
 
+  -- and so a move that changes no label
   unmoved : (s : ArrivalState) → S s → (t : ArrivalState) → Unmoved s t → S t
   unmoved s f t u = kept s f t u.stops (λ q. let a = u.every (failed_tasks p q) refl in omega arith) (λ q h. let a = u.every (skipped_tasks p q) refl in f.skipped q (omega arith))
 
+  -- a claimed task is neither failed nor skipped
   drawn : (s : ArrivalState) (i : ℕ) (v : View) → S s → get_elem? s.desks i ≡ some v → S (record s { claimed = s.claimed + 1; desks = set s.desks i (after_claim p v s.claimed) })
   drawn s i v f e = dite (dec_lt s.claimed (task_count p))
       (λ y. kept s f _ refl (λ q. let a = every_claimed p s (failed_tasks p q) i v e y in omega arith) (λ q h. let a = every_claimed p s (skipped_tasks p q) i v e y in f.skipped q (omega arith)))
       (λ y. kept s f _ refl (λ q. let a = every_ended p s (failed_tasks p q) i v e (omega arith) in omega arith) (λ q h. let a = every_ended p s (skipped_tasks p q) i v e (omega arith) in f.skipped q (omega arith)))
 
+  -- a stop marks a task of its search
   stops_one : (s : ArrivalState) (i k : ℕ) (v : View) (x : Item) → S s → get_elem? s.desks i ≡ some v → find_item (is_loaded k) v.hand ≡ some x → S (record s { stops = set s.stops (search_of p k) 1; desks = set s.desks i (after_stop v k) })
   stops_one s i k v x f e g = let r : ℕ = search_of p k in let ws : List ℕ = set s.stops r 1 in record {
     failed = λ q h. let a = every_stop p s (failed_tasks p q) i v e k x ws g in let b = a.2 in let c = hands_has (in_item (failed_tasks p q)) s.desks i v (is_loaded k) x e g in let d : in_item (failed_tasks p q) x ≡ failed_tasks p q (marked_label k a.0) = ap (in_item (failed_tasks p q)) a.1 in
@@ -203,6 +220,7 @@ module _ (p : Plan) (good : IsPlan p) where
       (λ (other : eqb q r ≡ false). let c : cond (eqb q r) (length held.taken.tasks) 0 ≡ 0 = cond-false _ _ _ other in let d : cond (eqb q r) (length l.tasks) 0 ≡ 0 = cond-false _ _ _ other in let k = a.1 in absurd (omega arith))
       (cases_Bool (eqb q r))
 
+  -- every move keeps both
   pub stops_move : (s : ArrivalState) (m : Move) → HasShape p s → WordsFit p s → ResultsFit p s → LabelsFit p s → BatchesKept p s → NotesKept s → S s → S (move p s m)
   stops_move s (claim i) h ws r n b o f = desk_keeps S s i _ _ f (λ v e _. drawn s i v f e)
   stops_move s (take_task i k) h ws r n b o f = unmoved_take_task p S s f (unmoved s f) i k
@@ -238,6 +256,7 @@ module _ (p : Plan) (good : IsPlan p) where
   stops_move s (stop i k) h ws r n b o f = item_keeps S s i _ _ _ f (λ v e x g _. stops_one s i k v x f e g)
   stops_move s (stopped i q) h ws r n b o f = unmoved_stopped p S s f (unmoved s f) i q
 
+  -- at the opening no search is stopped
   pub stops_opened : S (opened p)
   stops_opened = record {
     failed = λ q h. let z = zeros p good p.searches q in absurd (omega arith);

@@ -43,12 +43,15 @@ pub record SlotsFilled (s : ArrivalState) : Type 0 where
   pub results : Each Filled s.results
   pub batches : Each Filled s.batches
 
+-- a claimed task counts 1
 both_low : (k n m : ℕ) → k < n → k < m → one_if (ltb k n && ltb k m) ≡ 1
 both_low k n m a b = ap one_if (and_from _ _ (lt-ltb k n a) (lt-ltb k m b))
 
+-- one that is not claimed counts 0
 first_high : (k n m : ℕ) → n ≤ k → one_if (ltb k n && ltb k m) ≡ 0
 first_high k n m a = ap (λ b. one_if (b && ltb k m)) (le-ltb k n a)
 
+-- and so does a number that is no task
 second_high : (k n m : ℕ) → m ≤ k → one_if (ltb k n && ltb k m) ≡ 0
 second_high k n m a = ap (λ b. one_if (ltb k n && b)) (le-ltb k m a) ∙ one_if_never (ltb k n)
 
@@ -59,6 +62,7 @@ claim_step k n m low = dite (ℕ_discrete n k)
     (λ y. let a = eq_none n k y in dite (dec_lt k n) (λ z. let b = both_low k (n + 1) m (omega arith) (omega arith) in let c = both_low k n m (omega arith) (omega arith) in omega arith)
     (λ z. let b = first_high k (n + 1) m (omega arith) in let c = first_high k n m (omega arith) in omega arith))
 
+-- a claim past the last task draws none
 claim_past : (k n m : ℕ) → m ≤ n → one_if (ltb k (n + 1) && ltb k m) ≡ one_if (ltb k n && ltb k m)
 claim_past k n m high = dite (dec_lt k m) (λ y. let a = both_low k (n + 1) m (omega arith) y in let b = both_low k n m (omega arith) y in omega arith) (λ y. let a = second_high k (n + 1) m (omega arith) in let b = second_high k n m (omega arith) in omega arith)
 
@@ -66,12 +70,15 @@ module _ (p : Plan) (good : IsPlan p) where
   abbrev T : ArrivalState → Type 0
   T = TasksKept p
 
+  -- a move that changes no number of labels keeps it
   as_before : (s : ArrivalState) → T s → (t : ArrivalState) → t.claimed ≡ s.claimed → ((k : ℕ) → everywhere (task_times k) t ≡ everywhere (task_times k) s) → T t
   as_before s f t claimed every = record { once = λ k. let a = f.once k in let b = every k in let c : one_if (ltb k t.claimed && ltb k (task_count p)) ≡ one_if (ltb k s.claimed && ltb k (task_count p)) = ap (λ n. one_if (ltb k n && ltb k (task_count p))) claimed in omega arith }
 
+  -- and so one that changes no label
   unmoved : (s : ArrivalState) → T s → (t : ArrivalState) → Unmoved s t → T t
   unmoved s f t u = as_before s f t u.claimed (λ k. u.every (task_times k) refl)
 
+  -- a claim puts one task into a hand, if any
   drawn : (s : ArrivalState) (i : ℕ) (v : View) → T s → get_elem? s.desks i ≡ some v → T (record s { claimed = s.claimed + 1; desks = set s.desks i (after_claim p v s.claimed) })
   drawn s i v f e = let n : ℕ = s.claimed in let m : ℕ = task_count p in record {
     once = λ k. let a = f.once k in dite (dec_lt n m)
@@ -79,6 +86,7 @@ module _ (p : Plan) (good : IsPlan p) where
         (λ y. let b = every_ended p s (task_times k) i v e (omega arith) in let c = claim_past k n m (omega arith) in omega arith);
   }
 
+  -- every move keeps each task at one place
   pub tasks_move : (s : ArrivalState) (m : Move) → HasShape p s → WordsFit p s → ResultsFit p s → LabelsFit p s → BatchesKept p s → T s → T (move p s m)
   tasks_move s (claim i) h ws r n b f = desk_keeps T s i _ _ f (λ v e _. drawn s i v f e)
   tasks_move s (take_task i k) h ws r n b f = unmoved_take_task p T s f (unmoved s f) i k
@@ -122,20 +130,25 @@ module _ (p : Plan) (good : IsPlan p) where
   filled_move s (stop i k) n f = item_keeps SlotsFilled s i _ _ _ f (λ v e x g _. record { results = f.results; batches = f.batches })
   filled_move s (stopped i q) n f = desk_keeps SlotsFilled s i _ _ f (λ v e _. record { results = f.results; batches = f.batches })
 
+  -- fresh slots are full of nothing
   none_filled : (n : ℕ) → Each Filled (replicate n fresh)
   none_filled zero i x e = absurd (some-ne-none x (sym e))
   none_filled (suc n) zero x e = subst Filled (some-injective fresh x e) tt
   none_filled (suc n) (suc i) x e = none_filled n i x e
 
+  -- at the opening all are fresh
   pub filled_opened : SlotsFilled (opened p)
   filled_opened = record { results = none_filled (task_count p); batches = none_filled (task_count p) }
 
+  -- fresh slots hold nothing
   nothing : (f : Label → ℕ) (n : ℕ) → in_slots f (replicate n fresh) ≡ 0
   nothing f zero = refl
   nothing f (suc n) = let a = sum_by-cons (in_slot f) fresh (replicate n fresh) in let b = nothing f n in omega arith
 
+  -- at the opening no label counts
   pub every_opened : (f : Label → ℕ) → everywhere f (opened p) ≡ 0
   every_opened f = let a = nothing f (task_count p) in omega arith
 
+  -- and no task is claimed
   pub tasks_opened : T (opened p)
   tasks_opened = record { once = λ k. let a = every_opened (task_times k) in let b = first_high k 0 (task_count p) (omega arith) in omega arith }

@@ -27,29 +27,36 @@ use Rattle.arrival_moves.proofs.OneIf.{one_if_le}
 pub record WordsFit (p : Plan) (s : ArrivalState) : Type 0 where
   pub word : (q : ℕ) → get_or s.tickets q 0 + in_hands (waiting_of p q) s.desks ≡ drawn_of p q s.claimed
 
+-- the number of waiting tasks knows no batch and no slot
 pub waiting_quiet : (p : Plan) (q : ℕ) → IsQuiet (waiting_of p q)
 waiting_quiet p q = record { arrived = λ z. refl; batch = λ z. refl; closed = λ z. refl }
 
+-- no task is of a search past the last
 none_of : (q n : ℕ) (xs : List ℕ) → ((k : ℕ) → k < length xs → get_or xs k 0 < n) → n ≤ q → times q xs ≡ 0
 none_of q n [] h le = refl
 none_of q n (x ∷ xs) h le = let a = h 0 (omega arith) in let b = none_of q n xs (λ k l. h (suc k) (omega arith)) le in let c = sum_by-cons (λ y. one_if (eqb y q)) x xs in let d = eq_none x q (λ e. omega arith) in omega arith
 
 module _ (p : Plan) (good : IsPlan p) where
+  -- a search's claimed tasks are at most its tasks
   pub drawn_le : (q n : ℕ) → drawn_of p q n ≤ tasks_of p q
   drawn_le q n = sum_by-take-le (λ y. one_if (eqb y q)) p.tasks n
 
+  -- a search with a claimed task is one of the plan
   pub drawn_valid : (q n : ℕ) → 1 ≤ drawn_of p q n → q < p.searches
   drawn_valid q n h = dite (dec_lt q p.searches) (λ y. y) (λ y. let a = none_of q p.searches p.tasks good.tasks (omega arith) in let b = drawn_le q n in absurd (omega arith))
 
   abbrev W : ArrivalState → Type 0
   W = WordsFit p
 
+  -- the words fit where no task begins or ceases to wait
   words_same : (s t : ArrivalState) (vs : List View) → W s → t.claimed ≡ s.claimed → t.tickets ≡ s.tickets → t.desks ≡ vs → ((q : ℕ) → in_hands (waiting_of p q) vs ≡ in_hands (waiting_of p q) s.desks) → W t
   words_same s t vs f claimed tickets desks same = record { word = λ q. let a = f.word q in let b = same q in let h : in_hands (waiting_of p q) t.desks ≡ in_hands (waiting_of p q) vs = ap (in_hands (waiting_of p q)) desks in let c : get_or t.tickets q 0 ≡ get_or s.tickets q 0 = ap (λ xs. get_or xs q 0) tickets in let d : drawn_of p q t.claimed ≡ drawn_of p q s.claimed = ap (drawn_of p q) claimed in omega arith }
 
+  -- and after a move that draws and counts nothing
   quietly : (s : ArrivalState) → W s → (t : ArrivalState) → Quietly s t → W t
   quietly s f t u = words_same s t t.desks f u.claimed u.tickets refl (λ q. u.hands (waiting_of p q) (waiting_quiet p q))
 
+  -- a claimed task waits
   drawn : (s : ArrivalState) (i : ℕ) (v : View) → W s → get_elem? s.desks i ≡ some v → W (record s { claimed = s.claimed + 1; desks = set s.desks i (after_claim p v s.claimed) })
   drawn s i v f e = record {
     word = λ q. let n : ℕ = s.claimed in let w : View = after_claim p v n in let a = f.word q in
@@ -59,6 +66,7 @@ module _ (p : Plan) (good : IsPlan p) where
         let c : drawn_of p q (n + 1) ≡ drawn_of p q n = ap (times q) (take_all (n + 1) p.tasks (omega arith) ∙ sym (take_all n p.tasks le)) in omega arith) refl;
   }
 
+  -- a task that arrives draws a ticket of its search, below the number of its tasks
   pub arrived : (s : ArrivalState) (i k : ℕ) (v : View) (x : Item) → HasShape p s → W s → get_elem? s.desks i ≡ some v → find_item (is_loaded k) v.hand ≡ some x → let q = search_of p k in let t = get_or s.tickets q 0 in
       (q < p.searches) × (t < tasks_of p q) × W (record s { tickets = set s.tickets q (t + 1); desks = set s.desks i (after_arrive v k x q t) })
   arrived s i k v x shape f e g = let q : ℕ = search_of p k in let t : ℕ = get_or s.tickets q 0 in let w : View = after_arrive v k x q t in let vs : List View = set s.desks i w in
@@ -74,6 +82,7 @@ module _ (p : Plan) (good : IsPlan p) where
         },
       )
 
+  -- every move keeps the words fit
   pub words_move : (s : ArrivalState) (m : Move) → HasShape p s → W s → W (move p s m)
   words_move s (claim i) h f = desk_keeps W s i _ _ f (λ v e _. drawn s i v f e)
   words_move s (take_task i k) h f = item_keeps W s i _ _ _ f (λ v e x g _. words_same s _ (set s.desks i (after_take_task v k)) f refl refl refl (λ r. let a = claimed_gives (waiting_of p r) s.desks i v (after_take_task v k) e k (Loaded (record { task = k; failed = false }) ∷ []) x g refl in omega arith))
@@ -90,14 +99,17 @@ module _ (p : Plan) (good : IsPlan p) where
   words_move s (stop i k) h f = item_keeps W s i _ _ _ f (λ v e x g _. words_same s _ (set s.desks i (after_stop v k)) f refl refl refl (λ r. let a = loaded_gives (waiting_of p r) s.desks i v (after_stop v k) e k (Loaded (record { task = k; failed = true }) ∷ []) x g refl in let b = a.2 in omega arith))
   words_move s (stopped i q) h f = quiet_stopped p W s f (quietly s f) i q
 
+  -- a word at the opening
   pub zeros : (n q : ℕ) → let z : ℕ = 0 in get_or (replicate n z) q 0 ≡ z
   zeros zero q = refl
   zeros (suc n) zero = refl
   zeros (suc n) (suc q) = zeros n q
 
+  -- at the opening no task is claimed
   pub words_opened : W (opened p)
   words_opened = record { word = λ q. let a = zeros p.searches q in omega arith }
 
+-- a search has at most all tasks
 pub of_search_le : (q : ℕ) (xs : List ℕ) → times q xs ≤ length xs
 of_search_le q [] = omega arith
 of_search_le q (x ∷ xs) = let a = of_search_le q xs in let b = sum_by-cons (λ y. one_if (eqb y q)) x xs in let c = one_if_le (eqb x q) in omega arith

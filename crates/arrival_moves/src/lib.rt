@@ -9,6 +9,8 @@ mod item;
 mod label;
 pub mod laws;
 mod plan;
+#[cfg(test)]
+mod tests;
 mod view;
 
 pub use item::{ArrivedTask, ClosedBatch, HeldBatch, Item, LoadedTask, Ticket};
