@@ -10,7 +10,8 @@ use Rattle.agg_model.specs.declared.key.Key.TheVariants.{Fixed, Many}
 use Rattle.agg_model.specs.declared.query.Query.{Query}
 use Rattle.agg_model.specs.declared.aggregation.Kind.{Kind}
 use Rattle.agg_model.specs.declared.aggregation.Kind.TheVariants as kind
-use Rattle.agg_evaluation.specs.KeyOrder.{key_cmp, scalar_key}
+use Rattle.agg_evaluation.specs.KeyOrder.{key_cmp}
+use Rattle.agg_model.specs.ValueKeys.{scalar_key}
 use Rattle.agg_evaluation.specs.Rows.{PlacedRow, has_value}
 use Rattle.agg_evaluation.specs.Matching.{matches}
 use Rattle.agg_evaluation.specs.Keys.{keys, distinct_keys, filter_keys, single_key, values_or, interval_key, is_included, is_between, combinations, source_keys}

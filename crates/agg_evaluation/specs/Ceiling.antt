@@ -14,7 +14,7 @@ use Rattle.agg_model.specs.declared.aggregation.Search.{Search}
 use Rattle.agg_model.specs.Options.{Options, options_of}
 use Rattle.agg_evaluation.specs.Folds.{fold_agg}
 use Rattle.agg_evaluation.specs.Rows.{PlacedRow, roots, values_of}
-use Rattle.agg_evaluation.specs.KeyOrder.{scalar_key}
+use Rattle.agg_model.specs.ValueKeys.{scalar_key}
 use Rattle.agg_evaluation.specs.Cost.{key_bytes}
 use Rattle.agg_evaluation.specs.Matching.{matched_roots}
 use Rattle.agg_evaluation.specs.Keys.{keys, source_keys}

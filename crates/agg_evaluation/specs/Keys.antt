@@ -15,7 +15,8 @@ use Rattle.agg_model.specs.declared.aggregation.CompositeSource.{CompositeSource
 use Rattle.agg_model.specs.declared.row.Scalar.TheVariants as scalar
 use Rattle.list_laws.specs.Sorting.{ascending}
 use Rattle.agg_model.specs.Options.{Options, options_of}
-use Rattle.agg_evaluation.specs.KeyOrder.{key_cmp, has_key, scalar_key, probe_key}
+use Rattle.agg_evaluation.specs.KeyOrder.{key_cmp, has_key}
+use Rattle.agg_model.specs.ValueKeys.{scalar_key, probe_key}
 use Rattle.agg_evaluation.specs.Rows.{PlacedRow, values_of, has_value}
 use Rattle.agg_evaluation.specs.Matching.{matches}
 

@@ -15,3 +15,5 @@ pub mod Intervals
 pub mod Placement
 pub mod Ceiling
 pub mod TrueCounts
+pub mod ColumnBytes
+pub mod Conditions

@@ -15,19 +15,20 @@ use Rattle.agg_model.specs.declared.query.Query.{Query}
 use Rattle.agg_model.specs.declared.query.Query.TheVariants as query
 use Rattle.agg_model.specs.declared.query.Probe.{Probe}
 use Rattle.agg_model.specs.declared.query.RangeTest.{RangeTest}
-use Rattle.agg_evaluation.specs.KeyOrder.{key_eq, scalar_key, probe_key}
+use Rattle.agg_evaluation.specs.KeyOrder.{key_eq}
+use Rattle.agg_model.specs.ValueKeys.{scalar_key, probe_key}
 use Rattle.agg_evaluation.specs.Matching.{matches, passes}
-use Rattle.agg_evaluation.specs.Rows.{PlacedRow, values_of, beneath, roots}
+use Rattle.agg_evaluation.specs.Rows.{PlacedRow, values_of, beneath, roots, row_of}
 use Rattle.shard_columns.specs.Columns.{Columns}
 use Rattle.shard_columns.specs.Dictionary.{words_of}
-use Rattle.shard_columns.specs.Layout.{row_of}
 use Rattle.column_query.specs.declared.bounds.Bound.{Bound}
 use Rattle.column_query.specs.declared.prepared.NumberTest.{NumberTest}
 use Rattle.column_query.specs.declared.prepared.NumberTest.TheVariants.{Is, OneOf, Within}
 use Rattle.column_query.specs.declared.prepared.Prepared.{Prepared}
 use Rattle.column_query.specs.declared.prepared.Prepared.TheVariants as prepared
 use Rattle.column_query.specs.Numbers.{number_of, numbers_of, within, IsHeld, StandsFor, BoundsAs}
-use Rattle.column_query.specs.Prepared.{is_among, within_all, passes_number, says, looks_below, looks_below_at, reads_below, reads_below_at, StandForAll, BoundAsAll, AddsNumber, HasIds, IsReady, AreReady}
+use Rattle.column_query.specs.Prepared.{is_among, within_all, passes_number, says, reads_below, reads_below_at, StandForAll, BoundAsAll, AddsNumber, HasIds, IsReady, AreReady}
+use Rattle.agg_evaluation.specs.Conditions.{looks_below, looks_below_at}
 use Rattle.column_query.proofs.Lists.{any_mapped, all_mapped, count_mapped}
 use Rattle.column_query.proofs.Members.{In, place_of}
 use Rattle.column_query.proofs.Holding.{held-at}

@@ -21,7 +21,8 @@ use Rattle.list_laws.specs.Sorting.{sorted, insert_sorted}
 use Rattle.list_laws.proofs.StableSort.{at_most, above, sorted_from_sort_by}
 use Rattle.agg_reading.specs.Rows.{scalar_cmp, insert_value, finished_values}
 use Rattle.agg_reading.proofs.ValueLaws.{beside, insert_value-none, insert_value-step}
-use Rattle.document_rows.specs.Scalars.{rank, scalar_order, same_word, is_of_kind, IsOneKind}
+use Rattle.document_rows.specs.Scalars.{rank, scalar_order, same_word, IsOneKind}
+use Rattle.agg_model.specs.FieldKinds.{is_of_kind}
 use denote.Param.Members.{Mut}
 use denote.Ref.{Bor}
 

@@ -20,6 +20,7 @@ use Rattle.agg_evaluation.specs.Shard.{fixed_keys}
 use Rattle.agg_evaluation.specs.Trees.{is_tree_at, pass_each}
 use Rattle.bucket_order.specs.Composites.{is_composite_of}
 use Rattle.agg_evaluation.specs.Whole.{Parts, parts, shape_of}
+use Rattle.agg_evaluation.specs.Conditions.{has_intervals}
 
 -- all counts together are one, an error is a signed number, and no term was covered by more than all the shards' errors
 abbrev pub terms_fit : Parts → Bool
@@ -55,13 +56,6 @@ is_finishable_at tests k n = is_tree_at tests (fixed_keys k) (shape_of k) (out-N
 -- whether a node is a tree of the aggregation, and its numbers and keys are as those of shard answers
 abbrev pub is_finishable : Agg → Node → Bool
 is_finishable = fold_agg (λ a n. is_finishable_at a.children a.kind n)
-
-abbrev pub has_interval : Kind → Bool
-has_interval k = elim (options_of k) [ Options.Histogram h ↦ nat_lt 0 h.interval | _ ↦ true ]
-
--- whether the interval of the aggregation, and of each below it, is above 0, as requests have it
-abbrev pub has_intervals : Agg → Bool
-has_intervals = fold_agg (λ a. has_interval a.kind && list_all (λ has. has) a.children)
 
 -- whether the search has intervals, and all nodes of a partial result can be finished
 abbrev pub can_finish : Search → Partial → Bool

@@ -19,17 +19,19 @@ use Rattle.agg_model.specs.declared.key.Key.TheVariants as key
 use Rattle.agg_model.specs.declared.row.Scalar.{Scalar}
 use Rattle.agg_model.specs.declared.row.Scalar.TheVariants as scalar
 use Rattle.agg_model.specs.declared.row.FieldValues.{FieldValues}
-use Rattle.agg_evaluation.specs.KeyOrder.{key_cmp, key_eq, has_key, scalar_key}
+use Rattle.agg_evaluation.specs.KeyOrder.{key_cmp, key_eq, has_key}
+use Rattle.agg_model.specs.ValueKeys.{scalar_key}
 use Rattle.agg_evaluation.specs.Keys.{distinct_keys}
-use Rattle.agg_evaluation.specs.Rows.{PlacedRow, values_of}
+use Rattle.agg_evaluation.specs.Rows.{PlacedRow, values_of, row_of, no_row}
 use Rattle.list_laws.specs.Sorting.{ascending, insert_once}
 use Rattle.agg_evaluation.specs.Trees.{is_ascending}
 use Rattle.agg_evaluation.proofs.Computing.{computing}
 use Rattle.agg_evaluation.proofs.KeyLists.{key_eq-self, key_eq-exact, same_keys, ascending-distinct_keys, has_key-distinct_keys}
 use Rattle.list_laws.proofs.Orders.{less_is}
 use Rattle.shard_columns.specs.declared.layout.Laid.{Laid}
-use Rattle.shard_columns.specs.Dictionary.{all_words, words_of, word_bytes, dictionary_bytes}
-use Rattle.shard_columns.specs.Layout.{values_of_laid, row_of, no_row}
+use Rattle.shard_columns.specs.Dictionary.{all_words, words_of}
+use Rattle.agg_evaluation.specs.ColumnBytes.{word_bytes, dictionary_bytes}
+use Rattle.shard_columns.specs.Layout.{values_of_laid}
 use Rattle.shard_columns.specs.Values.{Words, word_in, words_in, words_for, AllAmong}
 use Rattle.shard_columns.specs.Words.{SameWords, row_words}
 use Rattle.shard_columns.proofs.Storing.{Contains-flat_map}

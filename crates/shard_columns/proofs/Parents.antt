@@ -8,12 +8,12 @@ use Rattle.std.proofs.Math.Facts.{eqb_yes, leb_yes}
 use Rattle.std.proofs.Math.Seq.{get_or-append_seam}
 use Rattle.list_laws.proofs.Booleans.{or_left, or_right, and_left, and_right, both, same_truth}
 use Rattle.agg_model.specs.declared.row.FieldValues.{FieldValues}
-use Rattle.agg_evaluation.specs.Rows.{PlacedRow, is_within}
+use Rattle.agg_evaluation.specs.Rows.{PlacedRow, is_within, no_row, row_of}
 use Rattle.shard_columns.specs.declared.layout.Entry.{Entry}
 use Rattle.shard_columns.specs.declared.layout.Origin.TheVariants.{Root, Nested}
 use Rattle.shard_columns.specs.declared.shard.Shard.TheInside.{Inside}
 use Rattle.shard_columns.specs.Columns.{Columns}
-use Rattle.shard_columns.specs.Layout.{placed, row_at, place_at, no_row, row_of}
+use Rattle.shard_columns.specs.Layout.{placed, row_at, place_at}
 use Rattle.shard_columns.specs.Shard.{columns_of, placed_rows, IsSound}
 use Rattle.shard_columns.specs.Values.{row_values}
 use Rattle.shard_columns.proofs.Building.{zip-first}

@@ -4,14 +4,12 @@ use Rattle.std.specs.List.{last_or}
 use Rattle.agg_model.specs.declared.partial.Bucket.{Bucket}
 use Rattle.agg_model.specs.declared.partial.Node.{Node, out-Node}
 use Rattle.agg_model.specs.declared.partial.Node.TheOpen.{Node-F}
-use Rattle.agg_model.specs.declared.partial.Node.TheVariants.{Fixed, Number}
 use Rattle.agg_model.specs.declared.aggregation.Kind.{Kind}
 use Rattle.agg_model.specs.Options.{Options, TermsOptions, options_of}
 use Rattle.agg_model.specs.declared.aggregation.Agg.{Agg, out-Agg}
-use Rattle.agg_model.specs.declared.aggregation.Agg.TheOpen.{Agg-F}
 use Rattle.agg_evaluation.specs.Orders.{bucket_count}
 use Rattle.agg_evaluation.specs.Shard.{trimmed_node}
-use Rattle.agg_evaluation.specs.Whole.{Parts, parts}
+use Rattle.agg_evaluation.specs.Whole.{parts}
 use Rattle.bucket_order.specs.Kinds.{child_kinds}
 
 abbrev pub node_buckets : Node → List Bucket
