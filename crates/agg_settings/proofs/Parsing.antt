@@ -1,5 +1,5 @@
 -- What a parse of the command says of its words.
-use Rattle.std.proofs.Common.{◌≡◌, ◌⊎◌, Bool, true, false, refl, ap, subst, List, [], ◌∷◌, inl, inr}
+use Rattle.std.proofs.Common.{◌≡◌, ◌∙◌, ◌⊎◌, Bool, true, false, true≢false, refl, sym, ap, subst, List, [], ◌∷◌, inl, inr}
 use Rattle.std.specs.Prelude.{◌≢◌, ◌↔◌, IsTrue, Result, Ok, Err, IfErr, IsErrAnd}
 use Rattle.clap.specs.Simple.{App, HasMatchesOf, is_simple, matches_of}
 use Rattle.clap.specs.Walk.{Text, rows_of}
@@ -49,7 +49,7 @@ some_fault (x ∷ xs) k other (inr among) = refl
 -- words with a fault are not taken
 pub not_taken : (words : List Text) (k : ErrorKind) (is_memory : Bool) → (IsTrue is_memory ↔ (k ≡ OutOfMemory)) → is_memory ≡ false → (k ≡ OutOfMemory) ⊎ IsAmong k (fault_of command words) → is_command words ≡ false
 unfolding is_command
-not_taken words k is_memory says other h = some_fault (fault_of command words) k (λ memory. subst IsTrue other (says.1 memory)) h
+not_taken words k is_memory says other h = some_fault (fault_of command words) k (λ memory. true≢false (sym (says.1 memory) ∙ other)) h
 
 -- the refusal of such words
 pub refuses : {T : Type 0} (r : Result T SettingsFault) (is_taken : Bool) → is_taken ≡ false → IsErrAnd r (IsUsage [] []) → IfErr r (RefusesWords is_taken)

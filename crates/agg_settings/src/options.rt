@@ -64,27 +64,36 @@ fn first_refused<'e>(entries: &[&'e str]) -> Option<&'e str>
     None
 }
 
-/// The values of `-E` in order.
-fn entries_of<'m, 'w>(matches: &'m ArgMatches<'w>) -> &'m [&'w str]
-    ensures { map (λ s. s.now) result.now
-        ≡ unwrap_or (all_of (codes "entry") (rows_of (found_of matches.now))) [] }
+/// The values of `-E`, where one is given.
+fn given_entries<'m, 'w>(matches: &'m ArgMatches<'w>) -> Option<&'m [&'w str]>
+    ensures { option_map (λ s. map (λ e. e.now) s.now) result
+        ≡ all_of (codes "entry") (rows_of (found_of matches.now)) }
 {
-    match matches.get_raw("entry") {
-        Some(entries) => entries,
-        None => &[],
+    matches.get_raw("entry")
+}
+
+/// The values of `-E` in order.
+fn entries_of<'w>(alloc: Global, matches: &ArgMatches<'w>) -> Result<Vec<&'w str>, AllocError>
+    ensures { IfOk result (λ v. map (λ s. s.now) v.items
+        ≡ unwrap_or (all_of (codes "entry") (rows_of (found_of matches.now))) []) }
+{
+    match given_entries(matches) {
+        Some(given) => Vec::from_slice(alloc, given),
+        None => Ok(Vec::new(alloc)),
     }
 }
 
 /// The entries of `-E` in order, or the refusal of the first that is none.
 #[tactic(auto, unfolding(crate::specs::Options::entries_at))]
-pub(crate) fn entries_at<'m, 'w>(
+pub(crate) fn entries_at<'w>(
     alloc: Global,
-    matches: &'m ArgMatches<'w>,
-) -> Result<&'m [&'w str], SettingsFault>
-    ensures { SeenAs (λ s. map (λ e. e.now) s.now) result (entries_at (rows_of (found_of matches.now))) }
+    matches: &ArgMatches<'w>,
+) -> Result<Vec<&'w str>, SettingsFault>
+    ensures { SeenAs (λ v. map (λ s. s.now) v.items) result
+        (entries_at (rows_of (found_of matches.now))) }
 {
-    let entries = entries_of(matches);
-    match first_refused(entries) {
+    let entries = entries_of(alloc, matches)?;
+    match first_refused(entries.as_slice()) {
         Some(entry) => {
             let (key, value) = entry_parts(entry);
             refused(alloc, key, value)

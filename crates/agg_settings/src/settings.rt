@@ -32,8 +32,8 @@ fn settings_at(
         workers,
         batch,
         width,
-        limits: limits_in(entries),
-        max_buckets: max_buckets_in(entries),
+        limits: limits_in(entries.as_slice()),
+        max_buckets: max_buckets_in(entries.as_slice()),
         scan,
         generate,
     })
