@@ -1,1 +1,5 @@
 pub mod Parsing
+pub mod Computing
+mod LimitTexts
+mod AcceptedWords
+mod RefusedWords
