@@ -7,3 +7,4 @@ pub mod Words
 pub mod Generating
 pub mod Options
 pub mod Settings
+pub mod Ranges

@@ -1,5 +1,5 @@
 -- Limits of circuit breakers (Elasticsearch Reference 8, 'Circuit breaker settings').
-use Rattle.std.specs.Prelude.{◌≤◌, ℕ, ◌*◌, ◌/◌, List, Option, Some, option_map, if◌then◌else◌, codes, ⊤}
+use Rattle.std.specs.Prelude.{◌≤◌, ℕ, ◌*◌, ◌/◌, ◌^◌, List, Option, Some, option_map, if◌then◌else◌, codes}
 use Rattle.std.specs.Str.{bytes_eq}
 use Rattle.agg_settings.specs.Numbers.{number_in}
 use Rattle.agg_settings.specs.Sizes.{front_digits, unit_in, size_from}
@@ -22,7 +22,7 @@ bytes_in heap (Percent p) = heap * p / 100
 abbrev pub limit_of : ℕ → List ℕ → Option ℕ
 limit_of heap s = option_map (bytes_in heap) (amount_of s)
 
--- a percentage is at most 100
-abbrev pub IsShare : Amount → Type 0
-IsShare (Bytes n) = ⊤
-IsShare (Percent p) = p ≤ 100
+-- at most 1pb, or 100 per cent
+abbrev pub IsBounded : Amount → Type 0
+IsBounded (Bytes n) = n ≤ 2 ^ 50
+IsBounded (Percent p) = p ≤ 100

@@ -5,7 +5,7 @@ ghost use Rattle.std.specs.Char.{is_ascii_digit};
 ghost use Rattle.std.specs.List.{prefix_len};
 ghost use Rattle.std.specs.Str.{str_eq_ignore_ascii_case};
 ghost use Rattle.agg_settings.specs.Sizes.{bytes_of_unit, front_digits, size_from, unit_in};
-ghost use Rattle.agg_settings.specs.Limits.{amount_of, bytes_in, limit_of, IsShare};
+ghost use Rattle.agg_settings.specs.Limits.{amount_of, bytes_in, limit_of, IsBounded};
 
 use crate::numbers::{digit_count, number_in, number_of};
 
@@ -75,7 +75,7 @@ pub(crate) fn size_from(least: u64, text: &[u8]) -> Option<u64>
 #[tactic(auto, unfolding(crate::specs::Limits::amount_of))]
 pub(crate) fn amount_of(text: &[u8]) -> Option<Amount>
     ensures value { result ≡ amount_of text.now }
-    ensures share { IfSome result IsShare }
+    ensures bounded { IfSome result IsBounded }
 {
     if text == b"0".as_slice() {
         return Some(Amount::Bytes(0));
@@ -96,8 +96,9 @@ pub(crate) fn amount_of(text: &[u8]) -> Option<Amount>
 
 /// The bytes of a limit, a percentage of the heap rounded down.
 pub(crate) fn bytes_in(heap: u64, amount: Amount) -> u64
-    requires { IsShare amount }
-    ensures { result ≡ bytes_in heap amount }
+    requires { IsBounded amount }
+    ensures value { result ≡ bytes_in heap amount }
+    ensures high { heap ≤ 2 ^ 50 → result ≤ 2 ^ 50 }
 {
     match amount {
         Amount::Bytes(bytes) => bytes,

@@ -1,7 +1,8 @@
 //! The entries `key=value` of `-E`: breaker limits, the heap and the greatest number of buckets.
 
-ghost use Rattle.std.specs.Prelude.{◌≡◌, ◌≤◌, IfSome, map, option_map};
+ghost use Rattle.std.specs.Prelude.{◌≡◌, ◌≤◌, ◌^◌, map, option_map};
 ghost use Rattle.agg_settings.specs.Entries.{key_of, value_of, is_taken, is_entry, last_value, heap_in, limit_in, limits_in, max_buckets_in};
+ghost use Rattle.agg_settings.specs.Ranges.{AreLimits};
 
 use crate::amount::{Amount, amount_of, bytes_in, size_from};
 use crate::numbers::number_in;
@@ -9,11 +10,17 @@ use crate::values::parts;
 use agg_model::Limits;
 
 const HEAP_SIZE: &str = "heap_size";
+
 const MAX_BUCKETS: &str = "search.max_buckets";
+
 const TOTAL: &str = "indices.breaker.total.limit";
+
 const REQUEST: &str = "indices.breaker.request.limit";
+
 const FIELDDATA: &str = "indices.breaker.fielddata.limit";
+
 const INFLIGHT: &str = "network.breaker.inflight_requests.limit";
+
 const REAL_MEMORY: &str = "indices.breaker.total.use_real_memory";
 
 /// The bytes of the heap where no entry says them.
@@ -84,7 +91,8 @@ fn last_value<'a>(key: &str, entries: &[&'a str]) -> Option<&'a str>
 /// The bytes of the heap: the last `heap_size`, or 1gb.
 #[tactic(auto, unfolding(crate::specs::Entries::heap_in))]
 fn heap_in(entries: &[&str]) -> u64
-    ensures { result ≡ heap_in (map (λ s. s.now) entries.now) }
+    ensures value { result ≡ heap_in (map (λ s. s.now) entries.now) }
+    ensures high { result ≤ 2 ^ 50 }
 {
     match last_value(HEAP_SIZE, entries) {
         Some(value) => size_from(1, value.as_bytes()).unwrap_or(DEFAULT_HEAP),
@@ -95,7 +103,9 @@ fn heap_in(entries: &[&str]) -> u64
 /// The greatest number of buckets of an answer: the last `search.max_buckets`, or 65,536.
 #[tactic(auto, unfolding(crate::specs::Entries::max_buckets_in))]
 pub(crate) fn max_buckets_in(entries: &[&str]) -> u64
-    ensures { result ≡ max_buckets_in (map (λ s. s.now) entries.now) }
+    ensures value { result ≡ max_buckets_in (map (λ s. s.now) entries.now) }
+    ensures low { 1 ≤ result }
+    ensures high { result ≤ 1000000 }
 {
     match last_value(MAX_BUCKETS, entries) {
         Some(value) => number_in(1, MOST_BUCKETS, value.as_bytes()).unwrap_or(DEFAULT_BUCKETS),
@@ -106,12 +116,17 @@ pub(crate) fn max_buckets_in(entries: &[&str]) -> u64
 /// The bytes of the last entry with this key, or a percentage of the heap.
 #[tactic(auto, unfolding(crate::specs::Entries::limit_in))]
 fn limit_in(key: &str, percent: u64, heap: u64, entries: &[&str]) -> u64
-    requires { percent ≤ 100 }
-    ensures { result ≡ limit_in key.now percent heap (map (λ s. s.now) entries.now) }
+    requires share { percent ≤ 100 }
+    requires heap { heap ≤ 2 ^ 50 }
+    ensures value { result ≡ limit_in key.now percent heap (map (λ s. s.now) entries.now) }
+    ensures high { result ≤ 2 ^ 50 }
 {
     match last_value(key, entries) {
         Some(value) => {
-            bytes_in(heap, amount_of(value.as_bytes()).unwrap_or(Amount::Percent(percent)))
+            bytes_in(
+                heap,
+                amount_of(value.as_bytes()).unwrap_or(Amount::Percent(percent)),
+            )
         }
         None => bytes_in(heap, Amount::Percent(percent)),
     }
@@ -120,7 +135,8 @@ fn limit_in(key: &str, percent: u64, heap: u64, entries: &[&str]) -> u64
 /// The limits of the breakers.
 #[tactic(auto, unfolding(crate::specs::Entries::limits_in))]
 pub(crate) fn limits_in(entries: &[&str]) -> Limits
-    ensures { result ≡ limits_in (map (λ s. s.now) entries.now) }
+    ensures value { result ≡ limits_in (map (λ s. s.now) entries.now) }
+    ensures high { AreLimits result }
 {
     let heap = heap_in(entries);
     Limits {

@@ -11,6 +11,8 @@ mod generate;
 mod numbers;
 mod options;
 mod settings;
+#[cfg(test)]
+mod tests;
 mod values;
 
 pub use amount::byte_size;

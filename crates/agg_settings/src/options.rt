@@ -1,6 +1,6 @@
 //! What each option says, or its refusal with key and value.
 
-ghost use Rattle.std.specs.Prelude.{◌≡◌, ◌≤◌, ◌++◌, IfOk, codes, map, not, find, option_map, string_bytes, unwrap_or, []};
+ghost use Rattle.std.specs.Prelude.{◌≡◌, ◌≤◌, ◌++◌, IfOk, codes, map, not, find, option_map, string_bytes, true, unwrap_or, []};
 ghost use Rattle.clap.specs.Words.{all_of, first_of, first_value, found_of, rows_of};
 ghost use Rattle.agg_settings.specs.Usages.{Gives, SeenAs};
 ghost use Rattle.agg_settings.specs.Entries.{is_entry};
@@ -40,7 +40,12 @@ pub(crate) fn number_at(
     most: u32,
     default: u32,
 ) -> Result<u32, SettingsFault>
-    ensures { Gives result (number_at name.now least most default (rows_of (found_of matches.now))) }
+    requires low { least ≤ default }
+    requires high { default ≤ most }
+    ensures value { Gives result
+        (number_at name.now least most default (rows_of (found_of matches.now))) }
+    ensures least { IfOk result (λ n. least ≤ n) }
+    ensures most { IfOk result (λ n. n ≤ most) }
 {
     let Some(value) = value_of(matches, name) else {
         return Ok(default);
@@ -120,7 +125,8 @@ pub(crate) fn scan_at(
     matches: &ArgMatches<'_>,
     width: u32,
 ) -> Result<bool, SettingsFault>
-    ensures { Gives result (scan_at width (rows_of (found_of matches.now))) }
+    ensures value { Gives result (scan_at width (rows_of (found_of matches.now))) }
+    ensures alone { IfOk result (λ scan. scan ≡ true → width ≡ 1) }
 {
     let scan = is_given(matches, "scan");
     if scan && width != 1 {

@@ -3,6 +3,7 @@
 ghost use Rattle.std.specs.Prelude.{◌≡◌, ◌≤◌, IfOk, IfErr, Ok, map};
 ghost use Rattle.clap.specs.Words.{found_of, rows_of};
 ghost use Rattle.agg_settings.specs.Usages.{Fails, Gives};
+ghost use Rattle.agg_settings.specs.Ranges.{AreInRange};
 ghost use Rattle.agg_settings.specs.Settings.{settings_at, settings_of};
 
 use crate::command::{matches, slices};
@@ -20,7 +21,9 @@ fn settings_at(
     matches: &ArgMatches<'_>,
     most: u32,
 ) -> Result<Settings, SettingsFault>
-    ensures { Gives result (settings_at most (rows_of (found_of matches.now))) }
+    requires { 1 ≤ most }
+    ensures value { Gives result (settings_at most (rows_of (found_of matches.now))) }
+    ensures in_range { IfOk result (AreInRange most) }
 {
     let workers = number_at(alloc, matches, "workers", 1, most, 1)?;
     let batch = number_at(alloc, matches, "batched-reduce-size", 2, 1_024, 512)?;
@@ -39,8 +42,8 @@ fn settings_at(
     })
 }
 
-/// The settings that the words after the program's name give; `most` is the greatest number of workers, and of
-/// searches at a time, that is answered.
+/// The settings that the words after the program's name give; `most`, from 1 to 64, is the greatest number of workers,
+/// and of searches at a time, that is answered.
 ///
 /// Words outside the grammar are refused with the first key that fails and its value: the name of an option, as
 /// `--workers`, or the key of an entry of `-E`. Both are empty where the command line itself is refused, as for an
@@ -48,8 +51,10 @@ fn settings_at(
 /// `--concurrent-searches`, each `-E`, `--scan`, `--generate`. Want of memory may come in the place of any of them.
 #[tactic(auto, unfolding(crate::specs::Settings::settings_of))]
 pub fn settings_of(alloc: Global, words: &[Text], most: u32) -> Result<Settings, SettingsFault>
+    requires { 1 ≤ most }
     ensures settings { IfOk result (λ settings. settings_of most words.now ≡ Ok settings) }
     ensures usage { IfErr result (λ fault. Fails fault (settings_of most words.now)) }
+    ensures in_range { IfOk result (AreInRange most) }
 {
     let words = slices(alloc, words)?;
     let matches = matches(alloc, words.as_slice())?;
