@@ -22,7 +22,7 @@ plain = record {
 }
 
 abbrev read : List Text → Reading Settings
-read words = settings_of 64 words
+read words = settings_of true words
 
 no_words : read [] ≡ Ok plain
 unfolding computing

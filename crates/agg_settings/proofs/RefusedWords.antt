@@ -1,5 +1,5 @@
 -- Words that are not in the grammar: the first key that fails, with its value.
-use Rattle.std.specs.Prelude.{◌≡◌, refl, List, [], ◌∷◌, codes}
+use Rattle.std.specs.Prelude.{◌≡◌, refl, List, [], ◌∷◌, true, false, codes}
 use Rattle.clap.specs.Walk.{Text}
 use Rattle.agg_model.specs.declared.settings.Settings.{Settings}
 use Rattle.agg_settings.specs.Usages.{Reading, refuse}
@@ -7,7 +7,7 @@ use Rattle.agg_settings.specs.Settings.{settings_of}
 use Rattle.agg_settings.proofs.Computing.{computing}
 
 abbrev read : List Text → Reading Settings
-read words = settings_of 64 words
+read words = settings_of true words
 
 abbrev no_command : Reading Settings
 no_command = refuse [] []
@@ -20,8 +20,8 @@ sixty_five_workers : read (codes "--workers" ∷ codes "65" ∷ []) ≡ refuse (
 unfolding computing
 sixty_five_workers = refl
 
--- where one worker is the most
-two_workers_of_one : settings_of 1 (codes "--workers" ∷ codes "2" ∷ []) ≡ refuse (codes "--workers") (codes "2")
+-- where several are not answered yet
+two_workers_of_one : settings_of false (codes "--workers" ∷ codes "2" ∷ []) ≡ refuse (codes "--workers") (codes "2")
 unfolding computing
 two_workers_of_one = refl
 

@@ -1,12 +1,11 @@
 -- Entries `key=value` of the option `-E` (Elasticsearch Reference 8, 'Configuring Elasticsearch', 'Circuit breaker settings').
-use Rattle.std.specs.Prelude.{ℕ, ◌==◌, ◌^◌, List, Option, Some, None, Bool, true, false, if◌then◌else◌, codes, is_some, unwrap_or, option_and_then, fold}
-use Rattle.std.specs.List.{before_first, after_first, find}
+use Rattle.std.specs.Prelude.{ℕ, ◌==◌, ◌^◌, List, Option, Some, None, Bool, false, if◌then◌else◌, codes, is_some, unwrap_or, option_and_then, fold}
+use Rattle.std.specs.List.{before_first, after_first}
 use Rattle.std.specs.Str.{bytes_eq}
 use Rattle.agg_model.specs.declared.breaker.Limits.{Limits}
 use Rattle.agg_settings.specs.Numbers.{number_in}
 use Rattle.agg_settings.specs.Sizes.{size_from}
 use Rattle.agg_settings.specs.Limits.{amount_of, bytes_in}
-use Rattle.agg_settings.specs.declared.amount.Amount.{Amount}
 use Rattle.agg_settings.specs.declared.amount.Amount.TheVariants.{Percent}
 
 -- the key of an entry stands before the first `=` (61); without one all is the key, and the value is empty

@@ -1,5 +1,5 @@
 -- Sizes in bytes (Elasticsearch Reference 8, 'API conventions': byte size units), up to one petabyte.
-use Rattle.std.specs.Prelude.{ℕ, ◌*◌, ◌^◌, List, drop, Option, Some, None, nat_le, if◌then◌else◌, codes}
+use Rattle.std.specs.Prelude.{ℕ, ◌*◌, ◌^◌, List, drop, Option, Some, None, if◌then◌else◌, codes}
 use Rattle.std.specs.Char.{is_ascii_digit}
 use Rattle.std.specs.List.{prefix_len, take_while}
 use Rattle.std.specs.Str.{str_eq_ignore_ascii_case}

@@ -1,5 +1,5 @@
 -- The command line: one simple command of `clap` with five options and a flag, and no help or version.
-use Rattle.std.specs.Prelude.{ℕ, List, [], ◌∷◌, Some, Bool, true, false, codes}
+use Rattle.std.specs.Prelude.{List, [], ◌∷◌, Some, Bool, true, false, codes}
 use Rattle.clap.specs.Walk.{Row, Rule, Text}
 use Rattle.clap.specs.Simple.{App, matches_of, new_app, new_rule, on_top, with_rule}
 use Rattle.clap.specs.Faults.{fault_of}

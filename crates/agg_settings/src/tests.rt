@@ -117,7 +117,7 @@ fn words_give_settings(rt: HostRuntime) -> Result<(), Fail> {
         ("-E indices.breaker.total.use_real_memory=false", PLAIN),
     ] {
         let words = words(rt.alloc(), line)?;
-        let read = settings_of(rt.alloc(), words.as_slice(), 64);
+        let read = settings_of(rt.alloc(), words.as_slice(), true);
         assert!(rt; read == Ok(wanted), "{line}");
     }
     Ok(())
@@ -196,7 +196,7 @@ fn words_outside_the_grammar_are_refused(rt: HostRuntime) -> Result<(), Fail> {
         ("--generate x --scan --concurrent-searches 2", "--scan", ""),
     ] {
         let words = words(rt.alloc(), line)?;
-        let read = settings_of(rt.alloc(), words.as_slice(), 64);
+        let read = settings_of(rt.alloc(), words.as_slice(), true);
         assert!(rt; is_usage(read, key, value), "{line}");
     }
     Ok(())
@@ -209,7 +209,7 @@ fn one_worker_and_one_search_where_no_more_are_answered(rt: HostRuntime) -> Resu
         ("--concurrent-searches 2", "--concurrent-searches"),
     ] {
         let words = words(rt.alloc(), line)?;
-        let read = settings_of(rt.alloc(), words.as_slice(), 1);
+        let read = settings_of(rt.alloc(), words.as_slice(), false);
         assert!(rt; is_usage(read, key, "2"), "{line}");
     }
     Ok(())
