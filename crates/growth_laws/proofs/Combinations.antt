@@ -13,7 +13,8 @@ use Rattle.agg_model.specs.declared.key.Key.{Key, out-Key, out-roll-Key}
 use Rattle.agg_model.specs.declared.key.Key.TheOpen.{Key-F}
 use Rattle.agg_model.specs.declared.key.Key.TheVariants.{Many, Null}
 use Rattle.agg_evaluation.specs.Ceiling.{combination_count}
-use Rattle.agg_evaluation.specs.KeyOrder.{key_cmp, key_cmp_at, scalar_key}
+use Rattle.agg_model.specs.ValueKeys.{scalar_key}
+use Rattle.agg_evaluation.specs.KeyOrder.{key_cmp, key_cmp_at}
 use Rattle.agg_evaluation.specs.Keys.{combinations, composite_keys, distinct_keys, histogram_keys, interval_key, is_between, is_included, no_bounds, or_null, source_keys, term_keys, values_or}
 use Rattle.agg_evaluation.specs.Rows.{PlacedRow}
 use Rattle.agg_evaluation.specs.Trees.{is_ascending}
