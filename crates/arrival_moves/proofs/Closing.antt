@@ -23,6 +23,7 @@ use Rattle.arrival_moves.specs.Moves.{ArrivalState}
 use Rattle.arrival_moves.specs.Fairness.{everywhere, IsOfSearch, of_search, failed_tasks, skipped_tasks}
 use Rattle.arrival_moves.specs.Closing.{IsAtEnd}
 use Rattle.arrival_moves.proofs.Sums.{Each, sum_by_has, sum_by_pair}
+use Rattle.arrival_moves.proofs.Lists.{there_below}
 use Rattle.arrival_moves.proofs.Each.{each_tail}
 use Rattle.arrival_moves.proofs.BatchRanges.{batch_some}
 use Rattle.arrival_moves.proofs.Places.{place_within, place_at}
@@ -46,12 +47,6 @@ none_in_slots f (y ∷ ys) h = let a = sum_by-cons (in_slot f) y ys in let b = h
 some_slot : (f : Label → ℕ) (xs : List Slot) → 1 ≤ in_slots f xs → (j : ℕ) × (y : Slot) × (get_elem? xs j ≡ some y) × (1 ≤ in_slot f y)
 some_slot f [] h = absurd (omega arith)
 some_slot f (y ∷ ys) h = let a = sum_by-cons (in_slot f) y ys in ⊎_elim (λ (z : 1 ≤ in_slot f y). (0, y, refl, z)) (λ (z : 1 ≤ in_slots f ys). let r = some_slot f ys z in (suc r.0, r.1, r.2, r.3)) (some_of (in_slot f y) (in_slots f ys) (omega arith))
-
--- an element stands below the length
-there_below : {A : Type 0} (xs : List A) (j : ℕ) (y : A) → get_elem? xs j ≡ some y → j < length xs
-there_below [] j y e = absurd (some-ne-none y (sym e))
-there_below (x ∷ xs) zero y e = omega arith
-there_below (x ∷ xs) (suc j) y e = let r = there_below xs j y e in omega arith
 
 module _ (p : Plan) (good : IsPlan p) (s : ArrivalState) (f : IsKept p s) (i : ℕ) (v : View) (e : get_elem? s.desks i ≡ some v) (at : IsAtEnd v) where
   -- no other desk has made a claim, so no hand holds anything

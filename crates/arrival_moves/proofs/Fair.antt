@@ -16,8 +16,9 @@ use Rattle.arrival_moves.specs.Fairness.{IsFair}
 use Rattle.arrival_moves.proofs.OneIf.{one_if_le}
 use Rattle.arrival_moves.proofs.Quiet.{lt_one}
 use Rattle.arrival_moves.proofs.Words.{drawn_le}
-use Rattle.arrival_moves.proofs.Places.{place_within}
-use Rattle.arrival_moves.proofs.Batches.{is_complete}
+use Rattle.arrival_moves.proofs.Places.{place_within, place_at}
+use Rattle.arrival_moves.proofs.Batches.{is_complete, le_none}
+use Rattle.arrival_moves.proofs.Lists.{there_below}
 use Rattle.arrival_moves.proofs.SlotStates.{was_emptied, full_slot, has_slot}
 use Rattle.arrival_moves.proofs.Runs.{IsKept, kept_run}
 
@@ -31,7 +32,7 @@ module _ (p : Plan) (good : IsPlan p) (s : ArrivalState) (f : IsKept p s) where
       → (l : Label) × (get_elem? s.results (place_of p q t) ≡ some (holds l))
   result_there q t drawn away why = let range = ticket_range q t drawn in let y = has_slot s.results (place_of p q t) (subst (λ z. place_of p q t < z) (sym f.shape.results) (place_within p q t range)) in
       let a = f.results.once q t y.0 range y.1 in let one = lt_one t (get_or s.tickets q 0) drawn in let due = f.batches.due q t y.0 range y.1 in let top = one_if_le (leb (batch_size p q (t / p.batch)) (get_or s.counts (place_of p q (t / p.batch)) 0)) in
-      let kept : was_emptied y.0 ≡ 0 = ⊎_elim (λ (z : get_or s.counts (place_of p q (t / p.batch)) 0 < batch_size p q (t / p.batch)). let none : is_complete p s q (t / p.batch) ≡ 0 = ap one_if (lt-leb _ _ z) in omega arith) (λ (z : 1 ≤ in_hands (due_at q t) s.desks). omega arith) why in
+      let kept : was_emptied y.0 ≡ 0 = ⊎_elim (λ (z : get_or s.counts (place_of p q (t / p.batch)) 0 < batch_size p q (t / p.batch)). let none = le_none (batch_size p q (t / p.batch)) (get_or s.counts (place_of p q (t / p.batch)) 0) z in omega arith) (λ (z : 1 ≤ in_hands (due_at q t) s.desks). omega arith) why in
       let l = full_slot y.0 (omega arith) kept in (l.0, y.1 ∙ ap some l.1)
 
   -- what every move keeps is fair
@@ -45,6 +46,7 @@ module _ (p : Plan) (good : IsPlan p) (s : ArrivalState) (f : IsKept p s) where
       result = f.labels.results;
       taken = λ i j v x e h. let a = f.labels.hands i v e j (Batch x) h in record { size = a.size; search = a.search };
       merged = f.labels.batches;
+      placed = λ r l e. let place = place_at p good r (subst (λ n. r < n) f.shape.batches (there_below s.batches r (holds l) e)) in (place.0, place.1, f.labels.real place.0 place.1 l place.2 (ap (get_elem? s.batches) (sym place.3) ∙ e), place.3);
       closed = λ i j v x e h. f.labels.hands i v e j (Closed x) h;
       counts = f.counts.counts;
       uncounted = f.counts.uncounted;

@@ -83,7 +83,9 @@ pub record BatchesFit (p : Plan) (s : ArrivalState) : Type 0 where
   pub taken : (i j : ℕ) (v : View) (x : HeldBatch) → get_elem? s.desks i ≡ some v → get_elem? v.hand j ≡ some (Batch x) → HoldsBatch p x
   -- a merged result stands for as many tasks as its batch has tickets, all of its search
   pub merged : (q b : ℕ) (l : Label) → b * p.batch < tasks_of p q → get_elem? s.batches (place_of p q b) ≡ some (holds l) → (length l.tasks ≡ batch_size p q b) × IsOfSearch p q l
-  -- so does one that was taken out
+  -- and lies in the slot of a batch that its search has
+  pub placed : (r : ℕ) (l : Label) → get_elem? s.batches r ≡ some (holds l) → (q : ℕ) × (b : ℕ) × (b * p.batch < tasks_of p q) × (r ≡ place_of p q b)
+  -- so does one that was taken out stand for its batch
   pub closed : (i j : ℕ) (v : View) (x : ClosedBatch) → get_elem? s.desks i ≡ some v → get_elem? v.hand j ≡ some (Closed x) → HoldsMerged p x
   -- a batch's count word is the number of its tickets that were counted: those that were drawn and are in no hand
   pub counts : (q b : ℕ) → b * p.batch < tasks_of p q

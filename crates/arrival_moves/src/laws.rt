@@ -2,11 +2,16 @@
 //! function that does nothing.
 ghost use Rattle.std.specs.Prelude.{List};
 ghost use Rattle.arrival_moves.specs.declared.plan.Plan.{Plan};
-ghost use Rattle.arrival_moves.specs.Plans.{IsPlan};
+ghost use Rattle.arrival_moves.specs.Plans.{IsPlan, IsLaidOut};
 ghost use Rattle.arrival_moves.specs.Moves.{Move, run};
 ghost use Rattle.arrival_moves.specs.Fairness.{IsFair};
 ghost use Rattle.arrival_moves.specs.Holding.{IsHeldAlone, HasDueResults};
 ghost use Rattle.arrival_moves.specs.Closing.{HasDeskAtEnd, IsAllMerged};
+
+/// The results of all tickets have places of their own, and there are no others.
+pub fn places()
+    ensures { (p : Plan) → IsPlan p → IsLaidOut p }
+{}
 
 /// Every list of moves leaves a fair state: claims, tasks, tickets, batches and stop words are as they should be.
 pub fn fairness()
