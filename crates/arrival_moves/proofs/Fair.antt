@@ -53,7 +53,7 @@ module _ (p : Plan) (good : IsPlan p) (s : ArrivalState) (f : IsKept p s) where
       counted = λ q t drawn away why. result_there q t drawn (omega arith) why;
       last = f.batches.last;
     };
-    stops = record { failed = f.stops.failed; noted = λ i v q e h. f.notes.noted i v e q h; skipped = f.stops.skipped };
+    stops = record { word = f.notes.low; failed = f.stops.failed; noted = λ i v q e h. f.notes.noted i v e q h; skipped = f.stops.skipped };
   }
 
 -- after every list of moves

@@ -90,7 +90,7 @@ pub record BatchesFit (p : Plan) (s : ArrivalState) : Type 0 where
   -- a batch's count word is the number of its tickets that were counted: those that were drawn and are in no hand
   pub counts : (q b : ℕ) → b * p.batch < tasks_of p q
       → slice_index s.counts (place_of p q b) + in_hands (uncounted_in p q b) s.desks ≡ tickets_in p b (slice_index s.tickets q)
-  -- a ticket that was drawn and not yet counted is in one desk's hand
+  -- a ticket in hand was drawn, and one desk has it; so one that was drawn and not yet counted is in one desk's hand
   pub uncounted : (q t : ℕ) → in_hands (arrived_at q t) s.desks + in_hands (put_at q t) s.desks ≤ one_if (nat_lt t (slice_index s.tickets q))
   -- a counted ticket's slot holds its result until a desk whose count was the last has taken it
   pub counted : (q t : ℕ) → t < slice_index s.tickets q → in_hands (arrived_at q t) s.desks + in_hands (put_at q t) s.desks ≡ 0
@@ -113,6 +113,8 @@ skipped_tasks p q l = if l.skipped then of_search p q l.tasks else 0
 
 -- stop words
 pub record StopsFit (p : Plan) (s : ArrivalState) : Type 0 where
+  -- a stop word is 0 or 1
+  pub word : (q : ℕ) → slice_index s.stops q ≤ 1
   -- where a search's stop word is 1, a task of it in hand is marked failed, or the label of a result of it says failed
   pub failed : (q : ℕ) → slice_index s.stops q ≡ 1 → 1 ≤ everywhere (failed_tasks p q) s
   -- where a desk noted the search as stopped, or the label of a result of it says skipped, its stop word is 1
