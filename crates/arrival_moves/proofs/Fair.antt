@@ -1,12 +1,10 @@
 -- Every list of moves leaves a fair state.
 use Rattle.std.proofs.Common.{◌≡◌, ℕ, ◌/◌, ◌<◌, ◌≤◌, ◌⊎◌, ⊎_elim, leb, get_or, List, sym, ap, ◌∙◌, subst, arith}
-use Rattle.std.proofs.lemmas.Bool.{lt-leb}
 use mathlib.Core.Option.{some}
 use lib.ListN.{get_elem?}
 use Rattle.arrival_moves.specs.declared.label.Label.{Label}
 use Rattle.arrival_moves.specs.declared.plan.Plan.{Plan}
 use Rattle.arrival_moves.specs.declared.item.Item.TheVariants.{Batch, Closed}
-use Rattle.arrival_moves.specs.Lists.{one_if}
 use Rattle.arrival_moves.specs.Slots.{holds}
 use Rattle.arrival_moves.specs.Plans.{tasks_of, place_of, batch_size, IsPlan}
 use Rattle.arrival_moves.specs.Items.{arrived_at, due_at}
@@ -17,7 +15,7 @@ use Rattle.arrival_moves.proofs.OneIf.{one_if_le}
 use Rattle.arrival_moves.proofs.Quiet.{lt_one}
 use Rattle.arrival_moves.proofs.Words.{drawn_le}
 use Rattle.arrival_moves.proofs.Places.{place_within, place_at}
-use Rattle.arrival_moves.proofs.Batches.{is_complete, le_none}
+use Rattle.arrival_moves.proofs.Batches.{le_none}
 use Rattle.arrival_moves.proofs.Lists.{there_below}
 use Rattle.arrival_moves.proofs.SlotStates.{was_emptied, full_slot, has_slot}
 use Rattle.arrival_moves.proofs.Runs.{IsKept, kept_run}
@@ -33,7 +31,7 @@ module _ (p : Plan) (good : IsPlan p) (s : ArrivalState) (f : IsKept p s) where
   result_there q t drawn away why = let range = ticket_range q t drawn in let y = has_slot s.results (place_of p q t) (subst (λ z. place_of p q t < z) (sym f.shape.results) (place_within p q t range)) in
       let a = f.results.once q t y.0 range y.1 in let one = lt_one t (get_or s.tickets q 0) drawn in let due = f.batches.due q t y.0 range y.1 in let top = one_if_le (leb (batch_size p q (t / p.batch)) (get_or s.counts (place_of p q (t / p.batch)) 0)) in
       let kept : was_emptied y.0 ≡ 0 = ⊎_elim (λ (z : get_or s.counts (place_of p q (t / p.batch)) 0 < batch_size p q (t / p.batch)). let none = le_none (batch_size p q (t / p.batch)) (get_or s.counts (place_of p q (t / p.batch)) 0) z in omega arith) (λ (z : 1 ≤ in_hands (due_at q t) s.desks). omega arith) why in
-      let l = full_slot y.0 (omega arith) kept in (l.0, y.1 ∙ ap some l.1)
+      full_slot s.results (place_of p q t) y.0 y.1 (omega arith) kept
 
   -- what every move keeps is fair
   pub fair_of : IsFair p s

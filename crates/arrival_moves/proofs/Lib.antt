@@ -27,5 +27,6 @@ pub mod Stops
 pub mod Fair
 pub mod Closing
 pub mod Alone
+pub mod Growth
 mod MergeExamples
 mod StopExamples
