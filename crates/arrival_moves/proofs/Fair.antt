@@ -1,5 +1,5 @@
 -- Every list of moves leaves a fair state.
-use Rattle.std.proofs.Common.{◌≡◌, ℕ, ◌/◌, ◌<◌, ◌≤◌, ◌⊎◌, ⊎_elim, leb, get_or, List, sym, ap, ◌∙◌, subst, arith}
+use Rattle.std.proofs.Common.{ltb, ◌≡◌, ℕ, ◌/◌, ◌<◌, ◌≤◌, ◌⊎◌, ⊎_elim, leb, get_or, List, sym, ap, ◌∙◌, subst, arith}
 use mathlib.Core.Option.{some}
 use lib.ListN.{get_elem?}
 use Rattle.arrival_moves.specs.declared.label.Label.{Label}
@@ -11,13 +11,15 @@ use Rattle.arrival_moves.specs.Items.{arrived_at, due_at}
 use Rattle.arrival_moves.specs.Hands.{in_hands}
 use Rattle.arrival_moves.specs.Moves.{ArrivalState, Move, run}
 use Rattle.arrival_moves.specs.Fairness.{IsFair}
-use Rattle.arrival_moves.proofs.OneIf.{one_if_le}
+use Rattle.arrival_moves.proofs.OneIf.{one_if_le, one_if_true}
 use Rattle.arrival_moves.proofs.Quiet.{lt_one}
 use Rattle.arrival_moves.proofs.Words.{drawn_le}
 use Rattle.arrival_moves.proofs.Places.{place_within, place_at}
 use Rattle.arrival_moves.proofs.Batches.{le_none}
 use Rattle.arrival_moves.proofs.Lists.{there_below}
 use Rattle.arrival_moves.proofs.SlotStates.{was_emptied, full_slot, has_slot}
+use Rattle.arrival_moves.proofs.CountedTickets.{counted_all}
+use Rattle.std.proofs.lemmas.Bool.{ltb-true}
 use Rattle.arrival_moves.proofs.Runs.{IsKept, kept_run}
 
 module _ (p : Plan) (good : IsPlan p) (s : ArrivalState) (f : IsKept p s) where
@@ -46,9 +48,9 @@ module _ (p : Plan) (good : IsPlan p) (s : ArrivalState) (f : IsKept p s) where
       merged = f.labels.batches;
       placed = λ r l e. let place = place_at p good r (subst (λ n. r < n) f.shape.batches (there_below s.batches r (holds l) e)) in (place.0, place.1, f.labels.real place.0 place.1 l place.2 (ap (get_elem? s.batches) (sym place.3) ∙ e), place.3);
       closed = λ i j v x e h. f.labels.hands i v e j (Closed x) h;
-      counts = f.counts.counts;
+      counts = λ q b real. counted_all p good s f q b real;
       uncounted = f.counts.uncounted;
-      counted = λ q t drawn away why. result_there q t drawn (omega arith) why;
+      counted = λ q t done why. let low : t < get_or s.tickets q 0 = ltb-true _ _ (one_if_true (ltb t (get_or s.tickets q 0)) (omega arith)) in let top = one_if_le (ltb t (get_or s.tickets q 0)) in result_there q t low (omega arith) why;
       last = f.batches.last;
     };
     stops = record { word = f.notes.low; failed = f.stops.failed; noted = λ i v q e h. f.notes.noted i v e q h; skipped = f.stops.skipped };

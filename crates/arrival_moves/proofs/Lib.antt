@@ -24,6 +24,7 @@ pub mod Batches
 pub mod Everywhere
 pub mod TasksOnce
 pub mod Stops
+pub mod CountedTickets
 pub mod Fair
 pub mod Closing
 pub mod Alone
