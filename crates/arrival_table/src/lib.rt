@@ -8,6 +8,7 @@ mod desk;
 mod given;
 mod known;
 mod merging;
+mod opening;
 mod places;
 mod results;
 mod rule;
@@ -17,4 +18,5 @@ mod table;
 
 pub use cell::Labelled;
 pub use desk::Desk;
-pub use table::Arrivals;
+pub use opening::{OpenRefused, Task};
+pub use table::{Arrivals, Merged};
