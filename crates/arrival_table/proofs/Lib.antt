@@ -11,3 +11,4 @@ pub mod AllowedStop
 pub mod AllowedShare
 pub mod Filled
 pub mod Opened
+pub mod OneItem

@@ -7,6 +7,7 @@ mod claims;
 mod desk;
 mod given;
 mod known;
+pub mod laws;
 mod merging;
 mod opening;
 mod places;
