@@ -2,17 +2,22 @@
 ghost use Rattle.std.specs.Prelude.{◌≡◌, List, [], ◌∷◌, ◌++◌, map, ℕ, IsTrue, true, false, flat_map, slice_get, Some};
 ghost use Rattle.std.specs.List.{list_all, list_any};
 ghost use Rattle.std.proofs.Math.ListN.{set};
-ghost use Rattle.agg_model.specs.declared.aggregation.Agg.{Agg};
+ghost use Rattle.agg_model.specs.declared.aggregation.Agg.{Agg, out-Agg};
 ghost use Rattle.agg_model.specs.declared.key.Key.{Key};
 ghost use Rattle.agg_model.specs.declared.partial.Bucket.{Bucket};
+ghost use Rattle.agg_model.specs.declared.row.Row.{Row};
+ghost use Rattle.agg_evaluation.specs.Placement.{is_placed};
+ghost use Rattle.agg_evaluation.specs.Trace.{is_global};
 ghost use Rattle.agg_evaluation.specs.KeyOrder.{has_key};
 ghost use Rattle.agg_evaluation.specs.Orders.{bucket_key};
-ghost use Rattle.agg_evaluation.specs.Rows.{PlacedRow, is_within, enclosing};
+ghost use Rattle.agg_evaluation.specs.Rows.{PlacedRow, enclosing, is_within, shard_rows};
 ghost use Rattle.agg_evaluation.specs.Shard.{collected_node, sorted_by_key};
 ghost use Rattle.growth_laws.specs.Growth.{Grower, grown, grown_bucket, new_bucket, put_row, is_plain};
 ghost use Rattle.growth_laws.specs.Cutting.{cut_tree};
 ghost use Rattle.growth_laws.specs.Arrived.{AreDistinct, IsAt};
 ghost use Rattle.growth_laws.specs.Apart.{EncloseNone};
+ghost use Rattle.growth_laws.specs.Documents.{IsCutAt, lie_before, lie_behind};
+ghost use Rattle.growth_laws.specs.Gathering.{counted, gathered};
 
 /// The tree of some rows and one more is the grown tree of these rows, for aggregations that are no global, reverse nested
 /// or composite ones and have none below them.
@@ -40,4 +45,18 @@ pub fn buckets_may_stand_as_they_came()
 pub fn enclosing_rows_add_up()
     ensures parts { (context : ℕ) (before after xs ys : List PlacedRow) → EncloseNone before ys → EncloseNone after xs →
         enclosing (before ++ after) context (xs ++ ys) ≡ enclosing (before ++ after) context xs ++ enclosing (before ++ after) context ys }
+{}
+
+/// The rows of a shard come document by document. So, whatever the kind of an aggregation, its tree of rows of the first
+/// documents and rows of later ones is the tree of the first rows, gathered with the others. Global aggregations stand at
+/// the top alone; there they count the roots that they are given.
+pub fn later_documents_are_gathered()
+    ensures cut { (documents : List (List ℕ × Row)) (n : ℕ) → IsCutAt n (shard_rows documents) }
+    ensures every_kind { (n : ℕ) (all : List PlacedRow) → IsCutAt n all → (a : Agg) → IsTrue (is_placed a false) →
+        (rows more : List PlacedRow) → IsTrue (lie_before n rows) → IsTrue (lie_behind n more) →
+        collected_node false all [] a (rows ++ more) ≡ gathered all a more (collected_node false all [] a rows) }
+    ensures global { (n : ℕ) (all : List PlacedRow) → IsCutAt n all → (a : Agg) → IsTrue (is_global (out-Agg a).kind) →
+        IsTrue (is_placed a true) → (globals more rows : List PlacedRow) → IsTrue (lie_before n globals) →
+        IsTrue (lie_behind n more) →
+        collected_node false all (globals ++ more) a rows ≡ counted all a more (collected_node false all globals a rows) }
 {}
