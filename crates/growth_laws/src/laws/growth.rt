@@ -1,13 +1,14 @@
 //! Laws of growth: what one more row makes of a tree.
-ghost use Rattle.std.specs.Prelude.{◌≡◌, List, [], ◌∷◌, ◌++◌, map, ℕ, IsTrue, true, false, flat_map, slice_get, Some};
+ghost use Rattle.std.specs.Prelude.{◌≡◌, ◌+◌, length, List, [], ◌∷◌, ◌++◌, map, ℕ, IsTrue, true, false, flat_map, slice_get, Some};
 ghost use Rattle.std.specs.List.{list_all, list_any};
 ghost use Rattle.std.proofs.Math.ListN.{set};
 ghost use Rattle.agg_model.specs.declared.aggregation.Agg.{Agg, out-Agg};
+ghost use Rattle.agg_model.specs.declared.aggregation.Search.{Search};
 ghost use Rattle.agg_model.specs.declared.key.Key.{Key};
 ghost use Rattle.agg_model.specs.declared.partial.Bucket.{Bucket};
 ghost use Rattle.agg_model.specs.declared.row.Row.{Row};
 ghost use Rattle.agg_evaluation.specs.Placement.{is_placed};
-ghost use Rattle.agg_evaluation.specs.Trace.{is_global};
+ghost use Rattle.agg_evaluation.specs.Trace.{built, global_roots, is_global, matched};
 ghost use Rattle.agg_evaluation.specs.KeyOrder.{has_key};
 ghost use Rattle.agg_evaluation.specs.Orders.{bucket_key};
 ghost use Rattle.agg_evaluation.specs.Rows.{PlacedRow, enclosing, is_within, shard_rows};
@@ -18,6 +19,7 @@ ghost use Rattle.growth_laws.specs.Arrived.{AreDistinct, IsAt};
 ghost use Rattle.growth_laws.specs.Apart.{EncloseNone};
 ghost use Rattle.growth_laws.specs.Documents.{IsCutAt, lie_before, lie_behind};
 ghost use Rattle.growth_laws.specs.Gathering.{counted, gathered};
+ghost use Rattle.growth_laws.specs.Steps.{tree_after, with_matched, with_root};
 
 /// The tree of some rows and one more is the grown tree of these rows, for aggregations that are no global, reverse nested
 /// or composite ones and have none below them.
@@ -59,4 +61,20 @@ pub fn later_documents_are_gathered()
         IsTrue (is_placed a true) → (globals more rows : List PlacedRow) → IsTrue (lie_before n globals) →
         IsTrue (lie_behind n more) →
         collected_node false all (globals ++ more) a rows ≡ counted all a more (collected_node false all globals a rows) }
+{}
+
+/// The trees of a task grow root by root: each matched root is gathered by the aggregations that are no global ones, and
+/// each root behind them is counted by the global ones.
+pub fn trees_grow_root_by_root()
+    ensures trees { (search : Search) (all : List PlacedRow) (n : ℕ) →
+        (built search all n).nodes ≡ map (λ a. tree_after search all a n) search.aggs }
+    ensures matched { (search : Search) (documents : List (List ℕ × Row)) (a : Agg) (n : ℕ) (root : PlacedRow) →
+        IsTrue (is_placed a true) → slice_get (matched search (shard_rows documents)) n ≡ Some root →
+        tree_after search (shard_rows documents) a (n + 1)
+        ≡ with_matched (shard_rows documents) a root (tree_after search (shard_rows documents) a n) }
+    ensures global { (search : Search) (documents : List (List ℕ × Row)) (a : Agg) (n : ℕ) (root : PlacedRow) →
+        IsTrue (is_placed a true) → slice_get (global_roots search (shard_rows documents)) n ≡ Some root →
+        tree_after search (shard_rows documents) a (length (matched search (shard_rows documents)) + n + 1)
+        ≡ with_root (shard_rows documents) a root
+            (tree_after search (shard_rows documents) a (length (matched search (shard_rows documents)) + n)) }
 {}
