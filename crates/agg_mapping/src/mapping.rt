@@ -15,13 +15,11 @@ use crate::fault::{MapFault, map_fault};
 use crate::numbering::numbered;
 use crate::properties::{REFUSED, properties_in};
 use agg_model::Mapping;
+use agg_model::limits::MAX_PROPERTY_LEVELS;
 use agg_reading::RequestFault;
 use json_walk::{At, check_names, member, object};
 use serde_json::{Map, Value};
 use std::alloc::Global;
-
-/// So many levels of `properties` may nest.
-const MAX_LEVELS: u32 = 20;
 
 /// Whether `dynamic` is strict: `false`, `"false"` or `"strict"`.
 #[tactic(auto, unfolding(agg_reading::specs::Mapping::dynamic_at))]
@@ -63,7 +61,7 @@ fn found_in(
     ensures { Gives arranged result (found_in (pointer at.now) (members_view members.now.entries)) }
 {
     let found = Collected::new(alloc);
-    properties_in(alloc, MAX_LEVELS, "", "", at, found, members)
+    properties_in(alloc, MAX_PROPERTY_LEVELS, "", "", at, found, members)
 }
 
 /// The mapping that a value is.
@@ -80,8 +78,8 @@ pub(crate) fn mapping(alloc: Global, at: &At<'_>, value: &Value) -> Result<Mappi
 }
 
 /// The mapping that a JSON value is: the members `dynamic` and `properties` of an object, where properties are at most
-/// 1,000 fields and nested paths, at most 20 levels deep. The first thing in the walk that breaks a rule is refused
-/// with its pointer.
+/// `MAX_PATHS` fields and nested paths, at most `MAX_PROPERTY_LEVELS` levels deep. The first thing in the walk that
+/// breaks a rule is refused with its pointer.
 pub fn mapping_of(alloc: Global, value: &Value) -> Result<Mapping, MapFault>
     ensures mapping { IfOk result (λ m. mapping_at [] (view value.now) ≡ Ok m) }
     ensures ordered { IfOk result IsOrdered }

@@ -4,19 +4,24 @@
 
 mod aggregation;
 mod answer;
+pub mod body_refusal;
 mod boxed;
 mod breaker;
 mod bulk;
 mod bytes;
 mod compared;
 mod copying;
+pub mod costs;
+pub mod item_refusal;
 mod key;
+pub mod limits;
 mod list;
 mod mapping;
 mod outcome;
 mod partial;
 mod query;
 mod row;
+pub mod script_refusal;
 mod settings;
 #[cfg(test)]
 mod tests;

@@ -3,9 +3,9 @@ use Rattle.std.specs.Prelude.{ℕ, ◌+◌, List, [], ◌∷◌, ◌++◌, map, 
 use Rattle.std.specs.List.{list_all}
 use Rattle.std.specs.Str.{bytes_eq}
 use Rattle.serde_json.specs.Data.{Data, null, Members, no_members, member}
+use Rattle.agg_model.specs.declared.limits.TheConstants.{MAX_PAGE}
+use Rattle.agg_model.specs.declared.body_refusal.TheConstants.{OUT_OF_RANGE, UNKNOWN_MEMBER, WRONG_TYPE}
 use Rattle.agg_model.specs.declared.mapping.Mapping.{Mapping}
-use Rattle.agg_model.specs.declared.query.Probe.{Probe}
-use Rattle.agg_model.specs.declared.query.Probe.TheVariants as probe
 use Rattle.agg_model.specs.declared.key.Key.{Key}
 use Rattle.agg_model.specs.declared.key.Key.TheVariants as key
 use Rattle.agg_model.specs.declared.aggregation.Kind.{Kind}
@@ -16,15 +16,11 @@ use Rattle.agg_reading.specs.Json.{object_at, required, known, optional, is_amon
 use Rattle.agg_reading.specs.Numbers.{whole_at}
 use Rattle.agg_reading.specs.Leaves.{value_at}
 use Rattle.agg_reading.specs.Composite.{Source, sources_at}
-
-abbrev pub probe_key : Probe → Key
-probe_key (probe.Whole n) = key.Whole n
-probe_key (probe.Word w) = key.Word w
-probe_key (probe.Flag b) = key.Flag b
+use Rattle.agg_model.specs.ValueKeys.{probe_key}
 
 -- the part of a source; null where rows without a value have it
 unfoldable pub part_at : Source → List ℕ → Data → Reading Key
-part_at s at null = if s.0.missing_bucket then Ok key.Null else refuse 104 at
+part_at s at null = if s.0.missing_bucket then Ok key.Null else refuse OUT_OF_RANGE at
 part_at s at d = value_at s.1 at d >>= λ p. Ok (probe_key p)
 
 -- the first source of a name
@@ -56,7 +52,7 @@ After = List (List ℕ × Key) × List (List ℕ)
 
 unfoldable pub after_at : List Source → List ℕ → Data → Reading After
 after_at sources at d = do
-  ms ← object_at 103 at d
+  ms ← object_at WRONG_TYPE at d
   parts ← parts_from sources at [] ms
   Ok (parts, names_of ms)
 
@@ -65,12 +61,12 @@ source_names sources = map (λ s. s.0.name) sources
 
 unfoldable pub after_rule : List ℕ → List Source → Option After → Reading ⊤
 after_rule at sources None = Ok tt
-after_rule at sources (Some after) = if has_names (source_names sources) after.1 then Ok tt else refuse 104 (at ++ member_step (codes "after"))
+after_rule at sources (Some after) = if has_names (source_names sources) after.1 then Ok tt else refuse OUT_OF_RANGE (at ++ member_step (codes "after"))
 
 -- no name stands a second time, from this place on
 unfoldable pub distinct_from : List ℕ → ℕ → List (List ℕ) → List (List ℕ) → Reading ⊤
 distinct_from at n before [] = Ok tt
-distinct_from at n before (name ∷ names) = if is_among before name then refuse 104 (at ++ item_step n) else distinct_from at (n + 1) (before ++ name ∷ []) names
+distinct_from at n before (name ∷ names) = if is_among before name then refuse OUT_OF_RANGE (at ++ item_step n) else distinct_from at (n + 1) (before ++ name ∷ []) names
 
 -- the parts in the order of the sources
 unfoldable pub after_key : List Source → After → Key
@@ -80,15 +76,15 @@ after_key sources after = key.Many (flat_map (λ name. option_to_list (option_ma
 unfoldable pub composite_in : List Source → List ℕ → Members → Reading Kind
 composite_in sources at ms = do
   after ← optional (after_at sources) (codes "after") at ms
-  size ← optional (whole_at 1 65536) (codes "size") at ms
+  size ← optional (whole_at 1 MAX_PAGE) (codes "size") at ms
   after_rule at sources after
   distinct_from (at ++ member_step (codes "sources")) 0 [] (source_names sources)
   Ok (kind.Composite (map (λ s. s.0) sources) (unwrap_or size 10) (option_map (after_key sources) after))
 
 unfoldable pub composite_at : Mapping → List ℕ → Data → Reading Kind
 composite_at m at d = do
-  ms ← object_at 103 at d
-  known 101 (codes "after" ∷ codes "size" ∷ codes "sources" ∷ []) at ms
+  ms ← object_at WRONG_TYPE at d
+  known UNKNOWN_MEMBER (codes "after" ∷ codes "size" ∷ codes "sources" ∷ []) at ms
   said ← required (codes "sources") at ms
   sources ← sources_at m (at ++ member_step (codes "sources")) said
   composite_in sources at ms

@@ -4,6 +4,7 @@ use Rattle.std.specs.List.{list_any}
 use Rattle.std.specs.Str.{bytes_eq}
 use Rattle.serde_json.specs.Data.{Data, Members}
 use Rattle.serde_json.specs.Find.{get_member}
+use Rattle.agg_model.specs.declared.body_refusal.TheConstants.{NOT_ONE_MEMBER}
 use Rattle.agg_model.specs.declared.mapping.Mapping.{Mapping}
 use Rattle.agg_model.specs.declared.aggregation.Kind.{Kind}
 use Rattle.agg_model.specs.declared.aggregation.Kind.TheVariants as kind
@@ -85,7 +86,7 @@ abbrev pub has_both : Members → Bool
 has_both ms = is_some (get_member (codes "aggregations") ms) && is_some (get_member (codes "aggs") ms)
 
 unfoldable pub kind_member : List ℕ → Members → Reading (List ℕ × Data)
-kind_member at ms = if has_both ms then refuse 107 at else or_refuse 107 at (sole_besides (codes "aggregations" ∷ codes "aggs" ∷ []) None ms)
+kind_member at ms = if has_both ms then refuse NOT_ONE_MEMBER at else or_refuse NOT_ONE_MEMBER at (sole_besides (codes "aggregations" ∷ codes "aggs" ∷ []) None ms)
 
 abbrev pub children_name : Members → List ℕ
 children_name ms = if is_some (get_member (codes "aggs") ms) then codes "aggs" else codes "aggregations"

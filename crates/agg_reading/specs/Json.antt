@@ -6,6 +6,7 @@ use Rattle.std.specs.Str.{bytes_eq, is_utf8}
 use Rattle.serde_json.specs.Data.{Data, Items, Members, no_members, member}
 use Rattle.serde_json.specs.Find.{as_object, as_array, as_str, get_member}
 use Rattle.serde_json.specs.Read.{read}
+use Rattle.agg_model.specs.declared.body_refusal.TheConstants.{MISSING_MEMBER}
 use Rattle.agg_reading.specs.declared.fault.RequestFault.TheVariants.{NotJson}
 use Rattle.agg_reading.specs.Reading.{Reading, ◌>>=◌, refuse, or_refuse}
 use Rattle.agg_reading.specs.Pointer.{member_step}
@@ -32,9 +33,9 @@ list_at code at d = or_refuse code at (as_array d)
 unfoldable pub text_at : ℕ → List ℕ → Data → Reading (List ℕ)
 text_at code at d = or_refuse code at (as_str d)
 
--- a member that has to be there: 102
+-- a member that has to be there
 unfoldable pub required : List ℕ → List ℕ → Members → Reading Data
-required name at ms = or_refuse 102 at (get_member name ms)
+required name at ms = or_refuse MISSING_MEMBER at (get_member name ms)
 
 -- a member that may be absent, read by f from where it stands
 abbrev pub optional_of : {A : Type 0} → (List ℕ → Data → Reading A) → List ℕ → Option Data → Reading (Option A)

@@ -2,6 +2,8 @@
 use Rattle.std.specs.Prelude.{ℕ, zero, suc, ◌+◌, List, [], ◌∷◌, ◌++◌, length, Option, Some, None, Ok, Bool, true, false, ◌&&◌, not, nat_le, if◌then◌else◌, ⊤, codes}
 use Rattle.serde_json.specs.Data.{Data, Members, no_members, member}
 use Rattle.serde_json.specs.Find.{get_member}
+use Rattle.agg_model.specs.declared.limits.TheConstants.{MAX_AGGREGATIONS, MAX_AGGREGATION_LEVELS}
+use Rattle.agg_model.specs.declared.body_refusal.TheConstants.{BODY_NOT_OBJECT, INVALID_NAME, LIMIT_EXCEEDED, MISPLACED_AGGREGATION, NOT_ONE_MEMBER, UNKNOWN_KIND, UNKNOWN_MEMBER, WRONG_TYPE}
 use Rattle.agg_model.specs.declared.mapping.Mapping.{Mapping}
 use Rattle.agg_model.specs.declared.query.Query.{Query, All}
 use Rattle.agg_model.specs.declared.aggregation.Agg.{Agg, roll-Agg}
@@ -28,10 +30,10 @@ module _ (read : ℕ → List ℕ → List ℕ → Counts → Data → Reading (
       if is_aggregation_name k then (do
         a ← read context k (at ++ member_step k) counts d
         aggregations_from context at (done ++ a.0 ∷ []) a.1 ms)
-      else refuse 112 (at ++ member_step k)
+      else refuse INVALID_NAME (at ++ member_step k)
 
   unfoldable pub aggregations_at : ℕ → List ℕ → Counts → Data → Reading Aggregated
-  aggregations_at context at counts d = object_at 103 at d >>= aggregations_from context at [] counts
+  aggregations_at context at counts d = object_at WRONG_TYPE at d >>= aggregations_from context at [] counts
 
   abbrev pub children_of : ℕ → List ℕ → Counts → Option Data → Reading Aggregated
   children_of context at counts None = Ok ([], counts)
@@ -48,8 +50,8 @@ is_childless (a ∷ rest) = false
 -- Metrics have no children; `global` and `composite` stand only at the top.
 unfoldable pub placed : Bool → KindName → List ℕ → Members → List Agg → Reading ⊤
 placed top kind at ms children =
-    if is_metric kind && not (is_childless children) then refuse 110 (at ++ member_step (children_name ms))
-    else (if is_top_kind kind && not top then refuse 110 at else Ok tt)
+    if is_metric kind && not (is_childless children) then refuse MISPLACED_AGGREGATION (at ++ member_step (children_name ms))
+    else (if is_top_kind kind && not top then refuse MISPLACED_AGGREGATION at else Ok tt)
 
 -- an aggregation, after its kind and its children were read
 unfoldable pub assembled : Bool → KindName → List ℕ → List ℕ → Members → ReadKind → Aggregated → Reading (Agg × Counts)
@@ -65,21 +67,18 @@ counts_after found counts = record { queries = found.queries; aggregations = cou
 module _ (read : ℕ → List ℕ → List ℕ → Counts → Data → Reading (Agg × Counts)) where
   unfoldable pub aggregation_of : Mapping → Bool → ℕ → List ℕ → List ℕ → Counts → Data → Reading (Agg × Counts)
   aggregation_of m top context name at counts d = do
-    ms ← object_at 103 at d
+    ms ← object_at WRONG_TYPE at d
     said ← kind_member at ms
-    kind ← or_refuse 106 (at ++ member_step said.0) (kind_name said.0)
+    kind ← or_refuse UNKNOWN_KIND (at ++ member_step said.0) (kind_name said.0)
     found ← kind_at kind m context counts.queries (at ++ member_step said.0) said.1
     children ← children_in read found.within at (counts_after found counts) ms
     assembled top kind name at ms found children
 
-abbrev pub max_aggregations : ℕ
-max_aggregations = 256
-
 -- left : how many levels may still nest; counts : what was begun before
 unfoldable pub aggregation_at : ℕ → Mapping → Bool → ℕ → List ℕ → List ℕ → Counts → Data → Reading (Agg × Counts)
-aggregation_at zero m top context name at counts d = refuse 111 at
+aggregation_at zero m top context name at counts d = refuse LIMIT_EXCEEDED at
 aggregation_at (suc left) m top context name at counts d =
-    if nat_le max_aggregations counts.aggregations then refuse 111 at
+    if nat_le MAX_AGGREGATIONS counts.aggregations then refuse LIMIT_EXCEEDED at
     else aggregation_of (aggregation_at left m false) m top context name at counts d
 
 -- the members of a body; those beside aggregations and query have no effect
@@ -96,18 +95,18 @@ query_or_all m count (Some d) = top_query_at m 0 count (member_step (codes "quer
 abbrev pub no_counts : Counts
 no_counts = record { queries = 0; aggregations = 0 }
 
--- aggregations nest at most 16 deep
+-- aggregations nest at most MAX_AGGREGATION_LEVELS deep
 unfoldable pub search_in : Mapping → ℕ → Members → Reading Search
 search_in m bytes ms = do
-  aggs ← children_in (aggregation_at 16 m true) 0 [] no_counts ms
+  aggs ← children_in (aggregation_at MAX_AGGREGATION_LEVELS m true) 0 [] no_counts ms
   query ← query_or_all m aggs.1.queries (get_member (codes "query") ms)
   Ok (record { query = query; aggs = aggs.0; body_bytes = bytes })
 
 unfoldable pub search_value_at : Mapping → ℕ → Data → Reading Search
 search_value_at m bytes d = do
-  ms ← object_at 100 [] d
-  if has_both ms then refuse 107 [] else (do
-    known 101 body_members [] ms
+  ms ← object_at BODY_NOT_OBJECT [] d
+  if has_both ms then refuse NOT_ONE_MEMBER [] else (do
+    known UNKNOWN_MEMBER body_members [] ms
     search_in m bytes ms)
 
 -- a search in the bytes of a body, or NotJson, or the first refusal

@@ -8,16 +8,15 @@ ghost use Rattle.document_rows.specs.Faults.{Gives};
 
 use crate::fault::ItemFault;
 use crate::refusal::refuse;
+use agg_model::item_refusal::{KEYWORD_TOO_LONG, NUMBER_OUT_OF_RANGE, WRONG_FIELD_TYPE};
+use agg_model::limits::MAX_KEYWORD;
 use agg_model::{FieldKind, Scalar};
 use json_walk::{fits_kind, flag, is_longer, whole, word};
 use serde_json::Value;
 use std::alloc::Global;
 
-/// The bytes that a keyword may have.
-const MAX_KEYWORD: usize = 32_766;
-
-/// The value of a whole-number field: 21 where the value is no whole number or decimal text, 22 where it lies outside
-/// the range of the kind.
+/// The value of a whole-number field: `WRONG_FIELD_TYPE` where the value is no whole number or decimal text,
+/// `NUMBER_OUT_OF_RANGE` where it lies outside the range of the kind.
 fn number(
     alloc: Global,
     kind: FieldKind,
@@ -27,10 +26,10 @@ fn number(
     ensures { Gives (λ x. x) result (number_value kind path.now (whole (view value.now))) }
 {
     let Some(number) = whole(value) else {
-        return refuse(alloc, 21, path);
+        return refuse(alloc, WRONG_FIELD_TYPE, path);
     };
     if !fits_kind(kind, number) {
-        return refuse(alloc, 22, path);
+        return refuse(alloc, NUMBER_OUT_OF_RANGE, path);
     }
     Ok(Some(Scalar::Whole(number as i64)))
 }
@@ -45,8 +44,8 @@ fn is_ignored(above: Option<u32>, word: &str) -> bool
     }
 }
 
-/// The value of a keyword field: none where it is longer than `ignore_above`; 21 where the value is no text, whole
-/// number or boolean, 23 where it has too many bytes.
+/// The value of a keyword field: none where it is longer than `ignore_above`; `WRONG_FIELD_TYPE` where the value is no
+/// text, whole number or boolean, `KEYWORD_TOO_LONG` where it has too many bytes.
 fn keyword(
     alloc: Global,
     above: Option<u32>,
@@ -56,13 +55,13 @@ fn keyword(
     ensures { Gives (λ x. x) result (word_value above path.now (word (view value.now))) }
 {
     let Some(word) = word(alloc, value)? else {
-        return refuse(alloc, 21, path);
+        return refuse(alloc, WRONG_FIELD_TYPE, path);
     };
     if is_ignored(above, word.as_str()) {
         return Ok(None);
     }
     if word.len() > MAX_KEYWORD {
-        return refuse(alloc, 23, path);
+        return refuse(alloc, KEYWORD_TOO_LONG, path);
     }
     Ok(Some(Scalar::Word(word)))
 }
@@ -78,7 +77,8 @@ fn document_flag(value: &Value) -> Option<bool>
 }
 
 /// The value of a field of this kind; none where `ignore_above` leaves it out. Refused are a value of the wrong type
-/// with 21, a number out of range with 22, and a keyword above 32,766 bytes with 23.
+/// with `WRONG_FIELD_TYPE`, a number out of range with `NUMBER_OUT_OF_RANGE`, and a keyword above `MAX_KEYWORD` bytes
+/// with `KEYWORD_TOO_LONG`.
 #[tactic(auto, unfolding(agg_reading::specs::Document::scalar_at))]
 pub fn scalar(
     alloc: Global,
@@ -93,7 +93,7 @@ pub fn scalar(
         FieldKind::Keyword => keyword(alloc, above, path, value),
         FieldKind::Boolean => match document_flag(value) {
             Some(flag) => Ok(Some(Scalar::Flag(flag))),
-            None => refuse(alloc, 21, path),
+            None => refuse(alloc, WRONG_FIELD_TYPE, path),
         },
         FieldKind::Long | FieldKind::Integer | FieldKind::Short | FieldKind::Byte => {
             number(alloc, kind, path, value)

@@ -17,8 +17,8 @@ use Rattle.agg_evaluation.specs.Matching.{matched_roots, matches}
 use Rattle.agg_evaluation.specs.Rows.{PlacedRow, roots}
 use Rattle.agg_evaluation.specs.Shard.{count_of_values, int_sum, integer_of, metric_of}
 use Rattle.agg_evaluation.specs.Whole.{metric_sum}
-use Rattle.agg_evaluation.proofs.ListLaws.{filter_map-append, flat_map-append, map-append}
 use Rattle.agg_evaluation.proofs.MetricLaws.{int_sum-append, join, max_assoc, min_assoc, reduce-append}
+use Rattle.list_laws.proofs.Lists.{filter_map-append, flat_map-append, map-append}
 
 -- two counts, summed up
 two-counts : (a b : Metric) → sum_by (λ m. m.count) (a ∷ b ∷ []) ≡ a.count + b.count

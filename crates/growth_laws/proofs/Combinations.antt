@@ -13,15 +13,18 @@ use Rattle.agg_model.specs.declared.key.Key.{Key, out-Key, out-roll-Key}
 use Rattle.agg_model.specs.declared.key.Key.TheOpen.{Key-F}
 use Rattle.agg_model.specs.declared.key.Key.TheVariants.{Many, Null}
 use Rattle.agg_evaluation.specs.Ceiling.{combination_count}
-use Rattle.agg_evaluation.specs.KeyOrder.{key_cmp, key_cmp_at, scalar_key}
+use Rattle.agg_evaluation.specs.KeyOrder.{key_cmp, key_cmp_at}
+use Rattle.agg_model.specs.ValueKeys.{scalar_key}
 use Rattle.agg_evaluation.specs.Keys.{combinations, composite_keys, distinct_keys, histogram_keys, interval_key, is_between, is_included, no_bounds, or_null, source_keys, term_keys, values_or}
 use Rattle.agg_evaluation.specs.Rows.{PlacedRow}
 use Rattle.agg_evaluation.specs.Trees.{is_ascending}
 use Rattle.agg_evaluation.proofs.Computing.{computing}
 use Rattle.agg_evaluation.proofs.FoldLaws.{fold_key-Many}
 use Rattle.agg_evaluation.proofs.KeyCompare.{key_cmp_total}
-use Rattle.agg_evaluation.proofs.KeyLists.{and_left, and_right, both, less_is, is_below, ascending-distinct_keys, ascending-filter, distinct_keys-ascending}
-use Rattle.agg_evaluation.proofs.ListLaws.{map-append, map-map}
+use Rattle.agg_evaluation.proofs.KeyLists.{is_below, ascending-distinct_keys, ascending-filter, distinct_keys-ascending}
+use Rattle.list_laws.proofs.Booleans.{and_left, and_right, both}
+use Rattle.list_laws.proofs.Orders.{less_is}
+use Rattle.list_laws.proofs.Lists.{map-append, map-map}
 use Rattle.bucket_order.specs.Composites.{has_parts, is_composite_of}
 use Rattle.evaluation_laws.proofs.KeyBounds.{Each, each-flat_map, each-map, each-all, each-then}
 

@@ -16,7 +16,7 @@ use Rattle.agg_evaluation.specs.KeyOrder.{directed, key_cmp}
 use Rattle.agg_evaluation.specs.Keys.{distinct_keys}
 use Rattle.agg_evaluation.specs.Orders.{composite_cmp}
 use Rattle.agg_evaluation.specs.Shard.{page}
-use Rattle.agg_evaluation.specs.Sorting.{ascending, sorted}
+use Rattle.list_laws.specs.Sorting.{ascending, sorted}
 use Rattle.agg_evaluation.proofs.Computing.{computing}
 use Rattle.agg_evaluation.proofs.KeyCompare.{key_cmp_total}
 use Rattle.agg_evaluation.proofs.KeyExact.{exact_keys}

@@ -4,8 +4,8 @@ use Rattle.std.specs.List.{list_all, list_any, starts_with}
 use Rattle.std.proofs.Common.{sym, ◌∙◌, ap, subst, arith, inl, inr, ⊎_elim}
 use Rattle.std.proofs.lemmas.Bool.{cases_Bool}
 use Rattle.agg_evaluation.specs.Rows.{PlacedRow, beneath, enclosing, is_within}
-use Rattle.agg_evaluation.proofs.ListLaws.{filter-append}
-use Rattle.agg_evaluation.proofs.KeyLists.{and_left, and_right, both, holds, true_is}
+use Rattle.list_laws.proofs.Lists.{filter-append}
+use Rattle.list_laws.proofs.Booleans.{and_left, and_right, both, holds, true_is}
 use Rattle.growth_laws.specs.Apart.{EncloseNone}
 use Rattle.growth_laws.specs.Documents.{IsCutAt, lie_before, lie_behind, lies_before, lies_behind, starts_below, starts_from}
 use Rattle.growth_laws.proofs.Enclosing.{enclosing-append}

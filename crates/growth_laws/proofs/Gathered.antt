@@ -25,10 +25,11 @@ use Rattle.agg_evaluation.specs.Trace.{is_global}
 use Rattle.agg_evaluation.specs.Trees.{is_ascending}
 use Rattle.agg_evaluation.specs.Whole.{empty_by, empty_node, shape_of}
 use Rattle.agg_evaluation.proofs.BeginLaws.{collected-begins}
-use Rattle.agg_evaluation.proofs.KeyLists.{and_left, and_right, ascending-distinct_keys, has_key-distinct_keys, same_keys}
-use Rattle.agg_evaluation.proofs.ListLaws.{append-nil, flat_map-append}
+use Rattle.agg_evaluation.proofs.KeyLists.{ascending-distinct_keys, has_key-distinct_keys, same_keys}
 use Rattle.agg_evaluation.proofs.NodeForms.{out-Fixed, out-Keyed, out-Number}
 use Rattle.agg_evaluation.proofs.UnionLaws.{ascending-fixed_keys, has_key-append}
+use Rattle.list_laws.proofs.Booleans.{and_left, and_right}
+use Rattle.list_laws.proofs.Lists.{append-nil, flat_map-append}
 use Rattle.growth_laws.specs.Documents.{IsCutAt, lie_before, lie_behind, lies_before, lies_behind}
 use Rattle.growth_laws.specs.Gathering.{Gatherer, counted, gathered, gathered_buckets, gathered_metric, gathered_node, gatherer_at, gatherer_of, kept_buckets}
 use Rattle.growth_laws.specs.Growth.{metric_with, with_count, with_values}

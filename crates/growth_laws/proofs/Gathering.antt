@@ -12,12 +12,13 @@ use Rattle.agg_evaluation.specs.KeyOrder.{has_key, key_cmp, key_eq}
 use Rattle.agg_evaluation.specs.Keys.{keys}
 use Rattle.agg_evaluation.specs.Rows.{PlacedRow}
 use Rattle.agg_evaluation.specs.Shard.{Collector}
-use Rattle.agg_evaluation.specs.Sorting.{insert_once}
 use Rattle.agg_evaluation.specs.Trees.{is_ascending}
 use Rattle.agg_evaluation.proofs.KeyExact.{exact_keys}
-use Rattle.agg_evaluation.proofs.KeyLists.{and_left, and_right, ascending-distinct_keys, ascending-insert_once, below-absent, below-trans, both, has_key-distinct_keys, has_key-insert_once, holds, is_below, key_eq-exact, key_eq-self, same_keys}
-use Rattle.agg_evaluation.proofs.ListLaws.{append-nil, filter-append, flat_map-append}
+use Rattle.agg_evaluation.proofs.KeyLists.{ascending-distinct_keys, ascending-insert_once, below-absent, below-trans, has_key-distinct_keys, has_key-insert_once, is_below, key_eq-exact, key_eq-self, same_keys}
 use Rattle.agg_evaluation.proofs.UnionLaws.{has_key-append}
+use Rattle.list_laws.specs.Sorting.{insert_once}
+use Rattle.list_laws.proofs.Booleans.{and_left, and_right, both, holds}
+use Rattle.list_laws.proofs.Lists.{append-nil, filter-append, flat_map-append}
 use Rattle.growth_laws.specs.Gathering.{Gatherer, empty_bucket, gathered_bucket, gathered_children, kept_buckets, put_groups, put_rows}
 use Rattle.growth_laws.proofs.InsertedKeys.{ascending-insert_all, eq-swap, has_key-insert_all, insert_all, no_group}
 

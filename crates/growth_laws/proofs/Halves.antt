@@ -8,7 +8,7 @@ use Rattle.agg_evaluation.specs.Cost.{cost}
 use Rattle.agg_evaluation.specs.Placement.{has_globals_at_top}
 use Rattle.agg_evaluation.specs.Rows.{PlacedRow}
 use Rattle.agg_evaluation.specs.Trace.{built, task_overhead}
-use Rattle.agg_evaluation.proofs.WholeLaws.{none_some, some_same}
+use Rattle.list_laws.proofs.Options.{none_some, some_same}
 use Rattle.evaluation_laws.proofs.TaskLaws.{built-bounded}
 
 -- a ceiling that is there is the bound of its task

@@ -11,11 +11,11 @@ use Rattle.agg_evaluation.specs.Groups.{group}
 use Rattle.agg_evaluation.specs.KeyOrder.{has_key, key_cmp, key_eq}
 use Rattle.agg_evaluation.specs.Keys.{keys}
 use Rattle.agg_evaluation.specs.Rows.{PlacedRow}
-use Rattle.agg_evaluation.specs.Sorting.{insert_once}
 use Rattle.agg_evaluation.specs.Trees.{is_ascending}
 use Rattle.agg_evaluation.proofs.KeyCompare.{key_cmp_total}
 use Rattle.agg_evaluation.proofs.KeyLists.{ascending-insert_once, has_key-insert_once}
 use Rattle.agg_evaluation.proofs.UnionLaws.{has_key-append}
+use Rattle.list_laws.specs.Sorting.{insert_once}
 
 -- either of two keys may come first
 pub eq-swap : (j k : Key) → key_eq j k ≡ key_eq k j

@@ -8,10 +8,10 @@ use Rattle.agg_model.specs.declared.row.Scalar.{Scalar}
 use Rattle.agg_model.specs.declared.row.Scalar.TheVariants.{Whole, Word, Flag}
 use Rattle.agg_evaluation.specs.Ceiling.{field_bytes, greatest_of, least_bytes}
 use Rattle.agg_evaluation.specs.Cost.{key_bytes}
-use Rattle.agg_evaluation.specs.KeyOrder.{scalar_key}
+use Rattle.agg_model.specs.ValueKeys.{scalar_key}
 use Rattle.agg_evaluation.specs.Rows.{PlacedRow, values_of}
-use Rattle.agg_evaluation.proofs.KeyLists.{and_left, and_right}
-use Rattle.agg_evaluation.proofs.ListLaws.{map-append, map-map}
+use Rattle.list_laws.proofs.Booleans.{and_left, and_right}
+use Rattle.list_laws.proofs.Lists.{map-append, map-map}
 use Rattle.growth_laws.specs.FieldBytes.{is_number_or_flag}
 
 -- the greatest is the greater of the first and the rest

@@ -5,7 +5,7 @@ use Rattle.std.specs.declared.cmp.Ordering.TheVariants.{Less, Equal, Greater}
 use Rattle.std.specs.Ordering.{is_le, match_ordering, ordering_reverse}
 use Rattle.std.specs.Cmp.{IsTotalOrder}
 use Rattle.std.proofs.Common.{sym, ◌∙◌, ap, subst, inl, inr, ⊎_elim}
-use Rattle.agg_evaluation.specs.Sorting.{ascending, insert_once, insert_sorted, sorted}
+use Rattle.list_laws.specs.Sorting.{ascending, insert_once, insert_sorted, sorted}
 use Rattle.growth_laws.proofs.Pages.{Has, Ascends, not_both, first-of-more}
 
 -- the first items, and the first of these

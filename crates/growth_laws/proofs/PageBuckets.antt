@@ -12,12 +12,13 @@ use Rattle.agg_evaluation.specs.KeyOrder.{has_key, key_cmp, key_eq}
 use Rattle.agg_evaluation.specs.Orders.{bucket_key}
 use Rattle.agg_evaluation.specs.Rows.{PlacedRow}
 use Rattle.agg_evaluation.specs.Shard.{Collector, page}
-use Rattle.agg_evaluation.specs.Sorting.{insert_once}
 use Rattle.agg_evaluation.specs.Trees.{is_ascending}
 use Rattle.agg_evaluation.proofs.KeyCompare.{key_cmp_total}
 use Rattle.agg_evaluation.proofs.KeyExact.{exact_keys}
-use Rattle.agg_evaluation.proofs.KeyLists.{and_left, and_right, ascending-filter, has_key-insert_once, key_eq-self, same_keys}
-use Rattle.agg_evaluation.proofs.ListLaws.{filter-map}
+use Rattle.agg_evaluation.proofs.KeyLists.{ascending-filter, has_key-insert_once, key_eq-self, same_keys}
+use Rattle.list_laws.specs.Sorting.{insert_once}
+use Rattle.list_laws.proofs.Booleans.{and_left, and_right}
+use Rattle.list_laws.proofs.Lists.{filter-map}
 use Rattle.bucket_order.specs.Composites.{is_composite_of}
 use Rattle.growth_laws.specs.Gathering.{Gatherer, kept_buckets, put_groups, put_rows}
 use Rattle.growth_laws.proofs.Gathering.{Gathers, bucket_at, group-more, keys-more, later-first, later-none, one_by_one, put-rows, with_all, with_one}

@@ -14,12 +14,13 @@ use Rattle.agg_evaluation.specs.KeyOrder.{has_key, key_cmp, key_eq}
 use Rattle.agg_evaluation.specs.Keys.{distinct_keys, keys}
 use Rattle.agg_evaluation.specs.Rows.{PlacedRow}
 use Rattle.agg_evaluation.specs.Shard.{page}
-use Rattle.agg_evaluation.specs.Sorting.{insert_once, sorted}
+use Rattle.list_laws.specs.Sorting.{insert_once, sorted}
 use Rattle.agg_evaluation.specs.Trees.{is_ascending}
 use Rattle.agg_evaluation.proofs.KeyCompare.{key_cmp_total}
 use Rattle.agg_evaluation.proofs.KeyExact.{exact_keys}
-use Rattle.agg_evaluation.proofs.KeyLists.{and_left, and_right, both, holds, true_is, key_eq-exact, key_eq-self, below-absent, ascending-distinct_keys, ascending-insert_once, has_key-distinct_keys, same_keys}
-use Rattle.agg_evaluation.proofs.ListLaws.{flat_map-append}
+use Rattle.agg_evaluation.proofs.KeyLists.{key_eq-exact, key_eq-self, below-absent, ascending-distinct_keys, ascending-insert_once, has_key-distinct_keys, same_keys}
+use Rattle.list_laws.proofs.Booleans.{and_left, and_right, both, holds, true_is}
+use Rattle.list_laws.proofs.Lists.{flat_map-append}
 use Rattle.agg_evaluation.proofs.UnionLaws.{has_key-append}
 use Rattle.bucket_order.specs.Composites.{is_composite_of}
 use Rattle.growth_laws.proofs.Combinations.{composite-parts}

@@ -11,7 +11,7 @@ use Rattle.agg_evaluation.specs.Cost.{cost}
 use Rattle.agg_evaluation.specs.Rows.{PlacedRow}
 use Rattle.agg_evaluation.specs.Shard.{int_sum}
 use Rattle.agg_evaluation.specs.Trace.{built, gross, peak, sum_before, task_overhead, trace}
-use Rattle.agg_evaluation.proofs.WholeLaws.{none_some, some_same}
+use Rattle.list_laws.proofs.Options.{none_some, some_same}
 use Rattle.growth_laws.specs.Amounts.{amounts, charged, granted_before, place_without_zeros, row_count, without_zeros}
 use Rattle.growth_laws.specs.Refused.{IsRefusedAt, StaysWithin, held_with}
 use Rattle.growth_laws.proofs.Sums.{amounts-lead, charged-without_zeros, gross-charged, sum-peak, sum-without_zeros}

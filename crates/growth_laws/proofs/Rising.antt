@@ -5,9 +5,9 @@ use Rattle.std.proofs.Common.{sym, ◌∙◌, ap, subst, arith}
 use Rattle.agg_model.specs.declared.row.Row.{Row, Row'}
 use Rattle.agg_evaluation.specs.Folds.{fold_all_children}
 use Rattle.agg_evaluation.specs.Rows.{PlacedRow, roots, rows_of, shard_rows, walk_children, walk_row}
-use Rattle.agg_evaluation.proofs.KeyLists.{and_left, and_right, both}
-use Rattle.agg_evaluation.proofs.ListLaws.{filter-append}
-use Rattle.agg_evaluation.proofs.WholeLaws.{none_some, some_same}
+use Rattle.list_laws.proofs.Booleans.{and_left, and_right, both}
+use Rattle.list_laws.proofs.Lists.{filter-append}
+use Rattle.list_laws.proofs.Options.{none_some, some_same}
 use Rattle.growth_laws.specs.Documents.{lie_before, lie_behind, lies_before, lies_behind, starts_below, starts_from}
 use Rattle.growth_laws.proofs.DocumentRows.{all-filter}
 use Rattle.growth_laws.proofs.ShardRows.{all-children-at, at_most_holds, behind-from, document_rows, less_holds}

@@ -15,8 +15,8 @@ use Rattle.agg_evaluation.specs.Rows.{PlacedRow, roots, shard_rows}
 use Rattle.agg_evaluation.specs.Shard.{collected_node}
 use Rattle.agg_evaluation.specs.Trace.{global_roots, is_global, matched}
 use Rattle.agg_evaluation.proofs.Computing.{computing}
-use Rattle.agg_evaluation.proofs.KeyLists.{and_right, both, holds}
-use Rattle.agg_evaluation.proofs.WholeLaws.{none_some, some_same}
+use Rattle.list_laws.proofs.Booleans.{and_right, both, holds}
+use Rattle.list_laws.proofs.Options.{none_some, some_same}
 use Rattle.growth_laws.specs.Gathering.{counted, gathered}
 use Rattle.growth_laws.specs.Steps.{tree_after, with_matched, with_root}
 use Rattle.growth_laws.proofs.Built.{collector-same}

@@ -8,7 +8,7 @@ use Rattle.agg_model.specs.declared.row.FieldValues.{FieldValues}
 use Rattle.agg_model.specs.declared.row.Row.{Row, Row', Row_of-Children, end_of-Children, more_of-Children}
 use Rattle.agg_evaluation.specs.Folds.{fold_all_children, fold_children, fold_rows}
 use Rattle.agg_evaluation.specs.Rows.{PlacedRow, rows_of, shard_rows, walk_children, walk_row}
-use Rattle.agg_evaluation.proofs.KeyLists.{both, holds}
+use Rattle.list_laws.proofs.Booleans.{both, holds}
 use Rattle.growth_laws.specs.Documents.{IsCutAt, lie_before, lie_behind, lies_before, lies_behind}
 use Rattle.growth_laws.proofs.DocumentRows.{all-append}
 

@@ -6,10 +6,12 @@ ghost use Rattle.serde_json.specs.View.{view, members_view};
 ghost use Rattle.json_walk.specs.Places.{pointer};
 ghost use Rattle.agg_reading.specs.Reading.{Gives};
 ghost use Rattle.agg_reading.specs.Json.{optional, is_among};
-ghost use Rattle.agg_reading.specs.After.{probe_key, part_at, source_of, parts_from, names_of, has_names, after_at, source_names, after_rule, after_key};
+ghost use Rattle.agg_reading.specs.After.{part_at, source_of, parts_from, names_of, has_names, after_at, source_names, after_rule, after_key};
+ghost use Rattle.agg_model.specs.ValueKeys.{probe_key};
 ghost use Rattle.request_kinds.specs.Pages.{after_view, part_named};
 
 use crate::sources::Source;
+use agg_model::body_refusal::{OUT_OF_RANGE, WRONG_TYPE};
 use agg_model::{Copying, Key, List, Probe, Text};
 use agg_query::probe;
 use agg_reading::RequestFault;
@@ -37,7 +39,7 @@ fn probe_key(probe: Probe) -> Key
     }
 }
 
-/// The part of a source. `null` is one where rows without a value have it, and else refused with 104.
+/// The part of a source. `null` is one where rows without a value have it, and else refused with `OUT_OF_RANGE`.
 #[tactic(auto, unfolding(agg_reading::specs::After::part_at))]
 fn part(alloc: Global, source: &Source, at: &At<'_>, value: &Value) -> Result<Key, RequestFault>
     ensures { Gives (λ k. k) result (part_at source.now (pointer at.now) (view value.now)) }
@@ -47,7 +49,7 @@ fn part(alloc: Global, source: &Source, at: &At<'_>, value: &Value) -> Result<Ke
             if source.0.missing_bucket {
                 Ok(Key::Null)
             } else {
-                at.refuse(alloc, 104)
+                at.refuse(alloc, OUT_OF_RANGE)
             }
         }
         _ => Ok(probe_key(probe(alloc, source.1, at, value)?)),
@@ -92,7 +94,7 @@ fn after_of<'v>(
 ) -> Result<After<'v>, RequestFault>
     ensures { Gives after_view result (after_at sources.now (pointer at.now) (view value.now)) }
 {
-    let members = object(alloc, 103, at, value)?;
+    let members = object(alloc, WRONG_TYPE, at, value)?;
     let parts = parts(alloc, sources, at, members)?;
     Ok(After { parts, members })
 }
@@ -158,7 +160,7 @@ fn has_only_sources(sources: &[Source], members: &Map<String, Value>) -> bool
     true
 }
 
-/// Refuses, with 104 at the member `after`, names other than exactly those of the sources.
+/// Refuses, with `OUT_OF_RANGE` at the member `after`, names other than exactly those of the sources.
 #[tactic(auto, unfolding(agg_reading::specs::After::after_rule, agg_reading::specs::After::has_names))]
 pub fn check_after(
     alloc: Global,
@@ -174,7 +176,7 @@ pub fn check_after(
     if has_all_sources(sources, after.members) && has_only_sources(sources, after.members) {
         Ok(())
     } else {
-        At::Member(at, "after").refuse(alloc, 104)
+        At::Member(at, "after").refuse(alloc, OUT_OF_RANGE)
     }
 }
 

@@ -11,23 +11,23 @@ ghost use Rattle.request_kinds.specs.Pages.{after_view};
 use crate::after::{After, after_in, after_key, check_after, is_source_name};
 use crate::numbers::small_in;
 use crate::sources::{Source, sources};
+use agg_model::body_refusal::{OUT_OF_RANGE, UNKNOWN_MEMBER, WRONG_TYPE};
+use agg_model::limits::MAX_PAGE;
 use agg_model::{CompositeSource, Key, Kind, List, Mapping};
 use agg_reading::RequestFault;
 use json_walk::{At, check_names, object, required};
 use serde_json::{Map, Value};
 use std::alloc::{AllocError, Global};
 
-/// At most so many buckets on a page.
-const MAX_PAGE: u32 = 65_536;
-
-/// Refuses, with 104 at its place, a source that has the name of one before it. There are at most 16 sources.
+/// Refuses, with `OUT_OF_RANGE` at its place, a source that has the name of one before it. There are at most
+/// `MAX_SOURCES` sources.
 #[tactic(auto, unfolding(agg_reading::specs::After::distinct_from))]
 fn check_distinct(alloc: Global, at: &At<'_>, sources: &[Source]) -> Result<(), RequestFault>
     ensures { Gives (λ u. u) result (distinct_from (pointer at.now) 0 [] (source_names sources.now)) }
 {
     for (place, source) in sources.iter().enumerate() {
         if is_source_name(&sources[..place], source.0.name.as_str()) {
-            return At::Item(at, place).refuse(alloc, 104);
+            return At::Item(at, place).refuse(alloc, OUT_OF_RANGE);
         }
     }
     Ok(())
@@ -91,8 +91,14 @@ pub fn composite(
     requires { IsOrdered mapping.now }
     ensures { Gives (λ k. k) result (composite_at mapping.now (pointer at.now) (view value.now)) }
 {
-    let members = object(alloc, 103, at, value)?;
-    check_names(alloc, 101, at, members, &["after", "size", "sources"])?;
+    let members = object(alloc, WRONG_TYPE, at, value)?;
+    check_names(
+        alloc,
+        UNKNOWN_MEMBER,
+        at,
+        members,
+        &["after", "size", "sources"],
+    )?;
     let said = required(alloc, at, members, "sources")?;
     let sources = sources(alloc, mapping, &At::Member(at, "sources"), said)?;
     composite_over(alloc, sources, at, members)

@@ -11,6 +11,7 @@ ghost use Rattle.agg_reading.specs.Metrics.{enclosing_at};
 ghost use Rattle.agg_mapping.specs.Paths.{IsOrdered};
 
 use agg_mapping::is_beneath;
+use agg_model::body_refusal::{NO_SUCH_FIELD, NO_SUCH_PATH};
 use agg_model::{Field, FieldKind, Mapping};
 use agg_query::{field_in, nested};
 use agg_reading::RequestFault;
@@ -29,7 +30,7 @@ fn is_whole_kind(kind: FieldKind) -> bool
 }
 
 /// The field of whole numbers that the member `field` names, and its place. Refused as any field is, and the member with
-/// 108 where the field has no whole numbers.
+/// `NO_SUCH_FIELD` where the field has no whole numbers.
 #[tactic(auto, unfolding(agg_reading::specs::Histogram::whole_field_in))]
 pub fn whole_field_in<'m>(
     alloc: Global,
@@ -42,7 +43,7 @@ pub fn whole_field_in<'m>(
 {
     let (place, field) = field_in(alloc, mapping, at, members)?;
     if !is_whole_kind(field.kind) {
-        return At::Member(at, "field").refuse(alloc, 108);
+        return At::Member(at, "field").refuse(alloc, NO_SUCH_FIELD);
     }
     Ok((place, field))
 }
@@ -61,7 +62,8 @@ fn encloses(mapping: &Mapping, path: &str, context: u32) -> bool
     }
 }
 
-/// The context of a nested path that strictly encloses this context; any other path is refused with 109 at `at`.
+/// The context of a nested path that strictly encloses this context; any other path is refused with `NO_SUCH_PATH` at
+/// `at`.
 #[tactic(auto, unfolding(agg_reading::specs::Metrics::enclosing_at, agg_reading::specs::Query::nested_at, agg_reading::specs::Fields::is_in_context))]
 pub fn enclosing(
     alloc: Global,
@@ -74,7 +76,7 @@ pub fn enclosing(
     ensures { Gives (λ x. x) result (enclosing_at mapping.now context (pointer at.now) path.now) }
 {
     if !encloses(mapping, path, context) {
-        return at.refuse(alloc, 109);
+        return at.refuse(alloc, NO_SUCH_PATH);
     }
     let (place, _) = nested(alloc, mapping, 0, at, path)?;
     Ok(place + 1)

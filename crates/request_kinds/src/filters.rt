@@ -11,15 +11,16 @@ ghost use Rattle.agg_mapping.specs.Paths.{IsOrdered};
 
 use crate::names::check_name;
 use crate::numbers::text_in;
+use agg_model::body_refusal::{
+    LIMIT_EXCEEDED, MISSING_MEMBER, OUT_OF_RANGE, UNKNOWN_MEMBER, WRONG_TYPE,
+};
+use agg_model::limits::{MAX_FILTERS, MAX_QUERIES};
 use agg_model::{Kind, List, Mapping, Query, Text};
 use agg_query::counted_query_at;
 use agg_reading::RequestFault;
 use json_walk::{At, check_names, member, object, truth_in};
 use serde_json::{Map, Value};
 use std::alloc::Global;
-
-/// At most so many filters in an aggregation.
-const MAX_FILTERS: usize = 256;
 
 /// The names of filters, where they have names, the filters, and how many queries of the search were begun up to the
 /// last of them.
@@ -36,17 +37,17 @@ fn listed(
     items: &Vec<Value>,
 ) -> Result<(List<Query>, u32), RequestFault>
     requires ordered { IsOrdered mapping.now }
-    requires count { before ≤ 1024 }
+    requires count { before ≤ MAX_QUERIES }
     ensures value { Gives (λ x. x) result
         (listed_from mapping.now context (pointer at.now) 0 [] before (items_view items.now.items)) }
-    ensures count { IfOk result (λ x. x.1 ≤ 1024) }
+    ensures count { IfOk result (λ x. x.1 ≤ MAX_QUERIES) }
 {
     let mut filters = List::new(alloc);
     let mut count = before;
     for (place, item) in items.iter().enumerate() {
         let at = At::Item(&*at, place);
         if place >= MAX_FILTERS {
-            return at.refuse(alloc, 111);
+            return at.refuse(alloc, LIMIT_EXCEEDED);
         }
         let (query, after) = counted_query_at(alloc, mapping, context, count, &at, item)?;
         filters.push(query)?;
@@ -66,10 +67,10 @@ fn named(
     members: &Map<String, Value>,
 ) -> Result<(List<Text>, List<Query>, u32), RequestFault>
     requires ordered { IsOrdered mapping.now }
-    requires count { before ≤ 1024 }
+    requires count { before ≤ MAX_QUERIES }
     ensures value { Gives (λ x. x) result
         (named_from mapping.now context (pointer at.now) [] [] before (members_view members.now.entries)) }
-    ensures count { IfOk result (λ x. x.2 ≤ 1024) }
+    ensures count { IfOk result (λ x. x.2 ≤ MAX_QUERIES) }
 {
     let mut names = List::new(alloc);
     let mut filters = List::new(alloc);
@@ -78,7 +79,7 @@ fn named(
         let at = At::Member(&*at, name.as_str());
         check_name(alloc, &at, name.as_str())?;
         if names.len() >= MAX_FILTERS {
-            return at.refuse(alloc, 111);
+            return at.refuse(alloc, LIMIT_EXCEEDED);
         }
         let (query, after) = counted_query_at(alloc, mapping, context, count, &at, value)?;
         names.push(Text::of(alloc, name.as_str())?)?;
@@ -88,7 +89,7 @@ fn named(
     Ok((names, filters, count))
 }
 
-/// A list of filters, which is refused with 104 where it is empty.
+/// A list of filters, which is refused with `OUT_OF_RANGE` where it is empty.
 fn filter_items(
     alloc: Global,
     mapping: &Mapping,
@@ -98,18 +99,18 @@ fn filter_items(
     items: &Vec<Value>,
 ) -> Result<FilterList, RequestFault>
     requires ordered { IsOrdered mapping.now }
-    requires count { before ≤ 1024 }
+    requires count { before ≤ MAX_QUERIES }
     ensures value { Gives (λ x. x) result (filter_list_at mapping.now context before (pointer at.now) (array (items_view items.now.items))) }
-    ensures count { IfOk result (λ x. x.2 ≤ 1024) }
+    ensures count { IfOk result (λ x. x.2 ≤ MAX_QUERIES) }
 {
     if items.is_empty() {
-        return at.refuse(alloc, 104);
+        return at.refuse(alloc, OUT_OF_RANGE);
     }
     let (filters, count) = listed(alloc, mapping, context, before, at, items)?;
     Ok((None, filters, count))
 }
 
-/// An object of filters, which is refused with 104 where it is empty.
+/// An object of filters, which is refused with `OUT_OF_RANGE` where it is empty.
 fn filter_members(
     alloc: Global,
     mapping: &Mapping,
@@ -119,18 +120,18 @@ fn filter_members(
     members: &Map<String, Value>,
 ) -> Result<FilterList, RequestFault>
     requires ordered { IsOrdered mapping.now }
-    requires count { before ≤ 1024 }
+    requires count { before ≤ MAX_QUERIES }
     ensures value { Gives (λ x. x) result (filter_list_at mapping.now context before (pointer at.now) (object (members_view members.now.entries))) }
-    ensures count { IfOk result (λ x. x.2 ≤ 1024) }
+    ensures count { IfOk result (λ x. x.2 ≤ MAX_QUERIES) }
 {
     if members.is_empty() {
-        return at.refuse(alloc, 104);
+        return at.refuse(alloc, OUT_OF_RANGE);
     }
     let (names, filters, count) = named(alloc, mapping, context, before, at, members)?;
     Ok((Some(names), filters, count))
 }
 
-/// An object or list of 1 to 256 filters; any other value is refused with 103.
+/// An object or list of 1 to `MAX_FILTERS` filters; any other value is refused with `WRONG_TYPE`.
 #[tactic(auto, unfolding(agg_reading::specs::Filters::filter_list_at))]
 fn filter_list(
     alloc: Global,
@@ -141,14 +142,14 @@ fn filter_list(
     value: &Value,
 ) -> Result<FilterList, RequestFault>
     requires ordered { IsOrdered mapping.now }
-    requires count { before ≤ 1024 }
+    requires count { before ≤ MAX_QUERIES }
     ensures value { Gives (λ x. x) result (filter_list_at mapping.now context before (pointer at.now) (view value.now)) }
-    ensures count { IfOk result (λ x. x.2 ≤ 1024) }
+    ensures count { IfOk result (λ x. x.2 ≤ MAX_QUERIES) }
 {
     match value {
         Value::Array(items) => filter_items(alloc, mapping, context, before, at, items),
         Value::Object(members) => filter_members(alloc, mapping, context, before, at, members),
-        _ => at.refuse(alloc, 103),
+        _ => at.refuse(alloc, WRONG_TYPE),
     }
 }
 
@@ -162,10 +163,10 @@ fn filter_list_in(
     members: &Map<String, Value>,
 ) -> Result<Option<FilterList>, RequestFault>
     requires ordered { IsOrdered mapping.now }
-    requires count { before ≤ 1024 }
+    requires count { before ≤ MAX_QUERIES }
     ensures value { Gives (λ x. x) result
         (optional (filter_list_at mapping.now context before) (codes "filters") (pointer at.now) (members_view members.now.entries)) }
-    ensures count { IfOk result (λ o. IfSome o (λ x. x.2 ≤ 1024)) }
+    ensures count { IfOk result (λ o. IfSome o (λ x. x.2 ≤ MAX_QUERIES)) }
 {
     match member(members, "filters") {
         None => Ok(None),
@@ -198,7 +199,7 @@ fn is_among(texts: &[Text], text: &str) -> bool
     false
 }
 
-/// A key of the other bucket, which is refused with 104 where a filter has it.
+/// A key of the other bucket, which is refused with `OUT_OF_RANGE` where a filter has it.
 fn free_key(
     alloc: Global,
     at: &At<'_>,
@@ -208,7 +209,7 @@ fn free_key(
     ensures { Gives (λ k. k) result (free_key (pointer at.now) names.now key.now) }
 {
     if is_taken(names, key) {
-        return At::Member(at, "other_bucket_key").refuse(alloc, 104);
+        return At::Member(at, "other_bucket_key").refuse(alloc, OUT_OF_RANGE);
     }
     Ok(Some(Text::of(alloc, key)?))
 }
@@ -242,15 +243,15 @@ fn filters_from(
     members: &Map<String, Value>,
 ) -> Result<(Kind, u32), RequestFault>
     requires ordered { IsOrdered mapping.now }
-    requires count { before ≤ 1024 }
+    requires count { before ≤ MAX_QUERIES }
     ensures value { Gives (λ x. x) result (filters_in mapping.now context before (pointer at.now) (members_view members.now.entries)) }
-    ensures count { IfOk result (λ x. x.1 ≤ 1024) }
+    ensures count { IfOk result (λ x. x.1 ≤ MAX_QUERIES) }
 {
     let said = filter_list_in(alloc, mapping, context, before, at, members)?;
     let on = truth_in(alloc, "other_bucket", at, members)?;
     let key = text_in(alloc, "other_bucket_key", at, members)?;
     let Some((names, filters, count)) = said else {
-        return at.refuse(alloc, 102);
+        return at.refuse(alloc, MISSING_MEMBER);
     };
     let other = other_key(alloc, at, &names, on, key)?;
     let kind = Kind::Filters {
@@ -272,14 +273,14 @@ pub fn filters(
     value: &Value,
 ) -> Result<(Kind, u32), RequestFault>
     requires ordered { IsOrdered mapping.now }
-    requires count { before ≤ 1024 }
+    requires count { before ≤ MAX_QUERIES }
     ensures value { Gives (λ x. x) result (filters_at mapping.now context before (pointer at.now) (view value.now)) }
-    ensures count { IfOk result (λ x. x.1 ≤ 1024) }
+    ensures count { IfOk result (λ x. x.1 ≤ MAX_QUERIES) }
 {
-    let members = object(alloc, 103, at, value)?;
+    let members = object(alloc, WRONG_TYPE, at, value)?;
     check_names(
         alloc,
-        101,
+        UNKNOWN_MEMBER,
         at,
         members,
         &["filters", "other_bucket", "other_bucket_key"],

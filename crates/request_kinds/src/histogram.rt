@@ -10,6 +10,7 @@ ghost use Rattle.agg_mapping.specs.Paths.{IsOrdered};
 
 use crate::fields::whole_field_in;
 use crate::orders::{orders_in, orders_or};
+use agg_model::body_refusal::{MISSING_MEMBER, OUT_OF_RANGE, UNKNOWN_MEMBER, WRONG_TYPE};
 use agg_model::{Bounds, Field, FieldKind, Kind, List, Mapping, Scalar};
 use agg_query::missing_in;
 use agg_reading::{NamedOrder, RequestFault};
@@ -33,7 +34,7 @@ fn is_at_most(least: Option<i64>, most: Option<i64>) -> bool
     }
 }
 
-/// Bounds, refused with 104 where the least is above the greatest.
+/// Bounds, refused with `OUT_OF_RANGE` where the least is above the greatest.
 fn ordered_bounds(
     alloc: Global,
     at: &At<'_>,
@@ -45,7 +46,7 @@ fn ordered_bounds(
     if is_at_most(min, max) {
         Ok(Bounds { min, max })
     } else {
-        at.refuse(alloc, 104)
+        at.refuse(alloc, OUT_OF_RANGE)
     }
 }
 
@@ -54,8 +55,8 @@ fn ordered_bounds(
 fn bounds(alloc: Global, at: &At<'_>, value: &Value) -> Result<Bounds, RequestFault>
     ensures { Gives (λ x. x) result (bounds_at (pointer at.now) (view value.now)) }
 {
-    let members = object(alloc, 103, at, value)?;
-    check_names(alloc, 101, at, members, &["max", "min"])?;
+    let members = object(alloc, WRONG_TYPE, at, value)?;
+    check_names(alloc, UNKNOWN_MEMBER, at, members, &["max", "min"])?;
     let max = signed_in(alloc, "max", at, members)?;
     let min = signed_in(alloc, "min", at, members)?;
     ordered_bounds(alloc, at, min, max)
@@ -133,7 +134,7 @@ fn counts(
 }
 
 /// The rules between members: the offset is below the interval, and the extended bounds lie within the hard bounds. Else
-/// the member `offset` or `extended_bounds` is refused with 104.
+/// the member `offset` or `extended_bounds` is refused with `OUT_OF_RANGE`.
 #[tactic(auto, unfolding(agg_reading::specs::Histogram::histogram_rules))]
 fn check_rules(
     alloc: Global,
@@ -146,10 +147,10 @@ fn check_rules(
     ensures { Gives (λ u. u) result (histogram_rules (pointer at.now) interval offset extended hard) }
 {
     if offset >= interval {
-        return At::Member(at, "offset").refuse(alloc, 104);
+        return At::Member(at, "offset").refuse(alloc, OUT_OF_RANGE);
     }
     if !lies_within(extended, hard) {
-        return At::Member(at, "extended_bounds").refuse(alloc, 104);
+        return At::Member(at, "extended_bounds").refuse(alloc, OUT_OF_RANGE);
     }
     Ok(())
 }
@@ -168,7 +169,7 @@ fn histogram_over(
     let (extended, hard, interval, keyed) = ranges(alloc, at, members)?;
     let (min_doc_count, missing, offset, order) = counts(alloc, field.kind, at, members)?;
     let Some(interval) = interval else {
-        return at.refuse(alloc, 102);
+        return at.refuse(alloc, MISSING_MEMBER);
     };
     check_rules(alloc, at, interval, offset, extended, hard)?;
     let kind = Kind::Histogram {
@@ -196,10 +197,10 @@ pub fn histogram(
     requires { IsOrdered mapping.now }
     ensures { Gives (λ x. x) result (histogram_at mapping.now (pointer at.now) (view value.now)) }
 {
-    let members = object(alloc, 103, at, value)?;
+    let members = object(alloc, WRONG_TYPE, at, value)?;
     check_names(
         alloc,
-        101,
+        UNKNOWN_MEMBER,
         at,
         members,
         &[

@@ -12,6 +12,7 @@ use crate::filters::filters;
 use crate::histogram::histogram;
 use crate::metrics::{any_metric, global, missing, nested_context, number_metric, outer_context};
 use crate::terms::terms;
+use agg_model::limits::MAX_QUERIES;
 use agg_model::{Kind, List, Mapping};
 use agg_query::counted_query_at;
 use agg_reading::{KindName, ReadKind, RequestFault};
@@ -68,9 +69,9 @@ pub fn kind_at(
     value: &Value,
 ) -> Result<ReadKind, RequestFault>
     requires ordered { IsOrdered mapping.now }
-    requires count { before ≤ 1024 }
+    requires count { before ≤ MAX_QUERIES }
     ensures value { Gives (λ k. k) result (kind_at name mapping.now context before (pointer at.now) (view value.now)) }
-    ensures count { IfOk result (λ k. k.queries ≤ 1024) }
+    ensures count { IfOk result (λ k. k.queries ≤ MAX_QUERIES) }
 {
     match name {
         KindName::Terms => {

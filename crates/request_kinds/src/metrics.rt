@@ -10,6 +10,7 @@ ghost use Rattle.agg_reading.specs.Metrics.{metered_in, number_metric_at, any_me
 ghost use Rattle.agg_mapping.specs.Paths.{IsOrdered};
 
 use crate::fields::{enclosing, whole_field_in};
+use agg_model::body_refusal::{NO_SUCH_PATH, UNKNOWN_MEMBER, WRONG_TYPE};
 use agg_model::{Field, Kind, Mapping, Scalar};
 use agg_query::{field_in, missing_in, path_in};
 use agg_reading::RequestFault;
@@ -43,8 +44,8 @@ pub fn number_metric(
     requires { IsOrdered mapping.now }
     ensures { Gives (λ x. x) result (number_metric_at mapping.now (pointer at.now) (view value.now)) }
 {
-    let members = object(alloc, 103, at, value)?;
-    check_names(alloc, 101, at, members, &["field", "missing"])?;
+    let members = object(alloc, WRONG_TYPE, at, value)?;
+    check_names(alloc, UNKNOWN_MEMBER, at, members, &["field", "missing"])?;
     let (place, field) = whole_field_in(alloc, mapping, at, members)?;
     metered(alloc, place, field, at, members)
 }
@@ -60,8 +61,8 @@ pub fn any_metric(
     requires { IsOrdered mapping.now }
     ensures { Gives (λ x. x) result (any_metric_at mapping.now (pointer at.now) (view value.now)) }
 {
-    let members = object(alloc, 103, at, value)?;
-    check_names(alloc, 101, at, members, &["field", "missing"])?;
+    let members = object(alloc, WRONG_TYPE, at, value)?;
+    check_names(alloc, UNKNOWN_MEMBER, at, members, &["field", "missing"])?;
     let (place, field) = field_in(alloc, mapping, at, members)?;
     metered(alloc, place, field, at, members)
 }
@@ -77,8 +78,8 @@ pub fn missing(
     requires { IsOrdered mapping.now }
     ensures { Gives (λ k. k) result (missing_kind_at mapping.now (pointer at.now) (view value.now)) }
 {
-    let members = object(alloc, 103, at, value)?;
-    check_names(alloc, 101, at, members, &["field"])?;
+    let members = object(alloc, WRONG_TYPE, at, value)?;
+    check_names(alloc, UNKNOWN_MEMBER, at, members, &["field"])?;
     let (place, _) = field_in(alloc, mapping, at, members)?;
     Ok(Kind::Missing { field: place })
 }
@@ -88,8 +89,8 @@ pub fn missing(
 pub fn global(alloc: Global, at: &At<'_>, value: &Value) -> Result<Kind, RequestFault>
     ensures { Gives (λ k. k) result (global_at (pointer at.now) (view value.now)) }
 {
-    let members = object(alloc, 103, at, value)?;
-    check_names(alloc, 101, at, members, &[])?;
+    let members = object(alloc, WRONG_TYPE, at, value)?;
+    check_names(alloc, UNKNOWN_MEMBER, at, members, &[])?;
     Ok(Kind::Global)
 }
 
@@ -105,13 +106,14 @@ pub fn nested_context(
     requires { IsOrdered mapping.now }
     ensures { Gives (λ x. x) result (nested_context_at mapping.now context (pointer at.now) (view value.now)) }
 {
-    let members = object(alloc, 103, at, value)?;
-    check_names(alloc, 101, at, members, &["path"])?;
+    let members = object(alloc, WRONG_TYPE, at, value)?;
+    check_names(alloc, UNKNOWN_MEMBER, at, members, &["path"])?;
     let (place, _) = path_in(alloc, mapping, context, at, members)?;
     Ok(place + 1)
 }
 
-/// The context that the member `path` names, or the root where it is absent. The root itself has none: 109 at `at`.
+/// The context that the member `path` names, or the root where it is absent. The root itself has none: `NO_SUCH_PATH`
+/// at `at`.
 fn outer(
     alloc: Global,
     mapping: &Mapping,
@@ -124,11 +126,11 @@ fn outer(
         (outer_of mapping.now context (pointer at.now) (get_member (codes "path") (members_view members.now.entries))) }
 {
     match member(members, "path") {
-        None if context == 0 => at.refuse(alloc, 109),
+        None if context == 0 => at.refuse(alloc, NO_SUCH_PATH),
         None => Ok(0),
         Some(value) => {
             let at = At::Member(at, "path");
-            let path = text(alloc, 103, &at, value)?;
+            let path = text(alloc, WRONG_TYPE, &at, value)?;
             enclosing(alloc, mapping, context, &at, path)
         }
     }
@@ -146,7 +148,7 @@ pub fn outer_context(
     requires { IsOrdered mapping.now }
     ensures { Gives (λ x. x) result (outer_context_at mapping.now context (pointer at.now) (view value.now)) }
 {
-    let members = object(alloc, 103, at, value)?;
-    check_names(alloc, 101, at, members, &["path"])?;
+    let members = object(alloc, WRONG_TYPE, at, value)?;
+    check_names(alloc, UNKNOWN_MEMBER, at, members, &["path"])?;
     outer(alloc, mapping, context, at, members)
 }

@@ -7,6 +7,7 @@ ghost use Rattle.agg_reading.specs.Reading.{Gives};
 ghost use Rattle.agg_reading.specs.Json.{optional, text_at};
 ghost use Rattle.agg_reading.specs.Numbers.{whole_at, choice_at};
 
+use agg_model::body_refusal::WRONG_TYPE;
 use agg_reading::RequestFault;
 use json_walk::{At, choice, member, text, whole_in};
 use serde_json::{Map, Value};
@@ -56,11 +57,11 @@ pub fn text_in<'v>(
     members: &'v Map<String, Value>,
 ) -> Result<Option<&'v str>, RequestFault>
     ensures { Gives (λ o. option_map (λ s. s.now) o) result
-        (optional (text_at 103) name.now (pointer at.now) (members_view members.now.entries)) }
+        (optional (text_at WRONG_TYPE) name.now (pointer at.now) (members_view members.now.entries)) }
 {
     let Some(value) = member(members, name) else {
         return Ok(None);
     };
-    let found = text(alloc, 103, &At::Member(at, name), value)?;
+    let found = text(alloc, WRONG_TYPE, &At::Member(at, name), value)?;
     Ok(Some(found))
 }

@@ -7,6 +7,8 @@ ghost use Rattle.agg_reading.specs.Reading.{Gives};
 ghost use Rattle.agg_reading.specs.Json.{optional};
 ghost use Rattle.agg_reading.specs.Orders.{direction_at, order_at, item_count, orders_from, orders_at, by_default};
 
+use agg_model::body_refusal::{NOT_ONE_MEMBER, OUT_OF_RANGE, WRONG_TYPE};
+use agg_model::limits::MAX_ORDERS;
 use agg_model::{List, Text};
 use agg_reading::{NamedOrder, RequestFault};
 use json_walk::{At, choice, member, object, sole_member};
@@ -48,7 +50,7 @@ fn order(
     ensures { Gives (λ o. o) result (order_at (pointer at.now) (members_view members.now.entries)) }
 {
     let Some((name, value)) = sole_member(members) else {
-        return at.refuse(alloc, 107);
+        return at.refuse(alloc, NOT_ONE_MEMBER);
     };
     let at = At::Member(at, name);
     let descending = direction(alloc, &at, value)?;
@@ -71,7 +73,7 @@ fn order_list(
     let mut orders = List::new(alloc);
     for (place, item) in items.iter().enumerate() {
         let at = At::Item(at, place);
-        let members = object(alloc, 103, &at, item)?;
+        let members = object(alloc, WRONG_TYPE, &at, item)?;
         orders.push(order(alloc, &at, members)?)?;
     }
     Ok(orders)
@@ -86,15 +88,16 @@ fn single(alloc: Global, order: NamedOrder) -> Result<List<NamedOrder>, AllocErr
     Ok(orders)
 }
 
-/// Whether there are 1 to 4 items.
+/// Whether there are 1 to `MAX_ORDERS` items.
 #[tactic(auto, using(crate::proofs::Lists::counted))]
 fn is_few(items: &Vec<Value>) -> bool
-    ensures { result ≡ (nat_le 1 (item_count (items_view items.now.items)) && nat_le (item_count (items_view items.now.items)) 4) }
+    ensures { result ≡ (nat_le 1 (item_count (items_view items.now.items)) && nat_le (item_count (items_view items.now.items)) MAX_ORDERS) }
 {
-    1 <= items.len() && items.len() <= 4
+    1 <= items.len() && items.len() <= MAX_ORDERS
 }
 
-/// An order, or a list of 1 to 4 orders. A list of another length is refused with 104, a value that is neither with 103.
+/// An order, or a list of 1 to `MAX_ORDERS` orders. A list of another length is refused with `OUT_OF_RANGE`, a value
+/// that is neither with `WRONG_TYPE`.
 #[tactic(auto, unfolding(agg_reading::specs::Orders::orders_at))]
 fn orders(alloc: Global, at: &At<'_>, value: &Value) -> Result<List<NamedOrder>, RequestFault>
     ensures { Gives (λ os. os) result (orders_at (pointer at.now) (view value.now)) }
@@ -102,8 +105,8 @@ fn orders(alloc: Global, at: &At<'_>, value: &Value) -> Result<List<NamedOrder>,
     match value {
         Value::Object(members) => Ok(single(alloc, order(alloc, at, members)?)?),
         Value::Array(items) if is_few(items) => order_list(alloc, at, items),
-        Value::Array(_) => at.refuse(alloc, 104),
-        _ => at.refuse(alloc, 103),
+        Value::Array(_) => at.refuse(alloc, OUT_OF_RANGE),
+        _ => at.refuse(alloc, WRONG_TYPE),
     }
 }
 

@@ -5,6 +5,8 @@ ghost use Rattle.std.specs.Str.{bytes_eq};
 ghost use Rattle.agg_reading.specs.Reading.{Gives};
 ghost use Rattle.agg_reading.specs.Orders.{is_sortable, child_from, child_named, compared_by, resolved, with_order};
 
+use agg_model::body_refusal::NO_SUCH_CHILD;
+use agg_model::limits::MAX_AGGREGATIONS;
 use agg_model::{Agg, Kind, List, Order, OrderBy};
 use agg_reading::{NamedOrder, RequestFault};
 use json_walk::At;
@@ -35,7 +37,7 @@ fn is_sortable(kind: &Kind) -> bool
 /// The place of the first such child whose name, with the ending, is this name.
 #[tactic(auto, unfolding(agg_reading::specs::Orders::child_from))]
 fn child_ended(children: &[Agg], ending: &str, name: &str) -> Option<u32>
-    requires { length children.now ≤ 256 }
+    requires { length children.now ≤ MAX_AGGREGATIONS }
     ensures { result ≡ child_from ending.now 0 name.now children.now }
 {
     for (place, child) in children.iter().enumerate() {
@@ -50,7 +52,7 @@ fn child_ended(children: &[Agg], ending: &str, name: &str) -> Option<u32>
 /// The place of the child of this name, else of the child whose name with `.value` is this name.
 #[tactic(auto, unfolding(agg_reading::specs::Orders::child_named))]
 fn child_named(children: &[Agg], name: &str) -> Option<u32>
-    requires { length children.now ≤ 256 }
+    requires { length children.now ≤ MAX_AGGREGATIONS }
     ensures { result ≡ child_named name.now children.now }
 {
     match child_ended(children, "", name) {
@@ -59,10 +61,10 @@ fn child_named(children: &[Agg], name: &str) -> Option<u32>
     }
 }
 
-/// What an order compares; refused with 113 where it names no fitting child.
+/// What an order compares; refused with `NO_SUCH_CHILD` where it names no fitting child.
 #[tactic(auto, unfolding(agg_reading::specs::Orders::compared_by))]
 fn compared_by(alloc: Global, children: &[Agg], order: &NamedOrder) -> Result<OrderBy, RequestFault>
-    requires { length children.now ≤ 256 }
+    requires { length children.now ≤ MAX_AGGREGATIONS }
     ensures { Gives (λ x. x) result (compared_by children.now order.now) }
 {
     match order.name.as_str() {
@@ -70,20 +72,20 @@ fn compared_by(alloc: Global, children: &[Agg], order: &NamedOrder) -> Result<Or
         "_key" => Ok(OrderBy::Key),
         name => match child_named(children, name) {
             Some(place) => Ok(OrderBy::Child(place)),
-            None => At::Start(order.at.as_str()).refuse(alloc, 113),
+            None => At::Start(order.at.as_str()).refuse(alloc, NO_SUCH_CHILD),
         },
     }
 }
 
 /// The orders, by count, by key or by the child that each names. The first that names no fitting child is refused with
-/// 113 at its name. There are at most 4 orders and 256 children.
+/// `NO_SUCH_CHILD` at its name. There are at most `MAX_ORDERS` orders and `MAX_AGGREGATIONS` children.
 #[tactic(auto, unfolding(agg_reading::specs::Orders::resolved))]
 pub fn resolved(
     alloc: Global,
     children: &[Agg],
     orders: &[NamedOrder],
 ) -> Result<List<Order>, RequestFault>
-    requires { length children.now ≤ 256 }
+    requires { length children.now ≤ MAX_AGGREGATIONS }
     ensures { Gives (λ os. os) result (resolved children.now [] orders.now) }
 {
     let mut all = List::new(alloc);

@@ -10,15 +10,17 @@ ghost use Rattle.agg_mapping.specs.Paths.{IsOrdered};
 use crate::fields::whole_field_in;
 use crate::names::check_name;
 use crate::orders::direction_in;
+use agg_model::body_refusal::{
+    LIMIT_EXCEEDED, MISSING_MEMBER, NOT_ONE_MEMBER, OUT_OF_RANGE, UNKNOWN_KIND, UNKNOWN_MEMBER,
+    WRONG_TYPE,
+};
+use agg_model::limits::MAX_SOURCES;
 use agg_model::{CompositeSource, FieldKind, List, Mapping, Text};
 use agg_query::field_in;
 use agg_reading::{RequestFault, SourceName};
 use json_walk::{At, check_names, list, object, sole_member, truth_in, whole_in};
 use serde_json::{Map, Value};
 use std::alloc::Global;
-
-/// At most so many sources in an aggregation.
-const MAX_SOURCES: usize = 16;
 
 /// A source, and the kind of its field.
 pub type Source = (CompositeSource, FieldKind);
@@ -47,10 +49,10 @@ fn terms_source(
     requires { IsOrdered mapping.now }
     ensures { Gives (λ x. x) result (terms_source_at mapping.now name.now (pointer at.now) (view value.now)) }
 {
-    let members = object(alloc, 103, at, value)?;
+    let members = object(alloc, WRONG_TYPE, at, value)?;
     check_names(
         alloc,
-        101,
+        UNKNOWN_MEMBER,
         at,
         members,
         &["field", "missing_bucket", "order"],
@@ -80,10 +82,10 @@ fn histogram_source(
     requires { IsOrdered mapping.now }
     ensures { Gives (λ x. x) result (histogram_source_at mapping.now name.now (pointer at.now) (view value.now)) }
 {
-    let members = object(alloc, 103, at, value)?;
+    let members = object(alloc, WRONG_TYPE, at, value)?;
     check_names(
         alloc,
-        101,
+        UNKNOWN_MEMBER,
         at,
         members,
         &["field", "interval", "missing_bucket", "order"],
@@ -93,7 +95,7 @@ fn histogram_source(
     let missing = truth_in(alloc, "missing_bucket", at, members)?;
     let descending = direction_in(alloc, at, members)?;
     let Some(interval) = said else {
-        return at.refuse(alloc, 102);
+        return at.refuse(alloc, MISSING_MEMBER);
     };
     let source = CompositeSource {
         name: Text::of(alloc, name)?,
@@ -105,7 +107,7 @@ fn histogram_source(
     Ok((source, field.kind))
 }
 
-/// A source of this kind; an unknown kind is refused with 106 at `at`.
+/// A source of this kind; an unknown kind is refused with `UNKNOWN_KIND` at `at`.
 fn source_by(
     alloc: Global,
     kind: Option<SourceName>,
@@ -118,7 +120,7 @@ fn source_by(
     ensures { Gives (λ x. x) result (source_by kind mapping.now name.now (pointer at.now) (view value.now)) }
 {
     match kind {
-        None => at.refuse(alloc, 106),
+        None => at.refuse(alloc, UNKNOWN_KIND),
         Some(SourceName::Terms) => terms_source(alloc, mapping, name, at, value),
         Some(SourceName::Histogram) => histogram_source(alloc, mapping, name, at, value),
     }
@@ -136,9 +138,9 @@ fn source(
     requires { IsOrdered mapping.now }
     ensures { Gives (λ x. x) result (source_at mapping.now name.now (pointer at.now) (view value.now)) }
 {
-    let members = object(alloc, 103, at, value)?;
+    let members = object(alloc, WRONG_TYPE, at, value)?;
     let Some((kind, said)) = sole_member(members) else {
-        return at.refuse(alloc, 107);
+        return at.refuse(alloc, NOT_ONE_MEMBER);
     };
     let at = At::Member(at, kind);
     source_by(alloc, source_named(kind), mapping, name, &at, said)
@@ -168,14 +170,14 @@ fn named_source(
     requires { IsOrdered mapping.now }
     ensures { Gives (λ x. x) result (named_source_at mapping.now (pointer at.now) (view value.now)) }
 {
-    let members = object(alloc, 103, at, value)?;
+    let members = object(alloc, WRONG_TYPE, at, value)?;
     let Some((name, said)) = sole_member(members) else {
-        return at.refuse(alloc, 107);
+        return at.refuse(alloc, NOT_ONE_MEMBER);
     };
     source(alloc, mapping, name, &At::Member(at, name), said)
 }
 
-/// The sources of the items. The 17th is refused with 111 at its place.
+/// The sources of the items. One beyond `MAX_SOURCES` is refused with `LIMIT_EXCEEDED` at its place.
 #[tactic(auto, unfolding(agg_reading::specs::Composite::sources_from))]
 fn source_list(
     alloc: Global,
@@ -191,14 +193,14 @@ fn source_list(
         let at = At::Item(at, place);
         check_source_name(alloc, &at, item)?;
         if place >= MAX_SOURCES {
-            return at.refuse(alloc, 111);
+            return at.refuse(alloc, LIMIT_EXCEEDED);
         }
         sources.push(named_source(alloc, mapping, &at, item)?)?;
     }
     Ok(sources)
 }
 
-/// The sources of a list, which is refused with 104 where it is empty.
+/// The sources of a list, which is refused with `OUT_OF_RANGE` where it is empty.
 fn some_sources(
     alloc: Global,
     mapping: &Mapping,
@@ -209,12 +211,12 @@ fn some_sources(
     ensures { Gives (λ x. x) result (some_sources mapping.now (pointer at.now) (items_view items.now.items)) }
 {
     if items.is_empty() {
-        return at.refuse(alloc, 104);
+        return at.refuse(alloc, OUT_OF_RANGE);
     }
     source_list(alloc, mapping, at, items)
 }
 
-/// A list of 1 to 16 sources.
+/// A list of 1 to `MAX_SOURCES` sources.
 #[tactic(auto, unfolding(agg_reading::specs::Composite::sources_at))]
 pub fn sources(
     alloc: Global,
@@ -225,6 +227,6 @@ pub fn sources(
     requires { IsOrdered mapping.now }
     ensures { Gives (λ x. x) result (sources_at mapping.now (pointer at.now) (view value.now)) }
 {
-    let items = list(alloc, 103, at, value)?;
+    let items = list(alloc, WRONG_TYPE, at, value)?;
     some_sources(alloc, mapping, at, items)
 }

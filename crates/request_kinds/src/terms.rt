@@ -9,15 +9,14 @@ ghost use Rattle.agg_mapping.specs.Paths.{IsOrdered};
 
 use crate::numbers::{choice_in, small_in};
 use crate::orders::{orders_in, orders_or};
+use agg_model::body_refusal::{UNKNOWN_MEMBER, WRONG_TYPE};
+use agg_model::limits::MAX_SIZE;
 use agg_model::{Field, FieldKind, Kind, List, Mapping, Probe, Scalar};
 use agg_query::{field_in, missing_in, probe_list_in};
 use agg_reading::{NamedOrder, RequestFault};
 use json_walk::{At, check_names, object, truth_in, whole_in};
 use serde_json::{Map, Value};
 use std::alloc::Global;
-
-/// The greatest number of terms that can be asked for.
-const MAX_SIZE: u32 = 2_147_483_647;
 
 /// What `exclude` and `include` list, in this order. `collect_mode` and `execution_hint` have no effect.
 #[tactic(auto, unfolding(agg_reading::specs::Terms::term_lists_in))]
@@ -75,7 +74,7 @@ fn term_counts(
 /// How many terms a shard answers: what is said, or half as many again as are wanted in all and ten more, and never fewer
 /// than are wanted in all.
 fn shard_size(size: u32, said: Option<u32>) -> u32
-    requires { size ≤ 2147483647 }
+    requires { size ≤ MAX_SIZE }
     ensures { result ≡ shard_size_of size said }
 {
     let wanted = match said {
@@ -139,10 +138,10 @@ pub fn terms(
     requires { IsOrdered mapping.now }
     ensures { Gives (λ x. x) result (terms_at mapping.now (pointer at.now) (view value.now)) }
 {
-    let members = object(alloc, 103, at, value)?;
+    let members = object(alloc, WRONG_TYPE, at, value)?;
     check_names(
         alloc,
-        101,
+        UNKNOWN_MEMBER,
         at,
         members,
         &[

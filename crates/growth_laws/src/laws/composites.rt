@@ -11,7 +11,7 @@ ghost use Rattle.agg_evaluation.specs.KeyOrder.{has_key, key_cmp};
 ghost use Rattle.agg_evaluation.specs.Keys.{combinations, keys, source_keys};
 ghost use Rattle.agg_evaluation.specs.Rows.{PlacedRow};
 ghost use Rattle.agg_evaluation.specs.Shard.{page};
-ghost use Rattle.agg_evaluation.specs.Sorting.{insert_once};
+ghost use Rattle.list_laws.specs.Sorting.{insert_once};
 ghost use Rattle.agg_evaluation.specs.Trees.{is_ascending};
 ghost use Rattle.bucket_order.specs.Composites.{is_composite_of};
 

@@ -1,4 +1,4 @@
-use Rattle.agg_evaluation.proofs.KeyLists.{holds}
+use Rattle.list_laws.proofs.Booleans.{holds}
 use Rattle.growth_laws.proofs.Halves.{twice-tree}
 use Rattle.growth_laws.proofs.laws.charges.each_tree_is_below_half_the_ceiling.Goals as goal
 

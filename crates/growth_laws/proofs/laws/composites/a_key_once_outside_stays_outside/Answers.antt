@@ -1,4 +1,4 @@
-use Rattle.agg_evaluation.proofs.KeyLists.{holds}
+use Rattle.list_laws.proofs.Booleans.{holds}
 use Rattle.growth_laws.proofs.PageKeys.{page-insert, page-more}
 use Rattle.growth_laws.proofs.laws.composites.a_key_once_outside_stays_outside.Goals as goal
 

@@ -1,4 +1,4 @@
-use Rattle.agg_evaluation.proofs.KeyLists.{true_is}
+use Rattle.list_laws.proofs.Booleans.{true_is}
 use Rattle.growth_laws.proofs.Combinations.{composite-combinations, composite-count, composite-parts}
 use Rattle.growth_laws.proofs.laws.composites.composite_keys_are_combinations.Goals as goal
 

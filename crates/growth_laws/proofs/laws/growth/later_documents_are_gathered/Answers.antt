@@ -1,4 +1,4 @@
-use Rattle.agg_evaluation.proofs.KeyLists.{holds}
+use Rattle.list_laws.proofs.Booleans.{holds}
 use Rattle.growth_laws.proofs.Gathered.{collected-gathers, global-gathers}
 use Rattle.growth_laws.proofs.ShardRows.{shard-cut}
 use Rattle.growth_laws.proofs.laws.growth.later_documents_are_gathered.Goals as goal

@@ -1,5 +1,5 @@
 use Rattle.std.proofs.Common.{refl}
-use Rattle.agg_evaluation.proofs.KeyLists.{holds}
+use Rattle.list_laws.proofs.Booleans.{holds}
 use Rattle.growth_laws.proofs.RootSteps.{global-step, matched-step}
 use Rattle.growth_laws.proofs.laws.growth.trees_grow_root_by_root.Goals as goal
 

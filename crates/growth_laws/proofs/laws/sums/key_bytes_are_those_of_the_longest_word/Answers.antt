@@ -1,4 +1,4 @@
-use Rattle.agg_evaluation.proofs.KeyLists.{holds}
+use Rattle.list_laws.proofs.Booleans.{holds}
 use Rattle.growth_laws.proofs.KeyBytes.{eight-bytes, longest-word}
 use Rattle.growth_laws.proofs.laws.sums.key_bytes_are_those_of_the_longest_word.Goals as goal
 
