@@ -24,11 +24,13 @@ place-below n inner [] h g = absurd g
 place-below n [] (d ∷ outer) h g = absurd h
 place-below n (e ∷ inner) (d ∷ outer) h g = subst (λ m. T (nat_lt m n)) (same_number d e (and_left _ _ h)) g
 
+-- and so for a document behind a number
 place-from : (n : ℕ) (inner outer : List ℕ) → T (starts_with nat_eq inner outer) → T (starts_from n outer) → T (starts_from n inner)
 place-from n inner [] h g = absurd g
 place-from n [] (d ∷ outer) h g = absurd h
 place-from n (e ∷ inner) (d ∷ outer) h g = subst (λ m. T (nat_le n m)) (same_number d e (and_left _ _ h)) g
 
+-- no place starts below a number and from it on
 not_both : (n : ℕ) (place : List ℕ) → T (starts_below n place) → T (starts_from n place) → ⊥
 not_both n [] h g = absurd h
 not_both n (d ∷ place) h g = below_not_from n d h g
@@ -43,6 +45,7 @@ module _ (p : PlacedRow → Bool) where
         | false ↦ all-filter q rows (and_right _ _ h)
       ]
 
+  -- what holds of two lists holds of both as one
   pub all-append : (xs ys : List PlacedRow) → T (list_all p xs) → T (list_all p ys) → T (list_all p (xs ++ ys))
   all-append [] ys h g = g
   all-append (x ∷ xs) ys h g = both _ _ (and_left _ _ h) (all-append xs ys (and_right _ _ h) g)
@@ -77,23 +80,29 @@ module _ (n : ℕ) (all : List PlacedRow) (cut : IsCutAt n all) where
   pub beneath-before : (context : ℕ) (rows : List PlacedRow) → T (lie_before n rows) → T (lie_before n (flat_map (beneath all context) rows))
   beneath-before context rows = all-beneath (lies_before n) all context rows (λ i o h g. place-below n i.place o.place h g)
 
+  -- the rows of the other documents, and what is beneath them
   pub beneath-behind : (context : ℕ) (rows : List PlacedRow) → T (lie_behind n rows) → T (lie_behind n (flat_map (beneath all context) rows))
   beneath-behind context rows = all-beneath (lies_behind n) all context rows (λ i o h g. place-from n i.place o.place h g)
 
   -- rows of the first documents enclose none of the others, nor those any of the first
   none-behind : (outer inner : List PlacedRow) → T (lie_before n outer) → T (lie_behind n inner) → EncloseNone outer inner
   none-behind [] inner h g = tt
-  none-behind (o ∷ outer) inner h g =
-      (⊎_elim (λ (e : list_any (λ i. is_within i o) inner ≡ true). let some = some-within inner o (holds _ e) in
+  none-behind (o ∷ outer) inner h g = (
+    ⊎_elim (λ (e : list_any (λ i. is_within i o) inner ≡ true). let some = some-within inner o (holds _ e) in
         absurd (not_both n some.0.place (place-below n some.0.place o.place some.1 (and_left _ _ h)) (some.2 (lies_behind n) g)))
-      (λ (e : list_any (λ i. is_within i o) inner ≡ false). e) (cases_Bool (list_any (λ i. is_within i o) inner)), none-behind outer inner (and_right _ _ h) g)
+        (λ (e : list_any (λ i. is_within i o) inner ≡ false). e) (cases_Bool (list_any (λ i. is_within i o) inner)),
+    none-behind outer inner (and_right _ _ h) g,
+  )
 
+  -- rows of the other documents enclose none of the first
   none-before : (outer inner : List PlacedRow) → T (lie_behind n outer) → T (lie_before n inner) → EncloseNone outer inner
   none-before [] inner h g = tt
-  none-before (o ∷ outer) inner h g =
-      (⊎_elim (λ (e : list_any (λ i. is_within i o) inner ≡ true). let some = some-within inner o (holds _ e) in
+  none-before (o ∷ outer) inner h g = (
+    ⊎_elim (λ (e : list_any (λ i. is_within i o) inner ≡ true). let some = some-within inner o (holds _ e) in
         absurd (not_both n some.0.place (some.2 (lies_before n) g) (place-from n some.0.place o.place some.1 (and_left _ _ h))))
-      (λ (e : list_any (λ i. is_within i o) inner ≡ false). e) (cases_Bool (list_any (λ i. is_within i o) inner)), none-before outer inner (and_right _ _ h) g)
+        (λ (e : list_any (λ i. is_within i o) inner ≡ false). e) (cases_Bool (list_any (λ i. is_within i o) inner)),
+    none-before outer inner (and_right _ _ h) g,
+  )
 
   -- what encloses rows of the first documents and of the others
   pub enclosing-apart : (context : ℕ) (rows more : List PlacedRow) → T (lie_before n rows) → T (lie_behind n more) → enclosing all context (rows ++ more) ≡ enclosing all context rows ++ enclosing all context more
@@ -118,6 +127,7 @@ module _ (n : ℕ) (all : List PlacedRow) (cut : IsCutAt n all) where
       (subst (λ xs. T (lie_before n xs)) (sym (filter-append (λ r. (r.context == context) && list_any (λ i. is_within i r) rows) cut.before cut.behind))
       (all-append (lies_before n) _ _ (all-filter (lies_before n) _ cut.before cut.before_lie) (none-of context cut.behind rows (none-before cut.behind rows cut.behind_lie f) (lies_before n))))
 
+  -- what encloses rows of the other documents lies in these
   pub enclosing-behind : (context : ℕ) (rows : List PlacedRow) → T (lie_behind n rows) → T (lie_behind n (enclosing all context rows))
   enclosing-behind context rows t =
       subst (λ a. T (lie_behind n (enclosing a context rows))) (sym cut.split)

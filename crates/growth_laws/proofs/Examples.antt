@@ -27,6 +27,7 @@ lengths = shard_rows
 abbrev last_word : Agg
 last_word = agg (codes "c") (kind.Composite (source (codes "k") 0 None true false ∷ []) 1 None) []
 
+-- a page with the one word
 abbrev one_word : List ℕ → Node
 one_word word = keyed (bucket (key.Many (key.Word word ∷ [])) 1 [] ∷ [])
 
@@ -78,6 +79,7 @@ comments = shard_rows
 abbrev by_word : Agg
 by_word = agg (codes "c") (kind.Nested 1) (agg (codes "w") (terms 1) (agg (codes "d") (kind.ReverseNested 0) [] ∷ []) ∷ [])
 
+-- so many nested documents with the word, in so many documents
 abbrev counted_by_word : ℕ → ℕ → Node
 counted_by_word rows documents = Fixed (bucket (key.Fixed 0) rows
     (keyed (bucket (key.Word (codes "x")) rows (Fixed (bucket (key.Fixed 0) documents [] ∷ []) ∷ []) ∷ []) ∷ []) ∷ [])

@@ -38,15 +38,17 @@ use Rattle.agg_evaluation.proofs.Computing.{computing}
 use Rattle.growth_laws.proofs.Built.{collectors-same, node-same}
 use Rattle.growth_laws.proofs.FilterKeys.{filters-among}
 use Rattle.growth_laws.proofs.Gathering.{Gathers, bucket_at, group-more, keys-more, no_rows, put-groups, with_all}
-use Rattle.growth_laws.proofs.InsertedKeys.{ascending-insert_all, has_key-insert_all, insert_all}
+use Rattle.growth_laws.proofs.InsertedKeys.{ascending-insert_all, has_key-insert_all, insert_all, or_true}
 use Rattle.growth_laws.proofs.Metrics.{count-append, metric-append}
 use Rattle.growth_laws.proofs.PageBuckets.{put-page-groups}
 use Rattle.growth_laws.proofs.PageKeys.{all-keys}
 
 module _ (n : ℕ) (all : List PlacedRow) (cut : IsCutAt n all) where
+  -- rows of the first documents
   abbrev First : List PlacedRow → Type 0
   First rows = T (lie_before n rows)
 
+  -- rows of the others
   abbrev Then : List PlacedRow → Type 0
   Then rows = T (lie_behind n rows)
 
@@ -55,9 +57,11 @@ module _ (n : ℕ) (all : List PlacedRow) (cut : IsCutAt n all) where
     abbrev at : (Key → List PlacedRow) → Key → Bucket
     at = bucket_at First Then gs cs gathers
 
+    -- the rows of a key lie where the rows lie
     of_group : (k : Kind) (rows : List PlacedRow) → First rows → (q : Key) → First (group all k rows q)
     of_group k rows f q = all-filter (lies_before n) (λ row. has_key q (keys all k row)) rows f
 
+    -- and so for the other documents
     of_later : (k : Kind) (more : List PlacedRow) → Then more → (q : Key) → Then (group all k more q)
     of_later k more t q = all-filter (lies_behind n) (λ row. has_key q (keys all k row)) more t
 
@@ -89,10 +93,6 @@ module _ (n : ℕ) (all : List PlacedRow) (cut : IsCutAt n all) where
         none_among : (q : Key) → has_key q ks ≡ false → (rows : List PlacedRow) → has_key q (all_keys all k rows) ≡ false
         none_among q e rows = has_key-distinct_keys q (flat_map (keys all k) rows) ∙ none_of q e rows
 
-        or_true : (a : Bool) → (a || true) ≡ true
-        or_true true = refl
-        or_true false = refl
-
         same : insert_all (all_keys all k more) ks ≡ ks
         same = same_keys _ _ (ascending-insert_all (all_keys all k more) ks up) up (λ q. has_key-insert_all q (all_keys all k more) ks
             ∙ elim (has_key q ks) as (λ b. has_key q ks ≡ b → (has_key q (all_keys all k more) || b) ≡ b) [
@@ -123,6 +123,7 @@ module _ (n : ℕ) (all : List PlacedRow) (cut : IsCutAt n all) where
         ∙ ap (gathered_metric k more) (ap of_values (flat_map-append (values_or field missing) rows (row ∷ []) ∙ ap (λ vs. flat_map (values_or field missing) rows ++ vs) (append-nil (values_or field missing row)))
         ∙ adds (flat_map (values_or field missing) rows) (values_or field missing row) ∙ sym (is row (of_values (flat_map (values_or field missing) rows))))
 
+    -- the one key of a single bucket exists from the start
     single-among : (q : Key) (b : Bool) → has_key q (key.Fixed 0 ∷ []) ≡ false → has_key q (single_key b) ≡ false
     single-among q true e = e
     single-among q false e = refl
@@ -151,6 +152,7 @@ module _ (n : ℕ) (all : List PlacedRow) (cut : IsCutAt n all) where
     pub before : (rows : List PlacedRow) → First rows → First (under all [] k rows)
     pub behind : (rows : List PlacedRow) → Then rows → Then (under all [] k rows)
 
+  -- all aggregations but global ones
   hands-on : (k : Kind) → T (not (is_global k)) → HandsOn k
   hands-on kind.Global p = absurd p
   hands-on (kind.Nested context) p = record {
@@ -170,6 +172,7 @@ module _ (n : ℕ) (all : List PlacedRow) (cut : IsCutAt n all) where
     empty-is : (a : Agg) → empty_node a ≡ (gatherer_of all a).empty
     empty-is (Agg' name k m children) = ap (λ es. empty_by es (fixed_keys k) (shape_of k)) (empties-are children)
 
+    -- child by child
     empties-are : {m : _} (children : Row_of-Agg m) → fold_aggs (λ a. empty_by a.children (fixed_keys a.kind) (shape_of a.kind)) children ≡ map (λ g. g.empty) (fold_aggs (gatherer_at all) children)
     empties-are end_of-Agg = refl
     empties-are (more_of-Agg a rest) = λ i. empty-is a i ∷ empties-are rest i
@@ -182,6 +185,7 @@ module _ (n : ℕ) (all : List PlacedRow) (cut : IsCutAt n all) where
         ap (node_of false all [] (fold_aggs (collector_of false all []) children) k) (on.apart rows more f t)
         ∙ counted-more (fold_aggs (gatherer_at all) children) (fold_aggs (collector_of false all []) children) (each-gathers children (and_right _ _ p)) [] k (under all [] k rows) (under all [] k more) (on.before rows f) (on.behind more t)
 
+    -- child by child
     pub each-gathers : {m : _} (children : Row_of-Agg m) → T (list_all {X = Bool → Bool} (λ child. child false) (fold_aggs is_placed_at children)) → Gathers First Then (fold_aggs (gatherer_at all) children) (fold_aggs (collector_of false all []) children)
     each-gathers end_of-Agg p = tt
     each-gathers (more_of-Agg a rest) p = ((collected-begins all a ∙ empty-is a, collected-gathers a (and_left _ _ p)), each-gathers rest (and_right _ _ p))

@@ -3,7 +3,7 @@ use Rattle.std.specs.Prelude.{◌≡◌, refl, ◌+◌, Bool, true, false, cond,
 use Rattle.std.specs.declared.cmp.Ordering.TheVariants.{Less, Equal, Greater}
 use Rattle.std.specs.Ordering.{is_eq, is_lt, match_ordering}
 use Rattle.std.proofs.Common.{sym, ◌∙◌, ap, subst, length-append}
-use Rattle.std.proofs.lemmas.Bool.{or_parts}
+use Rattle.std.proofs.lemmas.Bool.{or_parts, true≢false}
 use Rattle.agg_model.specs.declared.aggregation.Kind.{Kind}
 use Rattle.agg_model.specs.declared.key.Key.{Key}
 use Rattle.agg_model.specs.declared.partial.Bucket.{Bucket}
@@ -20,7 +20,7 @@ use Rattle.list_laws.specs.Sorting.{insert_once}
 use Rattle.list_laws.proofs.Booleans.{and_left, and_right, both, holds}
 use Rattle.list_laws.proofs.Lists.{append-nil, filter-append, flat_map-append}
 use Rattle.growth_laws.specs.Gathering.{Gatherer, empty_bucket, gathered_bucket, gathered_children, kept_buckets, put_groups, put_rows}
-use Rattle.growth_laws.proofs.InsertedKeys.{ascending-insert_all, eq-swap, has_key-insert_all, insert_all, no_group}
+use Rattle.growth_laws.proofs.InsertedKeys.{ascending-insert_all, eq-swap, has_key-insert_all, insert_all, no_group, or_true}
 
 -- the rows so far and those that come
 module _ (First Then : List PlacedRow → Type 0) where
@@ -31,6 +31,7 @@ module _ (First Then : List PlacedRow → Type 0) where
       × ((rows more : List PlacedRow) → First rows → Then more → c.collect (rows ++ more) ≡ g.gather more (c.collect rows))) × Gathers gs cs
   Gathers _ _ = ⊥
 
+  -- child by child
   children-gather : (gs : List Gatherer) (cs : List Collector) → Gathers gs cs → (rows more : List PlacedRow) → First rows → Then more
       → map (λ c. c.collect (rows ++ more)) cs ≡ gathered_children gs more (map (λ c. c.collect rows) cs)
   children-gather [] [] h rows more f t = refl
@@ -38,6 +39,7 @@ module _ (First Then : List PlacedRow → Type 0) where
   children-gather (g ∷ gs) [] h rows more f t = absurd h
   children-gather (g ∷ gs) (c ∷ cs) h rows more f t = λ i. h.0.1 rows more f t i ∷ children-gather gs cs h.1 rows more f t i
 
+  -- the children over no row are the empty ones
   children-start : (gs : List Gatherer) (cs : List Collector) → Gathers gs cs → map (λ c. c.collect []) cs ≡ map (λ g. g.empty) gs
   children-start [] [] h = refl
   children-start [] (c ∷ cs) h = absurd h
@@ -61,14 +63,17 @@ module _ (First Then : List PlacedRow → Type 0) where
     abbrev pub with_all : List Key → (Key → List PlacedRow) → (Key → List PlacedRow) → Key → List PlacedRow
     with_all js g h q = cond (has_key q js) (h q ++ g q) (h q)
 
+    -- the bucket of the key with more rows
     grown-at : (h : Key → List PlacedRow) (k q : Key) (rows : List PlacedRow) → First (h q) → Then rows → key_eq q k ≡ true → gathered_bucket gs rows (bucket_at h q) ≡ bucket_at (with_one k rows h) q
     grown-at h k q rows f t e =
         (λ i. record { key = q; count = sym (length-append (h q) rows) i; covered = 0; children = sym (children-gather gs cs gathers (h q) rows f t) i })
         ∙ ap (λ b. bucket_with q (cond b (h q ++ rows) (h q))) (sym e)
 
+    -- the bucket of another key
     other-at : (h : Key → List PlacedRow) (k q : Key) (rows : List PlacedRow) → key_eq q k ≡ false → bucket_at h q ≡ bucket_at (with_one k rows h) q
     other-at h k q rows e = ap (λ b. bucket_with q (cond b (h q ++ rows) (h q))) (sym e)
 
+    -- the bucket of a key that has no row yet
     started-at : (h : Key → List PlacedRow) (k : Key) → h k ≡ [] → empty_bucket gs k ≡ bucket_at h k
     started-at h k e = (λ i. record { key = k; count = 0; covered = 0; children = sym (children-start gs cs gathers) i }) ∙ ap (bucket_with k) (sym e)
 
@@ -112,16 +117,9 @@ module _ (First Then : List PlacedRow → Type 0) where
     pub later-first : (h : Key → List PlacedRow) (j : Key) (rows : List PlacedRow) (js : List Key) → T (is_below j js) → ((q : Key) → has_key q (j ∷ js) ≡ true → First (h q)) → (q : Key) → has_key q js ≡ true → First (with_one j rows h q)
     later-first h j rows js below f q e =
         elim (key_eq q j) as (λ b. key_eq q j ≡ b → First (cond b (h q ++ rows) (h q))) [
-          | true ↦ λ same. absurd (true_false (sym e ∙ ap (λ k. has_key k js) (key_eq-exact q j (holds _ same)) ∙ below-absent j js below))
+          | true ↦ λ same. absurd (true≢false (sym e ∙ ap (λ k. has_key k js) (key_eq-exact q j (holds _ same)) ∙ below-absent j js below))
           | false ↦ λ other. f q (ap (λ b. key_eq q j || b) e ∙ or_true (key_eq q j))
         ] refl
-      where
-        true_false : true ≡ false → ⊥
-        true_false e = subst T e tt
-
-        or_true : (b : Bool) → (b || true) ≡ true
-        or_true true = refl
-        or_true false = refl
 
     -- a key that is not there has no rows yet
     pub later-none : (h : Key → List PlacedRow) (j : Key) (rows : List PlacedRow) (ks : List Key) → ((q : Key) → has_key q ks ≡ false → h q ≡ []) → (q : Key) → has_key q (insert_once key_cmp j ks) ≡ false → with_one j rows h q ≡ []
@@ -144,6 +142,7 @@ module _ (all : List PlacedRow) (k : Kind) (rows more : List PlacedRow) where
   pub group-append : (q : Key) → group all k (rows ++ more) q ≡ group all k rows q ++ group all k more q
   group-append q = filter-append (λ r. has_key q (keys all k r)) rows more
 
+  -- the keys of all are those of the others or of the first rows
   pub has_key-more : (q : Key) → has_key q (all_keys all k (rows ++ more)) ≡ (has_key q (all_keys all k more) || has_key q (all_keys all k rows))
   has_key-more q =
       has_key-distinct_keys q (flat_map (keys all k) (rows ++ more)) ∙ ap (has_key q) (flat_map-append (keys all k) rows more)
@@ -163,6 +162,7 @@ module _ (all : List PlacedRow) (k : Kind) (rows more : List PlacedRow) where
       (ascending-insert_all (all_keys all k more) _ (ascending-distinct_keys (flat_map (keys all k) rows)))
       (λ q. has_key-more q ∙ sym (has_key-insert_all q (all_keys all k more) (all_keys all k rows)))
 
+  -- where no row has a key, its group is empty
   pub no_rows : (rows : List PlacedRow) (q : Key) → has_key q (all_keys all k rows) ≡ false → group all k rows q ≡ []
   no_rows rows q e = no_group all k q rows (sym (has_key-distinct_keys q (flat_map (keys all k) rows)) ∙ e)
 

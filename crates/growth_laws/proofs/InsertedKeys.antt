@@ -17,6 +17,11 @@ use Rattle.agg_evaluation.proofs.KeyLists.{ascending-insert_once, has_key-insert
 use Rattle.agg_evaluation.proofs.UnionLaws.{has_key-append}
 use Rattle.list_laws.specs.Sorting.{insert_once}
 
+-- or true is true
+pub or_true : (b : Bool) → (b || true) ≡ true
+or_true true = refl
+or_true false = refl
+
 -- either of two keys may come first
 pub eq-swap : (j k : Key) → key_eq j k ≡ key_eq k j
 eq-swap j k = ap is_eq (key_cmp_total.antisymm j k) ∙ reversed (key_cmp k j)
@@ -31,10 +36,12 @@ abbrev pub insert_all : List Key → List Key → List Key
 insert_all [] ks = ks
 insert_all (j ∷ js) ks = insert_all js (insert_once key_cmp j ks)
 
+-- they ascend
 pub ascending-insert_all : (js ks : List Key) → T (is_ascending ks) → T (is_ascending (insert_all js ks))
 ascending-insert_all [] ks up = up
 ascending-insert_all (j ∷ js) ks up = ascending-insert_all js _ (ascending-insert_once j ks up)
 
+-- a key stands there if it was put in or stood there
 pub has_key-insert_all : (q : Key) (js ks : List Key) → has_key q (insert_all js ks) ≡ (has_key q js || has_key q ks)
 has_key-insert_all q [] ks = refl
 has_key-insert_all q (j ∷ js) ks =

@@ -22,6 +22,7 @@ greatest-cons n ns =
       | false ↦ λ e. grind arith
     ] refl
 
+-- the greatest of two lists is the greater of theirs
 greatest-append : (ms ns : List ℕ) → greatest_of (ms ++ ns) ≡ max (greatest_of ms) (greatest_of ns)
 greatest-append [] ns = omega arith
 greatest-append (m ∷ ms) ns =
@@ -34,6 +35,7 @@ greatest-append (m ∷ ms) ns =
 word-bytes : (ws : List (List ℕ)) → map (λ v. key_bytes (scalar_key v)) (map Word ws) ≡ map length ws
 word-bytes ws = map-map (λ v. key_bytes (scalar_key v)) Word ws
 
+-- the bytes of a keyword field are those of its longest word
 pub longest-word : (kinds : List FieldKind) (all : List PlacedRow) (f : ℕ) (missing : Option Scalar) (named words : List (List ℕ)) → slice_get kinds f ≡ Some Keyword → option_to_list missing ≡ map Word named
     → flat_map (values_of f) all ≡ map Word words → field_bytes kinds all f missing ≡ max (greatest_of (map length named)) (greatest_of (map length words))
 longest-word kinds all f missing named words keyword is_named are_words =
@@ -52,6 +54,7 @@ eight-each (Whole n ∷ vs) h = let e = greatest-cons 8 (map (λ v. key_bytes (s
 eight-each (Flag b ∷ vs) h = let e = greatest-cons 8 (map (λ v. key_bytes (scalar_key v)) vs) in let rest = eight-each vs h in omega arith
 eight-each (Word w ∷ vs) h = absurd h
 
+-- the bytes of other fields are 8
 pub eight-bytes : (kinds : List FieldKind) (all : List PlacedRow) (f : ℕ) (missing : Option Scalar) → least_bytes (slice_get kinds f) ≡ 8 → T (list_all is_number_or_flag (option_to_list missing ++ flat_map (values_of f) all))
     → field_bytes kinds all f missing ≡ 8
 eight-bytes kinds all f missing least others =

@@ -2,7 +2,7 @@
 use Rattle.std.specs.Prelude.{◌≡◌, refl, ℕ, Bool, true, false, cond, ◌||◌, ◌++◌, T, List, [], ◌∷◌, filter, length, map, Option}
 use Rattle.std.specs.List.{list_all}
 use Rattle.std.proofs.Common.{sym, ◌∙◌, ap, subst, ⊎_elim}
-use Rattle.std.proofs.lemmas.Bool.{cases_Bool}
+use Rattle.std.proofs.lemmas.Bool.{cases_Bool, true≢false}
 use Rattle.agg_model.specs.declared.aggregation.CompositeSource.{CompositeSource}
 use Rattle.agg_model.specs.declared.aggregation.Kind.TheVariants as kind
 use Rattle.agg_model.specs.declared.key.Key.{Key}
@@ -22,7 +22,7 @@ use Rattle.list_laws.proofs.Lists.{filter-map}
 use Rattle.bucket_order.specs.Composites.{is_composite_of}
 use Rattle.growth_laws.specs.Gathering.{Gatherer, kept_buckets, put_groups, put_rows}
 use Rattle.growth_laws.proofs.Gathering.{Gathers, bucket_at, group-more, keys-more, later-first, later-none, one_by_one, put-rows, with_all, with_one}
-use Rattle.growth_laws.proofs.InsertedKeys.{insert_all}
+use Rattle.growth_laws.proofs.InsertedKeys.{insert_all, or_true}
 use Rattle.growth_laws.proofs.Ordered.{filter-has, has-filter}
 use Rattle.growth_laws.proofs.PageKeys.{AreKeys, all-keys, found-has, has-found, insert-keys, page-among, page-fewer, page-insert, page-keys}
 
@@ -32,21 +32,17 @@ same_test true b f g = sym (f refl)
 same_test false true f g = g refl
 same_test false false f g = refl
 
-true_false : true ≡ false → ⊥
-true_false e = subst T e tt
-
-or_true : (b : Bool) → (b || true) ≡ true
-or_true true = refl
-or_true false = refl
-
 module _ (First Then : List PlacedRow → Type 0) (none_first : First []) (gs : List Gatherer) (cs : List Collector) (gathers : Gathers First Then gs cs)
     (sources : List CompositeSource) (size : ℕ) (after : Option Key) where
+  -- the bucket of a key with its rows
   abbrev at : (Key → List PlacedRow) → Key → Bucket
   at = bucket_at First Then gs cs gathers
 
+  -- the page of keys
   abbrev paged : List Key → List Key
   paged = page sources size after
 
+  -- the keys of the buckets
   keys-at : (h : Key → List PlacedRow) (ks : List Key) → map bucket_key (map (at h) ks) ≡ ks
   keys-at h [] = refl
   keys-at h (k ∷ ks) = ap (λ js. k ∷ js) (keys-at h ks)
@@ -94,7 +90,7 @@ module _ (First Then : List PlacedRow → Type 0) (none_first : First []) (gs : 
       seen q e =
           elim (has_key q (paged ks)) as (λ b. has_key q (paged ks) ≡ b → h q ≡ cond b (h q) []) [
             | true ↦ λ inside. refl
-            | false ↦ λ outside. none q (⊎_elim (λ (there : has_key q ks ≡ true). absurd (true_false (sym (page-fewer sources size after ks (insert_once key_cmp k ks) are (insert-keys sources size after k ks are composite)
+            | false ↦ λ outside. none q (⊎_elim (λ (there : has_key q ks ≡ true). absurd (true≢false (sym (page-fewer sources size after ks (insert_once key_cmp k ks) are (insert-keys sources size after k ks are composite)
                 (λ j g. has_key-insert_once j k ks ∙ ap (λ b. key_eq j k || b) g ∙ or_true (key_eq j k)) q there e) ∙ outside)))
                 (λ (absent : has_key q ks ≡ false). absent) (cases_Bool (has_key q ks)))
           ] refl

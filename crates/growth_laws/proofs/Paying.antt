@@ -21,6 +21,7 @@ charged-pos [] a = omega arith
 charged-pos (pos n ∷ ns) a = let rest = charged-pos ns a in omega arith
 charged-pos (negsuc n ∷ ns) a = charged-pos ns a
 
+-- what is given back adds no charge
 charged-neg : (ns : List ℤ) (m : ℕ) → charged (ns ++ negsuc m ∷ []) ≡ charged ns
 charged-neg [] m = refl
 charged-neg (pos n ∷ ns) m = ap (λ k. n + k) (charged-neg ns m)
@@ -41,6 +42,7 @@ sum-front ns x zero = (0, refl)
 sum-front [] x (suc n) = (0, refl)
 sum-front (a ∷ ns) x (suc n) = let f = sum-front ns x n in (suc f.0, ap (λ s. a +ℤ s) f.1)
 
+-- and with that one more
 sum-whole : (ns : List ℤ) (x : ℤ) → (m : ℕ) × (int_sum (take m (ns ++ x ∷ [])) ≡ int_sum ns +ℤ x)
 sum-whole [] x = (1, omega (arith, ints))
 sum-whole (a ∷ ns) x = let f = sum-whole ns x in (suc f.0, (let e = f.1 in omega (arith, ints)))

@@ -84,5 +84,6 @@ rising-from m (d ∷ documents) =
     subst Rising (sym (filter-append (λ r. r.context == 0) (document_rows (m, d)) later ∙ ap (λ rows. rows ++ roots later) one.2))
     ((m, [], one.1, all-filter (lies_behind (m + 1)) (λ r. r.context == 0) later (behind-from (m + 1) (m + 1) documents (omega arith))), rising-from (m + 1) documents)
 
+-- the roots of a shard rise
 pub roots-rise : (documents : List (List ℕ × Row)) → Rising (roots (shard_rows documents))
 roots-rise documents = rising-from 0 documents

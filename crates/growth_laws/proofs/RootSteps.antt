@@ -50,12 +50,15 @@ global-handed all globals (Agg' name kind.Global n children) e rows more = refl
 global-handed all globals (Agg' name _ n children) e rows more = absurd (subst T (sym e) tt)
 
 module _ (search : Search) (documents : List (List ℕ × Row)) (a : Agg) (placed : T (is_placed a true)) where
+  -- the rows of the shard
   abbrev all : List PlacedRow
   all = shard_rows documents
 
+  -- the matched roots rise
   matched-rise : Rising (matched search all)
   matched-rise = rising-filter (matches all search.query) (roots all) (roots-rise documents)
 
+  -- and so do the roots that a global aggregation counts
   globals-rise : Rising (global_roots search all)
   globals-rise = elim (list_any (λ a. is_global (out-Agg a).kind) search.aggs) as (λ b. Rising (if b then roots all else [])) [ true ↦ roots-rise documents | false ↦ tt ]
 

@@ -118,6 +118,7 @@ amount-first search all =
     ap (λ k. slice_get (differences 0 (map (λ c. task_overhead + c) (map (λ n. cost (built search all n)) (range_with_len 0 k))) (cost (shard_answer search all))) 0) (add-one (row_count search all))
     ∙ ap Some (let e : (pos (task_overhead + cost (built search all 0)) -ℤ pos 0) ≡ pos (task_overhead + cost (built search all 0)) = omega (arith, ints) in e)
 
+-- what a row adds to the tree
 pub amount-row : (search : Search) (all : List PlacedRow) (n : ℕ) → n < row_count search all → slice_get (amounts search all) (n + 1) ≡ Some (pos (cost (built search all (n + 1))) -ℤ pos (cost (built search all n)))
 amount-row search all n l =
     ap (slice_get (amounts search all)) (add-one n)
@@ -125,6 +126,7 @@ amount-row search all n l =
     ∙ (λ i. Some (pos (task_overhead + cost (built search all ((let e : 0 + suc n ≡ n + 1 = omega arith in e) i))) -ℤ pos (task_overhead + cost (built search all ((let e : 0 + n ≡ n = omega arith in e) i)))))
     ∙ ap Some (let e : (pos (task_overhead + cost (built search all (n + 1))) -ℤ pos (task_overhead + cost (built search all n))) ≡ (pos (cost (built search all (n + 1))) -ℤ pos (cost (built search all n))) = omega (arith, ints) in e)
 
+-- the overhead and what the cut drops are given back
 pub amount-last : (search : Search) (all : List PlacedRow) → slice_get (amounts search all) (row_count search all + 1) ≡ Some (pos (cost (shard_answer search all)) -ℤ pos (task_overhead + cost (built search all (row_count search all))))
 amount-last search all =
     (λ i. slice_get (differences 0 (map (λ c. task_overhead + c) (map (λ n. cost (built search all n)) (range_with_len 0 (add-one (row_count search all) i)))) (cost (shard_answer search all))) (add-one (row_count search all) i))

@@ -4,10 +4,12 @@ use Rattle.std.specs.Prelude.{◌≡◌, ℕ, Bool, false, T, List, [], ◌∷�
 use Rattle.std.specs.List.{list_all}
 use Rattle.agg_evaluation.specs.Rows.{PlacedRow}
 
+-- whether a place starts with a number below this
 abbrev pub starts_below : ℕ → List ℕ → Bool
 starts_below n [] = false
 starts_below n (d ∷ place) = nat_lt d n
 
+-- whether a place starts with this number or a greater one
 abbrev pub starts_from : ℕ → List ℕ → Bool
 starts_from n [] = false
 starts_from n (d ∷ place) = nat_le n d
@@ -20,9 +22,11 @@ lies_before n row = starts_below n row.place
 abbrev pub lies_behind : ℕ → PlacedRow → Bool
 lies_behind n row = starts_from n row.place
 
+-- whether all lie in the first n documents
 abbrev pub lie_before : ℕ → List PlacedRow → Bool
 lie_before n = list_all (lies_before n)
 
+-- whether all lie in documents behind the first n
 abbrev pub lie_behind : ℕ → List PlacedRow → Bool
 lie_behind n = list_all (lies_behind n)
 

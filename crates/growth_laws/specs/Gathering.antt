@@ -78,11 +78,13 @@ module _ (all : List PlacedRow) where
   abbrev pub gathered_buckets : List Gatherer → Kind → List PlacedRow → List Bucket → List Bucket
   gathered_buckets gs k rows bs = put_groups (group all k rows) gs k (all_keys all k rows) bs
 
+  -- a node with more rows that the aggregation counts
   abbrev pub gathered_node : List Gatherer → Kind → List PlacedRow → Node-F Node Bucket → Node
   gathered_node gs k rows (Node-F.Keyed bs error full cut) = Keyed (gathered_buckets gs k rows bs) error full cut
   gathered_node gs k rows (Node-F.Fixed bs) = Fixed (gathered_buckets gs k rows bs)
   gathered_node gs k rows (Node-F.Number m) = Number (gathered_metric k rows m)
 
+  -- what one level makes of rows
   abbrev pub gatherer_at : Agg-F Gatherer → Gatherer
   gatherer_at a = record {
     empty = empty_by (map (λ g. g.empty) a.children) (fixed_keys a.kind) (shape_of a.kind);
@@ -90,6 +92,7 @@ module _ (all : List PlacedRow) where
     gather = λ rows n. gathered_node a.children a.kind (under all [] a.kind rows) (out-Node n);
   }
 
+  -- what an aggregation makes of rows
   abbrev pub gatherer_of : Agg → Gatherer
   gatherer_of = fold_agg gatherer_at
 

@@ -76,5 +76,5 @@ pub fn trees_grow_root_by_root()
         IsTrue (is_placed a true) → slice_get (global_roots search (shard_rows documents)) n ≡ Some root →
         tree_after search (shard_rows documents) a (length (matched search (shard_rows documents)) + n + 1)
         ≡ with_root (shard_rows documents) a root
-            (tree_after search (shard_rows documents) a (length (matched search (shard_rows documents)) + n)) }
+        (tree_after search (shard_rows documents) a (length (matched search (shard_rows documents)) + n)) }
 {}
