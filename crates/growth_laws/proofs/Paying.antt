@@ -12,6 +12,7 @@ use Rattle.agg_evaluation.proofs.MetricLaws.{int_sum-append}
 use Rattle.evaluation_laws.proofs.TraceLaws.{sum-none}
 use Rattle.growth_laws.specs.Amounts.{charged, place_without_zeros, without_zeros}
 use Rattle.growth_laws.specs.Paid.{IsPaid, Standing, granted_total}
+use Rattle.growth_laws.specs.Refused.{StaysWithin}
 use Rattle.growth_laws.proofs.Places.{sum-place, take-some}
 use Rattle.growth_laws.proofs.Sums.{charged-without_zeros, sum-peak, sum-without_zeros}
 
@@ -104,6 +105,20 @@ module _ (limit : ℕ) (s t u : Standing) (ns : List ℤ) (paid : IsPaid limit s
       let d : (pos wanted -ℤ pos held) ≡ negsuc (held - wanted - 1) = omega (arith, ints) in
       let gone : suc (held - wanted - 1) ≡ held - wanted = omega arith in
       subst (λ x. IsPaid limit s u (ns ++ x ∷ [])) (sym d) (paid-back (held - wanted - 1) (omega arith) g m)
+
+-- the first ones, and the first of these
+take-fewer : (ns : List ℤ) (m n : ℕ) → m ≤ n → take m (take n ns) ≡ take m ns
+take-fewer ns zero n l = refl
+take-fewer ns (suc m) zero l = absurd (omega arith)
+take-fewer [] (suc m) (suc n) l = refl
+take-fewer (x ∷ ns) (suc m) (suc n) l = ap (λ xs. x ∷ xs) (take-fewer ns m n (omega arith))
+
+-- up to a place the breaker stays within its limit
+pub paid-within : (limit : ℕ) (s t : Standing) (ns : List ℤ) (place : ℕ) → IsPaid limit s t (take place ns) → StaysWithin ns place s.hold limit
+paid-within limit s t ns place paid n l =
+    let same = ap int_sum (take-fewer ns n place l) in
+    let before = paid.within n in
+    omega (arith, ints)
 
 -- the zeros do not matter
 pub paid-trace : (limit : ℕ) (s t : Standing) (ns : List ℤ) → IsPaid limit s t ns → IsPaid limit s t (without_zeros ns)

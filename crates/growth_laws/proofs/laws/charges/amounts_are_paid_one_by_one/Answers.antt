@@ -1,4 +1,4 @@
-use Rattle.growth_laws.proofs.Paying.{paid-less, paid-more, paid-none, paid-peak, paid-trace}
+use Rattle.growth_laws.proofs.Paying.{paid-less, paid-more, paid-none, paid-peak, paid-trace, paid-within}
 use Rattle.growth_laws.proofs.laws.charges.amounts_are_paid_one_by_one.Goals as goal
 
 pub returns-clause-none : goal.returns-clause-none
@@ -9,6 +9,9 @@ returns-clause-more c = paid-more
 
 pub returns-clause-less : goal.returns-clause-less
 returns-clause-less c = paid-less
+
+pub returns-clause-within : goal.returns-clause-within
+returns-clause-within c = paid-within
 
 pub returns-clause-trace : goal.returns-clause-trace
 returns-clause-trace c = paid-trace
