@@ -39,7 +39,8 @@ pub fn each_row_charges_what_it_adds()
         ≡ Some (pos (cost (built search all (n + 1))) -ℤ pos (cost (built search all n))) }
     ensures last { (search : Search) (all : List PlacedRow) → slice_get (amounts search all)
         (row_count search all + 1)
-        ≡ Some (pos (cost (shard_answer search all)) -ℤ pos (task_overhead + cost (built search all (row_count search all)))) }
+        ≡ Some (pos (cost (shard_answer search all))
+        -ℤ pos (task_overhead + cost (built search all (row_count search all)))) }
 {}
 
 /// The peak is the greatest sum of first amounts of the trace, and `gross` is the sum of its
@@ -70,7 +71,8 @@ pub fn refusals_stand_in_the_trace()
     ensures place { (search : Search) (all : List PlacedRow) (hold limit : Which → ℕ)
         (others n granted : ℕ) (t : Tripped) →
         IsRefusedAt (amounts search all) hold limit others n granted t →
-        IsRefusedAt (trace search all) hold limit others (place_without_zeros (amounts search all) n) granted t }
+        IsRefusedAt (trace search all) hold limit others
+        (place_without_zeros (amounts search all) n) granted t }
     ensures peak { (search : Search) (all : List PlacedRow) (hold limit : Which → ℕ)
         (others n granted : ℕ) (t : Tripped) →
         IsRefusedAt (trace search all) hold limit others n granted t →

@@ -26,7 +26,8 @@ pub fn composite_keys_are_combinations()
         length (keys all (kind.Composite sources size after) row) ≡ combination_count sources row }
     ensures parts { (all : List PlacedRow) (sources : List CompositeSource) (size : ℕ)
         (after : Option Key) (row : PlacedRow) →
-        IsTrue (list_all (is_composite_of (length sources)) (keys all (kind.Composite sources size after) row)) }
+        IsTrue (list_all (is_composite_of (length sources))
+        (keys all (kind.Composite sources size after) row)) }
 {}
 
 /// A key of some rows that is not in their page does not come into the page of these and more. So a
@@ -35,11 +36,9 @@ pub fn composite_keys_are_combinations()
 pub fn a_key_once_outside_stays_outside()
     ensures outside { (all : List PlacedRow) (sources : List CompositeSource) (size : ℕ)
         (after : Option Key) (rows more : List PlacedRow) (q : Key) →
-        has_key q (all_keys all (kind.Composite sources size after) rows) ≡ true →
-        has_key q (page sources size after (all_keys all (kind.Composite sources size after) (rows ++ more)))
-        ≡ true →
-        has_key q (page sources size after (all_keys all (kind.Composite sources size after) rows))
-        ≡ true }
+        let k = kind.Composite sources size after in has_key q (all_keys all k rows) ≡ true →
+        has_key q (page sources size after (all_keys all k (rows ++ more))) ≡ true →
+        has_key q (page sources size after (all_keys all k rows)) ≡ true }
     ensures one_more { (sources : List CompositeSource) (size : ℕ) (after : Option Key) (k : Key)
         (ks : List Key) → IsTrue (is_ascending ks) →
         IsTrue (list_all (is_composite_of (length sources)) ks) →

@@ -83,12 +83,12 @@ pub fn trees_grow_root_by_root()
         (built search all n).nodes ≡ map (λ a. tree_after search all a n) search.aggs }
     ensures matched { (search : Search) (documents : List (List ℕ × Row)) (a : Agg) (n : ℕ)
         (root : PlacedRow) → IsTrue (is_placed a true) →
-        slice_get (matched search (shard_rows documents)) n ≡ Some root →
-        tree_after search (shard_rows documents) a (n + 1)
-        ≡ with_matched (shard_rows documents) a root (tree_after search (shard_rows documents) a n) }
+        let all = shard_rows documents in slice_get (matched search all) n ≡ Some root →
+        tree_after search all a (n + 1) ≡ with_matched all a root (tree_after search all a n) }
     ensures global { (search : Search) (documents : List (List ℕ × Row)) (a : Agg) (n : ℕ)
         (root : PlacedRow) → IsTrue (is_placed a true) →
-        slice_get (global_roots search (shard_rows documents)) n ≡ Some root →
-        tree_after search (shard_rows documents) a (length (matched search (shard_rows documents)) + n + 1)
-        ≡ with_root (shard_rows documents) a root (tree_after search (shard_rows documents) a (length (matched search (shard_rows documents)) + n)) }
+        let all = shard_rows documents in let before = length (matched search all) in
+        slice_get (global_roots search all) n ≡ Some root →
+        tree_after search all a (before + n + 1)
+        ≡ with_root all a root (tree_after search all a (before + n)) }
 {}

@@ -50,6 +50,7 @@ pub fn paths_add_up()
 pub fn matched_roots_are_the_set_bits()
     ensures { (all : List PlacedRow) (query : Query) (bits : List Bool) → bits
         ≡ map (matches all query) (roots all) → matched_roots all query
-        ≡ flat_map (λ place. if unwrap_or (slice_get bits place) false then option_to_list (slice_get (roots all) place) else [])
+        ≡ flat_map (λ place. if unwrap_or (slice_get bits place) false
+        then option_to_list (slice_get (roots all) place) else [])
         (range_with_len 0 (length (roots all))) }
 {}
