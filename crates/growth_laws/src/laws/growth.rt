@@ -16,7 +16,7 @@ ghost use Rattle.agg_evaluation.specs.Shard.{collected_node, sorted_by_key};
 ghost use Rattle.growth_laws.specs.Growth.{Grower, grown, grown_bucket, new_bucket, put_row, is_plain};
 ghost use Rattle.growth_laws.specs.Cutting.{cut_tree};
 ghost use Rattle.growth_laws.specs.Arrived.{AreDistinct, IsAt};
-ghost use Rattle.growth_laws.specs.Apart.{EncloseNone};
+ghost use Rattle.growth_laws.specs.Apart.{EncloseNone, IsAround};
 ghost use Rattle.growth_laws.specs.Documents.{IsCutAt, lie_before, lie_behind};
 ghost use Rattle.growth_laws.specs.Gathering.{counted, gathered};
 ghost use Rattle.growth_laws.specs.Steps.{tree_after, with_matched, with_root};
@@ -52,11 +52,22 @@ pub fn buckets_may_stand_as_they_came()
 {}
 
 /// The rows that enclose those of two parts of a shard are those of the first part and then those
-/// of the second.
+/// of the second. Row by row, the row around a new one is counted unless it lies around a row so
+/// far.
 pub fn enclosing_rows_add_up()
     ensures parts { (context : ℕ) (before after xs ys : List PlacedRow) → EncloseNone before ys →
         EncloseNone after xs → enclosing (before ++ after) context (xs ++ ys)
         ≡ enclosing (before ++ after) context xs ++ enclosing (before ++ after) context ys }
+    ensures seen { (context : ℕ) (before behind rows : List PlacedRow) (outer row : PlacedRow) →
+        IsAround context before outer behind rows row →
+        list_any (λ i. is_within i outer) rows ≡ true →
+        enclosing (before ++ outer ∷ behind) context (rows ++ row ∷ [])
+        ≡ enclosing (before ++ outer ∷ behind) context rows }
+    ensures new { (context : ℕ) (before behind rows : List PlacedRow) (outer row : PlacedRow) →
+        IsAround context before outer behind rows row →
+        list_any (λ i. is_within i outer) rows ≡ false →
+        enclosing (before ++ outer ∷ behind) context (rows ++ row ∷ [])
+        ≡ enclosing (before ++ outer ∷ behind) context rows ++ outer ∷ [] }
 {}
 
 /// The rows of a shard come document by document. So, whatever the kind of an aggregation, its tree
