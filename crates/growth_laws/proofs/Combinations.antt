@@ -13,8 +13,8 @@ use Rattle.agg_model.specs.declared.key.Key.{Key, out-Key, out-roll-Key}
 use Rattle.agg_model.specs.declared.key.Key.TheOpen.{Key-F}
 use Rattle.agg_model.specs.declared.key.Key.TheVariants.{Many, Null}
 use Rattle.agg_evaluation.specs.Ceiling.{combination_count}
-use Rattle.agg_model.specs.ValueKeys.{scalar_key}
 use Rattle.agg_evaluation.specs.KeyOrder.{key_cmp, key_cmp_at}
+use Rattle.agg_model.specs.ValueKeys.{scalar_key}
 use Rattle.agg_evaluation.specs.Keys.{combinations, composite_keys, distinct_keys, histogram_keys, interval_key, is_between, is_included, no_bounds, or_null, source_keys, term_keys, values_or}
 use Rattle.agg_evaluation.specs.Rows.{PlacedRow}
 use Rattle.agg_evaluation.specs.Trees.{is_ascending}
@@ -53,6 +53,7 @@ same-first k xs ys = many-cmp (k ∷ xs) (k ∷ ys) ∙ ap (λ o. ordering_then 
 less-first : (j k : Key) (xs ys : List Key) → key_cmp j k ≡ Less → key_cmp (Many (j ∷ xs)) (Many (k ∷ ys)) ≡ Less
 less-first j k xs ys e = many-cmp (j ∷ xs) (k ∷ ys) ∙ ap (λ o. ordering_then o (slice_cmp key_cmp xs ys)) e
 
+-- a key below two lists is below both as one
 below-append : (k : Key) (xs ys : List Key) → T (is_below k xs) → T (is_below k ys) → T (is_below k (xs ++ ys))
 below-append k [] ys h g = g
 below-append k (x ∷ xs) ys h g = both _ _ (and_left _ _ h) (below-append k xs ys (and_right _ _ h) g)
@@ -61,10 +62,12 @@ below-append k (x ∷ xs) ys h g = both _ _ (and_left _ _ h) (below-append k xs 
 abbrev fronted : Key → List (List Key) → List Key
 fronted k kss = map Many (map (λ ks. k ∷ ks) kss)
 
+-- with the same first part, the other parts decide
 below-same : (k : Key) (xs : List Key) (kss : List (List Key)) → T (is_below (Many xs) (map Many kss)) → T (is_below (Many (k ∷ xs)) (fronted k kss))
 below-same k xs [] h = tt
 below-same k xs (ys ∷ kss) h = both _ _ (subst (λ o. T (is_lt o)) (sym (same-first k xs ys)) (and_left _ _ h)) (below-same k xs kss (and_right _ _ h))
 
+-- a lesser first part decides
 below-later : (j k : Key) (xs : List Key) (kss : List (List Key)) → key_cmp j k ≡ Less → T (is_below (Many (j ∷ xs)) (fronted k kss))
 below-later j k xs [] e = tt
 below-later j k xs (ys ∷ kss) e = both _ _ (subst (λ o. T (is_lt o)) (sym (less-first j k xs ys e)) tt) (below-later j k xs kss e)
@@ -73,20 +76,24 @@ below-later j k xs (ys ∷ kss) e = both _ _ (subst (λ o. T (is_lt o)) (sym (le
 abbrev ways : List Key → List (List Key) → List Key
 ways ks kss = map Many (flat_map (λ k. map (λ more. k ∷ more) kss) ks)
 
+-- the ways of one more key
 ways-more : (k : Key) (ks : List Key) (kss : List (List Key)) → ways (k ∷ ks) kss ≡ fronted k kss ++ ways ks kss
 ways-more k ks kss = map-append Many (map (λ more. k ∷ more) kss) (flat_map (λ k. map (λ more. k ∷ more) kss) ks)
 
+-- a lesser first key comes before all ways of the others
 below-ways : (j : Key) (xs : List Key) (ks : List Key) (kss : List (List Key)) → T (is_below j ks) → T (is_below (Many (j ∷ xs)) (ways ks kss))
 below-ways j xs [] kss h = tt
 below-ways j xs (k ∷ ks) kss h =
     subst (λ zs. T (is_below (Many (j ∷ xs)) zs)) (sym (ways-more k ks kss))
     (below-append (Many (j ∷ xs)) (fronted k kss) (ways ks kss) (below-later j k xs kss (less_is _ (and_left _ _ h))) (below-ways j xs ks kss (and_right _ _ h)))
 
+-- the ways of one key ascend, and the others behind them
 ascending-fronted : (k : Key) (kss : List (List Key)) (rest : List Key) → T (is_ascending (map Many kss)) → ((xs : List Key) → T (is_below (Many (k ∷ xs)) rest)) → T (is_ascending rest) → T (is_ascending (fronted k kss ++ rest))
 ascending-fronted k [] rest up below up' = up'
 ascending-fronted k (xs ∷ kss) rest up below up' =
     both _ _ (below-append (Many (k ∷ xs)) (fronted k kss) rest (below-same k xs kss (and_left _ _ up)) (below xs)) (ascending-fronted k kss rest (and_right _ _ up) below up')
 
+-- all ways ascend
 ascending-ways : (ks : List Key) (kss : List (List Key)) → T (is_ascending ks) → T (is_ascending (map Many kss)) → T (is_ascending (ways ks kss))
 ascending-ways [] kss up up' = tt
 ascending-ways (k ∷ ks) kss up up' =
@@ -108,6 +115,7 @@ ascending-source row s =
     by (Some interval) =
         ascending-filter (is_between no_bounds) (distinct_keys (flat_map (interval_key interval 0) (values_or s.field None row))) (ascending-distinct_keys (flat_map (interval_key interval 0) (values_or s.field None row)))
 
+-- the combinations of a row ascend as keys
 ascending-combinations : (row : PlacedRow) (sources : List CompositeSource) → T (is_ascending (map Many (combinations (map (source_keys row) sources))))
 ascending-combinations row [] = tt
 ascending-combinations row (s ∷ ss) = ascending-ways (source_keys row s) (combinations (map (source_keys row) ss)) (ascending-source row s) (ascending-combinations row ss)
@@ -116,6 +124,7 @@ ascending-combinations row (s ∷ ss) = ascending-ways (source_keys row s) (comb
 pub composite-combinations : (sources : List CompositeSource) (row : PlacedRow) → composite_keys sources row ≡ map Many (combinations (map (source_keys row) sources))
 composite-combinations sources row = distinct_keys-ascending (map Many (combinations (map (source_keys row) sources))) (ascending-combinations row sources)
 
+-- as many as before
 length-map : {A B : Type 0} (f : A → B) (xs : List A) → length (map f xs) ≡ length xs
 length-map f [] = refl
 length-map f (x ∷ xs) = ap suc (length-map f xs)
@@ -130,6 +139,7 @@ length-ways (k ∷ ks) kss =
     let product : suc (length ks) * length kss ≡ length kss + length ks * length kss = omega arith in
     omega arith
 
+-- as many combinations as the definition counts
 length-combinations : (sources : List CompositeSource) (row : PlacedRow) → length (combinations (map (source_keys row) sources)) ≡ combination_count sources row
 length-combinations [] row = refl
 length-combinations (s ∷ ss) row = length-ways (source_keys row s) (combinations (map (source_keys row) ss)) ∙ ap (λ n. length (source_keys row s) * n) (length-combinations ss row)

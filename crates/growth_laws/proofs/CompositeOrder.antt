@@ -29,6 +29,7 @@ use Rattle.growth_laws.proofs.Ordered.{Distinct, ascends-front, distinct-up, fro
 abbrev pub exact_cmp : List CompositeSource → Key → Key → Ordering
 exact_cmp sources j k = ordering_then (any_parts_cmp sources (key_parts j) (key_parts k)) (key_cmp j k)
 
+-- this order is total
 pub exact_cmp_total : (sources : List CompositeSource) → IsTotalOrder (exact_cmp sources)
 exact_cmp_total sources = then_total (on_total key_parts (any_parts_total sources)) key_cmp_total
 
@@ -38,6 +39,7 @@ then_equal Less p e = absurd (subst (λ o. T (is_lt o)) e tt)
 then_equal Equal p e = (refl, e)
 then_equal Greater p e = absurd (subst (λ o. T (is_gt o)) e tt)
 
+-- keys that compare alike in it are one
 pub exact_cmp_exact : (sources : List CompositeSource) (j k : Key) → exact_cmp sources j k ≡ Equal → j ≡ k
 exact_cmp_exact sources j k e = exact_keys j k (then_equal (any_parts_cmp sources (key_parts j) (key_parts k)) (key_cmp j k) e).1
 
@@ -90,6 +92,7 @@ module _ (sources : List CompositeSource) where
       settled Equal h = h refl
       settled Greater h = refl
 
+  -- the key stands in the list
   abbrev pub In : Key → List Key → Type 0
   In = Has (exact_cmp sources) (exact_cmp_total sources)
 

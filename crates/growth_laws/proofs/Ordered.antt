@@ -1,4 +1,5 @@
 -- Lists in an exact total order: what stands in them, and the one ascending list of some items.
+use Rattle.std.proofs.lemmas.Bool.{true≢false}
 use Rattle.std.specs.Prelude.{◌≡◌, refl, ◌⊎◌, ℕ, zero, suc, Bool, true, false, cond, T, List, [], ◌∷◌, filter, take, if◌then◌else◌}
 use Rattle.std.specs.declared.cmp.Ordering.{Ordering}
 use Rattle.std.specs.declared.cmp.Ordering.TheVariants.{Less, Equal, Greater}
@@ -25,9 +26,11 @@ take-cons (suc n) x xs = ap (λ ys. x ∷ ys) (fewer n xs)
     fewer (suc n) (x ∷ xs) = ap (λ ys. x ∷ ys) (fewer n xs)
 
 module _ {A : Type 0} (R : A → A → Ordering) (total : IsTotalOrder R) (exact : (x y : A) → R x y ≡ Equal → x ≡ y) where
+  -- the item stands in the list
   abbrev In : A → List A → Type 0
   In = Has R total
 
+  -- the list ascends
   abbrev Up : List A → Type 0
   Up = Ascends R total
 
@@ -45,6 +48,7 @@ module _ {A : Type 0} (R : A → A → Ordering) (total : IsTotalOrder R) (exact
         | Greater ↦ λ h. ⊎_elim (λ (e : q ≡ y). inr (inl e)) (λ (j : In q (insert_once R x ys)). ⊎_elim (λ (e : q ≡ x). inl e) (λ (i : In q ys). inr (inr i)) (has-insert q x ys j)) h
       ] g
 
+  -- and the other way round
   pub insert-has : (q x : A) (xs : List A) → (q ≡ x) ⊎ In q xs → In q (insert_once R x xs)
   insert-has q x [] h = h
   insert-has q x (y ∷ ys) h =
@@ -86,10 +90,12 @@ module _ {A : Type 0} (R : A → A → Ordering) (total : IsTotalOrder R) (exact
   ascends-ascending [] = tt
   ascends-ascending (x ∷ xs) = ascends-insert x (ascending R xs) (ascends-ascending xs)
 
+  -- they are the items of the list
   pub has-ascending : (q : A) (xs : List A) → In q (ascending R xs) → In q xs
   has-ascending q [] h = h
   has-ascending q (x ∷ xs) h = ⊎_elim (λ (e : q ≡ x). inl e) (λ (i : In q (ascending R xs)). inr (has-ascending q xs i)) (has-insert q x (ascending R xs) h)
 
+  -- and the other way round
   pub ascending-has : (q : A) (xs : List A) → In q xs → In q (ascending R xs)
   ascending-has q [] h = h
   ascending-has q (x ∷ xs) h = insert-has q x (ascending R xs) (⊎_elim (λ (e : q ≡ x). inl e) (λ (i : In q xs). inr (ascending-has q xs i)) h)
@@ -121,6 +127,7 @@ module _ {A : Type 0} (R : A → A → Ordering) (total : IsTotalOrder R) (exact
 
   -- the items that pass a test
   module _ (p : A → Bool) where
+    -- they are items that pass
     pub has-filter : (q : A) (xs : List A) → In q (filter p xs) → In q xs × (p q ≡ true)
     has-filter q [] h = absurd h
     has-filter q (x ∷ xs) g =
@@ -129,17 +136,16 @@ module _ {A : Type 0} (R : A → A → Ordering) (total : IsTotalOrder R) (exact
           | false ↦ λ e h. let rest = has-filter q xs h in (inr rest.0, rest.1)
         ] refl g
 
+    -- and the other way round
     pub filter-has : (q : A) (xs : List A) → In q xs → p q ≡ true → In q (filter p xs)
     filter-has q [] h e = h
     filter-has q (x ∷ xs) h e =
         elim (p x) as (λ b. p x ≡ b → In q (cond b (x ∷ filter p xs) (filter p xs))) [
           | true ↦ λ f. ⊎_elim (λ (g : q ≡ x). inl g) (λ (i : In q xs). inr (filter-has q xs i e)) h
-          | false ↦ λ f. ⊎_elim (λ (g : q ≡ x). absurd (true_false (sym e ∙ ap p g ∙ f))) (λ (i : In q xs). filter-has q xs i e) h
+          | false ↦ λ f. ⊎_elim (λ (g : q ≡ x). absurd (true≢false (sym e ∙ ap p g ∙ f))) (λ (i : In q xs). filter-has q xs i e) h
         ] refl
-      where
-        true_false : true ≡ false → ⊥
-        true_false f = subst T f tt
 
+    -- they ascend where the items do
     pub ascends-filter : (xs : List A) → Up xs → Up (filter p xs)
     ascends-filter [] up = tt
     ascends-filter (x ∷ xs) up =
@@ -154,6 +160,7 @@ module _ {A : Type 0} (R : A → A → Ordering) (total : IsTotalOrder R) (exact
   has-take (suc n) q [] h = h
   has-take (suc n) q (x ∷ xs) h = ⊎_elim (λ (e : q ≡ x). inl e) (λ (i : In q (take n xs)). inr (has-take n q xs i)) h
 
+  -- they ascend where the items do
   pub ascends-take : (n : ℕ) (xs : List A) → Up xs → Up (take n xs)
   ascends-take zero xs up = tt
   ascends-take (suc n) [] up = tt
@@ -173,14 +180,17 @@ module _ {A : Type 0} (R : A → A → Ordering) (total : IsTotalOrder R) (exact
 
   -- the first items that pass the test
   module _ (p : A → Bool) (n : ℕ) where
+    -- so many of the distinct items that pass
     abbrev pub front : List A → List A
     front xs = take n (filter p (ascending R xs))
 
+    -- they are items that pass
     pub has-front : (q : A) (xs : List A) → In q (front xs) → In q xs × (p q ≡ true)
     has-front q xs h =
         let passed = has-filter p q (ascending R xs) (has-take n q (filter p (ascending R xs)) h) in
         (has-ascending q xs passed.0, passed.1)
 
+    -- they ascend
     pub ascends-front : (xs : List A) → Up (front xs)
     ascends-front xs = ascends-take n (filter p (ascending R xs)) (ascends-filter p (ascending R xs) (ascends-ascending xs))
 
@@ -205,13 +215,13 @@ module _ {A : Type 0} (R : A → A → Ordering) (total : IsTotalOrder R) (exact
               same-items _ _ (ascends-filter p (ascending R ys) (ascends-ascending ys)) (ascends-insert x (take n whole) (ascends-take n whole up))
               (λ q h. let here = has-filter p q (ascending R ys) h in insert-has q x (take n whole) (from_ys q (has-ascending q ys here.0)))
               (λ q h. ⊎_elim (λ (f : q ≡ x). filter-has p q (ascending R ys) (ascending-has q ys (to_ys q (inl f))) (ap p f ∙ e))
-                (λ (i : In q (take n whole)). filter-has p q (ascending R ys) (ascending-has q ys (to_ys q (inr i))) (has-front q xs i).1) (has-insert q x (take n whole) h)) in
+              (λ (i : In q (take n whole)). filter-has p q (ascending R ys) (ascending-has q ys (to_ys q (inr i))) (has-front q xs i).1) (has-insert q x (take n whole) h)) in
               let more : filter p (ascending R zs) ≡ insert_once R x whole =
               same-items _ _ (ascends-filter p (ascending R zs) (ascends-ascending zs)) (ascends-insert x whole up)
               (λ q h. let here = has-filter p q (ascending R zs) h in insert-has q x whole
-                (⊎_elim (λ (f : q ≡ x). inl f) (λ (i : In q xs). inr (filter-has p q (ascending R xs) (ascending-has q xs i) here.1)) (from_zs q (has-ascending q zs here.0))))
+              (⊎_elim (λ (f : q ≡ x). inl f) (λ (i : In q xs). inr (filter-has p q (ascending R xs) (ascending-has q xs i) here.1)) (from_zs q (has-ascending q zs here.0))))
               (λ q h. ⊎_elim (λ (f : q ≡ x). filter-has p q (ascending R zs) (ascending-has q zs (to_zs q (inl f))) (ap p f ∙ e))
-                (λ (i : In q whole). let here = has-filter p q (ascending R xs) i in filter-has p q (ascending R zs) (ascending-has q zs (to_zs q (inr (has-ascending q xs here.0)))) here.1) (has-insert q x whole h)) in
+              (λ (i : In q whole). let here = has-filter p q (ascending R xs) i in filter-has p q (ascending R zs) (ascending-has q zs (to_zs q (inr (has-ascending q xs here.0)))) here.1) (has-insert q x whole h)) in
               ap (take n) less ∙ take-insert n x whole ∙ sym (ap (take n) more)
           | false ↦ λ e.
               let not_x : (q : A) → p q ≡ true → q ≡ x → ⊥ = (λ q f g. subst T (sym f ∙ ap p g ∙ e) tt) in
@@ -228,6 +238,7 @@ module _ {A : Type 0} (R : A → A → Ordering) (total : IsTotalOrder R) (exact
 
 -- where two orders agree on the items of a list, sorting by either gives the same
 module _ {A : Type 0} (R S : A → A → Ordering) (total : IsTotalOrder R) where
+  -- an item put into its place
   has-insert_sorted : (C : A → A → Ordering) (q x : A) (xs : List A) → Has R total q (insert_sorted C x xs) → (q ≡ x) ⊎ Has R total q xs
   has-insert_sorted C q x [] h = h
   has-insert_sorted C q x (y ∷ ys) g =
@@ -236,14 +247,17 @@ module _ {A : Type 0} (R S : A → A → Ordering) (total : IsTotalOrder R) wher
         | false ↦ λ h. ⊎_elim (λ (e : q ≡ y). inr (inl e)) (λ (j : Has R total q (insert_sorted C x ys)). ⊎_elim (λ (e : q ≡ x). inl e) (λ (i : Has R total q ys). inr (inr i)) (has-insert_sorted C q x ys j)) h
       ] g
 
+  -- sorting adds no item
   has-sorted : (C : A → A → Ordering) (q : A) (xs : List A) → Has R total q (sorted C xs) → Has R total q xs
   has-sorted C q [] h = h
   has-sorted C q (x ∷ xs) h = ⊎_elim (λ (e : q ≡ x). inl e) (λ (i : Has R total q (sorted C xs)). inr (has-sorted C q xs i)) (has-insert_sorted C q x (sorted C xs) h)
 
+  -- an item has one place in both orders
   insert-agree : (x : A) (xs : List A) → ((y : A) → Has R total y xs → R x y ≡ S x y) → insert_sorted R x xs ≡ insert_sorted S x xs
   insert-agree x [] same = refl
   insert-agree x (y ∷ ys) same = λ i. if is_le (same y (inl refl) i) then x ∷ y ∷ ys else (y ∷ insert-agree x ys (λ z h. same z (inr h)) i)
 
+  -- sorting by either order gives one list
   pub sorted-agree : (xs : List A) → ((x y : A) → Has R total x xs → Has R total y xs → R x y ≡ S x y) → sorted R xs ≡ sorted S xs
   sorted-agree [] same = refl
   sorted-agree (x ∷ xs) same =

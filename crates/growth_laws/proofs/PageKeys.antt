@@ -1,4 +1,5 @@
 -- The page of a composite aggregation as keys come: what is outside stays outside, and one more key.
+use Rattle.growth_laws.proofs.InsertedKeys.{or_true}
 use Rattle.std.specs.Prelude.{◌≡◌, refl, ◌⊎◌, ℕ, Bool, true, false, ◌&&◌, ◌||◌, T, List, [], ◌∷◌, ◌++◌, flat_map, length, Option}
 use Rattle.std.specs.List.{list_all}
 use Rattle.std.specs.declared.cmp.Ordering.{Ordering}
@@ -41,15 +42,12 @@ module _ (R : Key → Key → Ordering) (t : IsTotalOrder R) (exact : (j k : Key
       ⊎_elim (λ (f : key_eq q k ≡ true). inl (key_eq-exact q k (holds _ f)))
       (λ (f : key_eq q k ≡ false). inr (found-has q ks (sym (ap (λ b. b || has_key q ks) f) ∙ e))) (cases_Bool (key_eq q k))
 
+  -- and the other way round
   pub has-found : (q : Key) (ks : List Key) → Has R t q ks → has_key q ks ≡ true
   has-found q [] h = absurd h
   has-found q (k ∷ ks) h =
       ⊎_elim (λ (e : q ≡ k). ap (λ b. b || has_key q ks) (ap (key_eq q) (sym e) ∙ key_eq-self q))
       (λ (i : Has R t q ks). ap (λ b. key_eq q k || b) (has-found q ks i) ∙ or_true (key_eq q k)) h
-    where
-      or_true : (b : Bool) → (b || true) ≡ true
-      or_true true = refl
-      or_true false = refl
 
   -- in an ascending list no key stands twice
   distinct-ascending : (ks : List Key) → T (is_ascending ks) → Distinct R t exact ks
@@ -67,14 +65,11 @@ all-has : (R : Key → Key → Ordering) (t : IsTotalOrder R) (p : Key → Bool)
 all-has R t p [] h q i = absurd i
 all-has R t p (k ∷ ks) h q i = ⊎_elim (λ (e : q ≡ k). ap p e ∙ true_is _ (and_left _ _ h)) (λ (j : Has R t q ks). all-has R t p ks (and_right _ _ h) q j) i
 
+-- a test that holds of each key that is found
 has-all : (p : Key → Bool) (ks : List Key) → ((q : Key) → has_key q ks ≡ true → p q ≡ true) → T (list_all p ks)
 has-all p [] h = tt
 has-all p (k ∷ ks) h =
     both _ _ (holds _ (h k (ap (λ b. b || has_key k ks) (key_eq-self k)))) (has-all p ks (λ q e. h q (ap (λ b. key_eq q k || b) e ∙ or_true (key_eq q k))))
-  where
-    or_true : (b : Bool) → (b || true) ≡ true
-    or_true true = refl
-    or_true false = refl
 
 module _ (sources : List CompositeSource) (size : ℕ) (after : Option Key) where
   -- ascending keys with a part for each source
@@ -82,12 +77,15 @@ module _ (sources : List CompositeSource) (size : ℕ) (after : Option Key) wher
     pub up : T (is_ascending ks)
     pub composite : T (list_all (is_composite_of (length sources)) ks)
 
+  -- the order of the sources, made exact
   abbrev Before : Key → Key → Ordering
   Before = exact_cmp sources
 
+  -- the key stands in the list
   abbrev In : Key → List Key → Type 0
   In = Has (exact_cmp sources) (exact_cmp_total sources)
 
+  -- the first keys in that order
   abbrev first : List Key → List Key
   first = front (exact_cmp sources) (exact_cmp_total sources) (exact_cmp_exact sources) (beyond sources after) size
 
@@ -104,6 +102,7 @@ module _ (sources : List CompositeSource) (size : ℕ) (after : Option Key) wher
   in-page q ks are e =
       found-has Before (exact_cmp_total sources) (exact_cmp_exact sources) q (first ks) (sym (has_key-distinct_keys q (first ks)) ∙ sym (ap (has_key q) (page-is ks are)) ∙ e)
 
+  -- and the other way round
   page-in : (q : Key) (ks : List Key) → AreKeys ks → In q (first ks) → has_key q (page sources size after ks) ≡ true
   page-in q ks are h =
       ap (has_key q) (page-is ks are) ∙ has_key-distinct_keys q (first ks) ∙ has-found Before (exact_cmp_total sources) (exact_cmp_exact sources) q (first ks) h
@@ -127,11 +126,13 @@ module _ (sources : List CompositeSource) (size : ℕ) (after : Option Key) wher
       ⊎_elim (λ (e : q ≡ k). inl e) (λ (i : Has key_cmp key_cmp_total q ks). inr (has-other key_cmp Before key_cmp_total (exact_cmp_total sources) q ks i))
       (has-insert key_cmp key_cmp_total exact_keys q k ks (has-other Before key_cmp (exact_cmp_total sources) key_cmp_total q (insert_once key_cmp k ks) h))
 
+  -- and the other way round
   insert-in : (q k : Key) (ks : List Key) → (q ≡ k) ⊎ In q ks → In q (insert_once key_cmp k ks)
   insert-in q k ks h =
       has-other key_cmp Before key_cmp_total (exact_cmp_total sources) q (insert_once key_cmp k ks) (insert-has key_cmp key_cmp_total exact_keys q k ks
       (⊎_elim (λ (e : q ≡ k). inl e) (λ (i : In q ks). inr (has-other Before key_cmp (exact_cmp_total sources) key_cmp_total q ks i)) h))
 
+  -- with one more key they still are
   pub insert-keys : (k : Key) (ks : List Key) → AreKeys ks → T (is_composite_of (length sources) k) → AreKeys (insert_once key_cmp k ks)
   insert-keys k ks are composite_k = record {
     up = ascending-insert_once k ks are.up;
@@ -155,9 +156,9 @@ module _ (sources : List CompositeSource) (size : ℕ) (after : Option Key) wher
       page-is (insert_once key_cmp k (page sources size after ks)) (insert-keys k (page sources size after ks) (page-keys ks are) composite_k)
       ∙ ap distinct_keys (front-insert Before (exact_cmp_total sources) (exact_cmp_exact sources) (beyond sources after) size k ks (insert_once key_cmp k (page sources size after ks)) (insert_once key_cmp k ks)
       (λ q h. ⊎_elim (λ (e : q ≡ k). inl e)
-        (λ (i : In q (page sources size after ks)). inr (in-page q ks are (has-found Before (exact_cmp_total sources) (exact_cmp_exact sources) q (page sources size after ks) i))) (in-insert q k (page sources size after ks) h))
+      (λ (i : In q (page sources size after ks)). inr (in-page q ks are (has-found Before (exact_cmp_total sources) (exact_cmp_exact sources) q (page sources size after ks) i))) (in-insert q k (page sources size after ks) h))
       (λ q h. insert-in q k (page sources size after ks) (⊎_elim (λ (e : q ≡ k). inl e)
-        (λ (i : In q (first ks)). inr (found-has Before (exact_cmp_total sources) (exact_cmp_exact sources) q (page sources size after ks) (page-in q ks are i))) h))
+      (λ (i : In q (first ks)). inr (found-has Before (exact_cmp_total sources) (exact_cmp_exact sources) q (page sources size after ks) (page-in q ks are i))) h))
       (λ q h. in-insert q k ks h) (λ q h. insert-in q k ks h))
       ∙ sym (page-is (insert_once key_cmp k ks) (insert-keys k ks are composite_k))
 

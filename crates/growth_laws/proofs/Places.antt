@@ -28,7 +28,7 @@ take-without_zeros (m ∷ ns) (suc n) =
     ]
 
 -- some of the amounts without zeros are some of all, without zeros
-take-some : (ns : List ℤ) (n m : ℕ) → m ≤ place_without_zeros ns n → (k : ℕ) × (k ≤ n) × (take m (without_zeros ns) ≡ without_zeros (take k ns))
+pub take-some : (ns : List ℤ) (n m : ℕ) → m ≤ place_without_zeros ns n → (k : ℕ) × (k ≤ n) × (take m (without_zeros ns) ≡ without_zeros (take k ns))
 take-some ns n zero l = (0, omega arith, refl)
 take-some ns zero (suc m) l = absurd (omega arith)
 take-some [] (suc n) (suc m) l = (0, omega arith, refl)
@@ -58,7 +58,7 @@ no_zero : (a : ℕ) → 0 < a → not (int_eq (pos a) (pos 0)) ≡ true
 no_zero a h = grind (arith, ints)
 
 -- what is held before the place is what is held before it among all amounts
-sum-place : (ns : List ℤ) (n : ℕ) → sum_before (without_zeros ns) (place_without_zeros ns n) ≡ sum_before ns n
+pub sum-place : (ns : List ℤ) (n : ℕ) → sum_before (without_zeros ns) (place_without_zeros ns n) ≡ sum_before ns n
 sum-place ns n = ap int_sum (take-without_zeros ns n) ∙ sum-without_zeros (take n ns)
 
 -- a breaker stays within its limit

@@ -1,5 +1,5 @@
 -- What the amounts of a task come to: the sums of the first of them, of all, and of the charges among them.
-use Rattle.std.specs.Prelude.{◌≡◌, refl, ◌⊎◌, ℕ, zero, suc, ℤ, pos, negsuc, ◌-ℤ◌, ◌≤ℤ◌, ◌+◌, ◌<◌, ◌≤◌, true, false, cond, not, List, [], ◌∷◌, map, filter, take, length}
+use Rattle.std.specs.Prelude.{◌≡◌, refl, ◌⊎◌, ℕ, zero, suc, ℤ, pos, negsuc, ◌-ℤ◌, ◌≤ℤ◌, ◌+◌, ◌<◌, ◌≤◌, true, false, cond, not, List, [], ◌∷◌, map, filter, take, length, slice_get, Some}
 use Rattle.std.specs.List.{range_with_len}
 use Rattle.std.specs.Int.{int_max, is_positive}
 use Rattle.std.specs.Ordering.{int_eq}
@@ -88,6 +88,50 @@ amounts-lead search all n within =
     let here : cost (built search all (0 + n)) ≡ cost (built search all n) = ap (λ m. cost (built search all m)) (let e : 0 + n ≡ n = omega arith in e) in
     let same = ap (λ m. int_sum (take m (amounts search all))) (add-one n) in
     omega (arith, ints)
+
+-- each amount behind the first
+differences-next : (g : ℕ → ℕ) (f : ℕ → ℕ) (before a k end n : ℕ) → suc n < k
+    → slice_get (differences before (map g (map f (range_with_len a k))) end) (suc n) ≡ Some (pos (g (f (a + suc n))) -ℤ pos (g (f (a + n))))
+differences-next g f before a zero end n l = absurd (omega arith)
+differences-next g f before a (suc zero) end n l = absurd (omega arith)
+differences-next g f before a (suc (suc k)) end zero l =
+    λ i. Some (pos (g (f (add_one i))) -ℤ pos (g (f (none i))))
+  where
+    add_one : a + 1 ≡ a + suc 0
+    add_one = omega arith
+
+    none : a ≡ a + 0
+    none = omega arith
+differences-next g f before a (suc (suc k)) end (suc n) l =
+    differences-next g f (g (f a)) (a + 1) (suc k) end n (omega arith)
+    ∙ (λ i. Some (pos (g (f ((let e : (a + 1) + suc n ≡ a + suc (suc n) = omega arith in e) i))) -ℤ pos (g (f ((let e : (a + 1) + n ≡ a + suc n = omega arith in e) i)))))
+
+-- the last amount leads to the end
+differences-last : (g : ℕ → ℕ) (f : ℕ → ℕ) (before a k end : ℕ) → slice_get (differences before (map g (map f (range_with_len a (suc k)))) end) (suc k) ≡ Some (pos end -ℤ pos (g (f (a + k))))
+differences-last g f before a zero end = ap (λ n. Some (pos end -ℤ pos (g (f n)))) (let e : a ≡ a + 0 = omega arith in e)
+differences-last g f before a (suc k) end =
+    differences-last g f (g (f a)) (a + 1) k end ∙ ap (λ n. Some (pos end -ℤ pos (g (f n)))) (let e : (a + 1) + k ≡ a + suc k = omega arith in e)
+
+-- what the empty tree, each row and the end charge
+pub amount-first : (search : Search) (all : List PlacedRow) → slice_get (amounts search all) 0 ≡ Some (pos (task_overhead + cost (built search all 0)))
+amount-first search all =
+    ap (λ k. slice_get (differences 0 (map (λ c. task_overhead + c) (map (λ n. cost (built search all n)) (range_with_len 0 k))) (cost (shard_answer search all))) 0) (add-one (row_count search all))
+    ∙ ap Some (let e : (pos (task_overhead + cost (built search all 0)) -ℤ pos 0) ≡ pos (task_overhead + cost (built search all 0)) = omega (arith, ints) in e)
+
+-- what a row adds to the tree
+pub amount-row : (search : Search) (all : List PlacedRow) (n : ℕ) → n < row_count search all → slice_get (amounts search all) (n + 1) ≡ Some (pos (cost (built search all (n + 1))) -ℤ pos (cost (built search all n)))
+amount-row search all n l =
+    ap (slice_get (amounts search all)) (add-one n)
+    ∙ differences-next (λ c. task_overhead + c) (λ n. cost (built search all n)) 0 0 (row_count search all + 1) (cost (shard_answer search all)) n (omega arith)
+    ∙ (λ i. Some (pos (task_overhead + cost (built search all ((let e : 0 + suc n ≡ n + 1 = omega arith in e) i))) -ℤ pos (task_overhead + cost (built search all ((let e : 0 + n ≡ n = omega arith in e) i)))))
+    ∙ ap Some (let e : (pos (task_overhead + cost (built search all (n + 1))) -ℤ pos (task_overhead + cost (built search all n))) ≡ (pos (cost (built search all (n + 1))) -ℤ pos (cost (built search all n))) = omega (arith, ints) in e)
+
+-- the overhead and what the cut drops are given back
+pub amount-last : (search : Search) (all : List PlacedRow) → slice_get (amounts search all) (row_count search all + 1) ≡ Some (pos (cost (shard_answer search all)) -ℤ pos (task_overhead + cost (built search all (row_count search all))))
+amount-last search all =
+    (λ i. slice_get (differences 0 (map (λ c. task_overhead + c) (map (λ n. cost (built search all n)) (range_with_len 0 (add-one (row_count search all) i)))) (cost (shard_answer search all))) (add-one (row_count search all) i))
+    ∙ differences-last (λ c. task_overhead + c) (λ n. cost (built search all n)) 0 0 (row_count search all) (cost (shard_answer search all))
+    ∙ ap (λ n. Some (pos (cost (shard_answer search all)) -ℤ pos (task_overhead + cost (built search all n)))) (let e : 0 + row_count search all ≡ row_count search all = omega arith in e)
 
 -- at the end a task holds its answer
 pub amounts-total : (search : Search) (all : List PlacedRow) → int_sum (amounts search all) ≡ pos (cost (shard_answer search all))
