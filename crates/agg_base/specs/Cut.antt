@@ -3,7 +3,7 @@
 use Rattle.std.specs.Prelude.{◌≡◌, ◌≢◌, ◌⊎◌, ◌==◌, ◌+◌, not, Bool, true, nat_lt, min, if◌then◌else◌, ℕ, List, [], ◌∷◌, ◌++◌, length, Option, Some, None, Result, Ok, Err}
 use Rattle.std.specs.List.{list_all}
 use Rattle.std.specs.Io.KnownBytes.{prepend_known, IsAtEnd}
-use Rattle.std.specs.Io.BufRead.{take_through, drop_through}
+use Rattle.std.specs.Io.BufRead.{take_through}
 use Rattle.agg_base.specs.declared.lines.LineFault.{LineFault}
 use Rattle.agg_base.specs.declared.lines.LineFault.TheVariants.{Read, LineTooLong, InputTooLong, Memory}
 use Rattle.agg_base.specs.declared.limits.TheConstants.{MAX_LINE, MAX_INPUT}
@@ -34,10 +34,6 @@ first_line (b ∷ bs) = if b == newline then [] else b ∷ first_line bs
 -- the first line with its newline, where it has one
 abbrev pub whole_line : List ℕ → List ℕ
 whole_line = take_through newline
-
--- what stands after the first line and its newline
-abbrev pub after_line : List ℕ → List ℕ
-after_line = drop_through newline
 
 -- the fault of a line of `bytes` bytes, `whole` with its newline where it has one, before which stand `before` bytes of
 -- the input: byte MAX_INPUT + 1 of the input lies in it, at or before its own byte MAX_LINE + 1; or it is too long itself

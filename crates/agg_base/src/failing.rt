@@ -3,7 +3,7 @@ ghost use Rattle.std.specs.Prelude.{◌≡◌, ℕ, IsSorted};
 ghost use Rattle.std.specs.Ordering.{nat_cmp};
 ghost use Rattle.agg_base.specs.Memory.{is_failing};
 
-use agg_model::list::List as Numbers;
+use agg_model::List as Numbers;
 
 /// The numbers in ascending order.
 pub(crate) fn ascending(numbers: Numbers<u64>) -> Vec<u64>

@@ -1,13 +1,22 @@
-//! The outside of `aggs`: where bytes come from and go to, and the lines of an input.
+//! The outside of `aggs`: where bytes come from and go to, and the lines of an input. A reader of lines keeps its first
+//! fault; sources and sinks in memory show every fault, those of std tell no bytes.
 #![tactic(auto)]
 
-pub mod adapters;
+mod adapters;
 mod failing;
-pub mod limits;
-pub mod lines;
-pub mod memory_sink;
-pub mod memory_source;
-pub mod sink;
-pub mod source;
+mod limits;
+mod lines;
+mod memory_sink;
+mod memory_source;
+mod sink;
+mod source;
 #[cfg(test)]
 mod tests;
+
+pub use adapters::{StdSink, StdSource};
+pub use limits::{BLOCK, MAX_INPUT, MAX_LINE};
+pub use lines::{Block, LineFault, Lines};
+pub use memory_sink::MemorySink;
+pub use memory_source::MemorySource;
+pub use sink::{Sink, write_all};
+pub use source::{Failed, Source};

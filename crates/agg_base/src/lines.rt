@@ -8,7 +8,7 @@ ghost use Rattle.agg_base.specs.declared.lines.LineFault.TheVariants.{Memory};
 
 use crate::limits::{BLOCK, MAX_INPUT, MAX_LINE};
 use crate::source::{Failed, Source};
-use agg_model::bytes::Bytes;
+use agg_model::Bytes;
 use memchr::memchr;
 use std::alloc::{AllocError, Global};
 use std::mem;

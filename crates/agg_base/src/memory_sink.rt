@@ -7,7 +7,7 @@ ghost use Rattle.agg_base.specs.Memory.{Store, store_fails, stored, after_write,
 use crate::failing::{ascending, is_among};
 use crate::sink::Sink;
 use crate::source::Failed;
-use agg_model::list::List as Numbers;
+use agg_model::List as Numbers;
 use std::alloc::{AllocError, Global};
 use std::marker::Model;
 

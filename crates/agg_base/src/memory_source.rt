@@ -6,8 +6,7 @@ ghost use Rattle.agg_base.specs.Memory.{Feed, feed_fails, fed, after_read, is_fa
 
 use crate::failing::{ascending, is_among};
 use crate::source::{Failed, Source};
-use agg_model::bytes::Bytes;
-use agg_model::list::List as Numbers;
+use agg_model::{Bytes, List as Numbers};
 use std::marker::Model;
 
 /// A source over bytes in memory, which can be told to give them in pieces and to fail.

@@ -7,7 +7,7 @@ use Rattle.agg_model.specs.declared.row.Document.{Document}
 use Rattle.agg_model.specs.declared.bulk.Action.{Action}
 use Rattle.agg_model.specs.declared.bulk.Applied.{Applied}
 use Rattle.agg_model.specs.declared.bulk.Applied.TheVariants.{Created, Updated}
-use Rattle.agg_reading.specs.Outcome.{Outcome, refuse}
+use Rattle.agg_reading.specs.Reading.{Reading, refuse}
 use Rattle.agg_reading.specs.Store.{Store, live_at, with_document, live_documents, weight, store_weight, is_create, kept, put_row}
 use Rattle.agg_documents.proofs.Entries.{one, weight-put, count-put, weight-within}
 
@@ -78,7 +78,7 @@ module _ (action : Action) (root : Row) (es : Store) where
   abbrev put : Store
   put = with_document action.id (Some (record { id = action.id; routing = action.routing; root = root })) es
 
-  free : (create live : Bool) (what : Outcome (Applied × Store)) → (create && live) ≡ false → (if create && live then refuse 26 [] else what) ≡ what
+  free : (create live : Bool) (what : Reading (Applied × Store)) → (create && live) ≡ false → (if create && live then refuse 26 [] else what) ≡ what
   free create live what h = ap (λ (b : Bool). if b then refuse 26 [] else what) h
 
   same_test : (b : Bool) (r : Option ℕ) → r ≡ option_map weight (live_at action.id es) → b ≡ (is_create action.kind && is_some r) → (is_create action.kind && is_some (live_at action.id es)) ≡ b

@@ -3,14 +3,11 @@
 ghost use Rattle.std.specs.Prelude.{◌≡◌, IfOk};
 ghost use Rattle.agg_mapping.specs.Paths.{IsOrdered};
 ghost use Rattle.agg_reading.specs.Document.{document_at};
-ghost use Rattle.document_values.specs.Faults.{Gives};
+ghost use Rattle.document_rows.specs.Faults.{Gives};
 
-use agg_model::copying::Copying;
-use agg_model::mapping::Mapping;
-use agg_model::row::Document;
-use agg_model::text::Text;
-use document_rows::document::root_row_of;
-use document_values::fault::ItemFault;
+use agg_mapping::OrderedMapping;
+use agg_model::{Copying, Document, Mapping, Text};
+use document_rows::{ItemFault, root_row_of};
 use std::alloc::Global;
 
 /// The document of a source line with this id and this routing ('Bulk API', 'Mapping' of Elasticsearch Reference 8).
@@ -31,7 +28,7 @@ pub fn document_of(
     ensures id { IfOk result (λ document. document.id ≡ id.now) }
     ensures routing { IfOk result (λ document. document.routing ≡ routing.now) }
 {
-    let root = root_row_of(alloc, mapping, source)?;
+    let root = root_row_of(alloc, &OrderedMapping::of(mapping), source)?;
     Ok(Document {
         id: id.copy(alloc)?,
         routing: routing.copy(alloc)?,

@@ -2,10 +2,15 @@
 //! (Elasticsearch Reference 8, 'Bulk API' and '_routing field').
 #![tactic(auto)]
 
-pub mod document;
-pub mod shards;
+mod document;
+mod routing;
+mod shards;
 mod slot;
-pub mod store;
+mod store;
 #[cfg(test)]
 mod tests;
 mod weight;
+
+pub use document::document_of;
+pub use routing::shard_of;
+pub use store::Store;

@@ -4,9 +4,8 @@ ghost use Rattle.std.specs.Prelude.{◌≡◌, ◌≤◌, ◌++◌, ◌∷◌, [
 ghost use Rattle.agg_reading.specs.Routing.{shard_of};
 ghost use Rattle.agg_documents.specs.Shards.{cut};
 
-use agg_model::list::List;
-use agg_model::row::Document;
-pub use document_values::routing::shard_of;
+use crate::routing::shard_of;
+use agg_model::{Document, List};
 use std::alloc::{AllocError, Global};
 
 /// An empty list for each shard.

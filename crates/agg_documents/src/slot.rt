@@ -8,8 +8,7 @@ ghost use Rattle.std.specs.Hash as fed;
 ghost use Rattle.std.specs.Str.{bytes_eq};
 ghost use Rattle.agg_documents.specs.Slots.{id_of, document_in};
 
-use agg_model::row::Document;
-use agg_model::text::Text;
+use agg_model::{Document, Text};
 use std::hash::{Hash, Hasher};
 
 /// An id that was once accepted, with its live document or with none.

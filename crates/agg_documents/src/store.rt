@@ -6,20 +6,16 @@ ghost use Rattle.std.specs.Option.{option_map};
 ghost use Rattle.std.specs.Str.{bytes_eq};
 ghost use Rattle.agg_mapping.specs.Paths.{IsOrdered};
 ghost use Rattle.agg_reading.specs.Store.{applied, deleted, is_create, live_at, live_documents, put_row, shards_of, store_weight, weight, with_document};
-ghost use Rattle.document_values.specs.Faults.{Gives};
-ghost use Rattle.document_values.specs.declared.fault.ItemFault.TheVariants.{Refused};
+ghost use Rattle.document_rows.specs.Faults.{Gives};
+ghost use Rattle.document_rows.specs.declared.fault.ItemFault.TheVariants.{Refused};
 ghost use Rattle.agg_documents.specs.Slots.{id_of, document_in};
 
 use crate::shards::{deal, empty_lists};
 use crate::slot::Slot;
 use crate::weight::weight_of;
-use agg_model::bulk::{Action, ActionKind, Applied, ItemRefusal};
-use agg_model::list::List;
-use agg_model::mapping::Mapping;
-use agg_model::row::{Document, Row};
-use agg_model::text::Text;
-use document_rows::document::root_row_of;
-use document_values::fault::ItemFault;
+use agg_mapping::OrderedMapping;
+use agg_model::{Action, ActionKind, Applied, Document, ItemRefusal, List, Mapping, Row, Text};
+use document_rows::{ItemFault, root_row_of};
 use indexmap::IndexSet;
 use std::alloc::{AllocError, Global};
 use std::marker::Model;
@@ -219,7 +215,8 @@ impl Store {
             ActionKind::Delete => Ok(self.delete(action.id)?),
             ActionKind::Index | ActionKind::Create => {
                 let alloc = *self.slots.allocator();
-                let root = root_row_of(alloc, mapping, action.source.as_slice())?;
+                let mapping = OrderedMapping::of(mapping);
+                let root = root_row_of(alloc, &mapping, action.source.as_slice())?;
                 self.put(action, root)
             }
         }

@@ -1,5 +1,4 @@
 pub mod Computing
-pub mod Samples
 pub mod KeyCompare
 pub mod KeyExact
 pub mod FoldLaws
@@ -10,23 +9,14 @@ pub mod TreeLaws
 pub mod NodeForms
 pub mod DistinctKeys
 pub mod CounterLaws
-pub mod TraceLaws
-pub mod ListLaws
 pub mod WholeLaws
 pub mod MetricLaws
 pub mod UnionLaws
-pub mod AnyOrder
 pub mod SwapLaws
 pub mod AloneLaws
 pub mod SearchLaws
-pub mod NodeFolds
-pub mod CostLaws
-pub mod SearchCosts
-pub mod SumLaws
-pub mod CoverLaws
-pub mod KeyBounds
-pub mod BoundLaws
-pub mod TaskLaws
 pub mod BeginLaws
 pub mod AddUpLaws
-mod examples
+pub mod AggFolds
+pub mod QueryFolds
+pub mod NodeFolds

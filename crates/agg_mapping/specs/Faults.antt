@@ -2,7 +2,7 @@
 use Rattle.std.specs.Prelude.{◌≡◌, ℕ, List, [], Option, Some, None, Ok, Err, ⊤}
 use Rattle.agg_reading.specs.declared.fault.RequestFault.{RequestFault}
 use Rattle.agg_reading.specs.declared.fault.RequestFault.TheVariants.{NotJson, Bad, Memory}
-use Rattle.agg_reading.specs.Outcome.{Outcome}
+use Rattle.agg_reading.specs.Reading.{Reading}
 use Rattle.agg_mapping.specs.declared.fault.MapFault.{MapFault}
 use Rattle.agg_mapping.specs.declared.fault.MapFault.TheVariants as fault
 
@@ -13,7 +13,7 @@ place_of (Bad code at) = Some at
 place_of Memory = None
 
 -- where a walk ends in a refusal
-abbrev pub refused_at : {A : Type 0} → Outcome A → Option (List ℕ)
+abbrev pub refused_at : {A : Type 0} → Reading A → Option (List ℕ)
 refused_at (Ok x) = None
 refused_at (Err e) = place_of e
 
@@ -23,5 +23,5 @@ StandsAt place (fault.Refused path) = place ≡ Some path
 StandsAt place fault.Memory = ⊤
 
 -- the walk is refused where the fault says, unless memory ran out
-abbrev pub Refuses : {A : Type 0} → Outcome A → MapFault → Type 0
+abbrev pub Refuses : {A : Type 0} → Reading A → MapFault → Type 0
 Refuses walk fault = StandsAt (refused_at walk) fault

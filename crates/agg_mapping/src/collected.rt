@@ -1,15 +1,13 @@
 //! What the walk of `properties` collects, in the order of the walk, and its order by path at the end.
 
 ghost use Rattle.std.specs.Prelude.{◌≡◌, ◌+◌, ◌≤◌, [], false, length, IfOk};
+ghost use Rattle.agg_model.specs.declared.limits.TheConstants.{MAX_PATHS};
 
 use crate::paths::in_order;
-use agg_model::list::List;
-use agg_model::text::Text;
-use agg_reading::parts::{Found, FoundField, FoundPath};
+use agg_model::limits::MAX_PATHS;
+use agg_model::{List, Text};
+use agg_reading::{Found, FoundField, FoundPath};
 use std::alloc::{AllocError, Global};
-
-/// At most so many fields and nested paths.
-const MAX_PATHS: usize = 1_000;
 
 /// What the walk has met, in its order.
 #[derive(Drop)]
@@ -17,7 +15,7 @@ pub struct Collected {
     pub fields: List<FoundField>,
     pub nested: List<FoundPath>,
     pub objects: List<Text>,
-    ghost few: { length fields + length nested ≤ 1000 },
+    ghost few: { length fields + length nested ≤ MAX_PATHS },
 }
 
 impl Collected {

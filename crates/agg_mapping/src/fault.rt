@@ -2,8 +2,8 @@
 
 ghost use Rattle.agg_mapping.specs.Faults.{place_of, StandsAt};
 
-use agg_model::text::Text;
-use agg_reading::fault::RequestFault;
+use agg_model::Text;
+use agg_reading::RequestFault;
 use std::alloc::Global;
 
 /// Why there is no mapping, or no index line.

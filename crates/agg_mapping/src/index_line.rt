@@ -3,7 +3,7 @@
 ghost use Rattle.std.specs.Prelude.{◌≡◌, ◌++◌, [], codes, IfOk, IfErr, IfSome, Ok, Some};
 ghost use Rattle.serde_json.specs.View.{view, members_view};
 ghost use Rattle.json_walk.specs.Places.{pointer};
-ghost use Rattle.agg_reading.specs.Outcome.{Gives};
+ghost use Rattle.agg_reading.specs.Reading.{Gives};
 ghost use Rattle.agg_reading.specs.Json.{optional};
 ghost use Rattle.agg_reading.specs.Pointer.{member_step};
 ghost use Rattle.agg_reading.specs.Mapping.{mapping_at, empty_mapping};
@@ -15,25 +15,20 @@ ghost use Rattle.agg_mapping.specs.Paths.{IsOrdered};
 use crate::fault::{MapFault, map_fault};
 use crate::mapping::mapping;
 use crate::properties::REFUSED;
-use agg_model::list::List;
-use agg_model::mapping::Mapping;
-use agg_model::text::Text;
-use agg_reading::fault::RequestFault;
-use agg_reading::parts::IndexLine;
-use json_walk::at::At;
-use json_walk::bytes::reading;
-use json_walk::members::{check_names, member, object, text};
-use json_walk::scalars::whole;
+use agg_model::limits::{MAX_INDEX_NAME, MAX_SHARDS};
+use agg_model::{List, Mapping, Text};
+use agg_reading::{IndexLine, RequestFault};
+use json_walk::{At, check_names, member, object, reading, text, whole};
 use serde_json::{Map, Value};
 use std::alloc::Global;
 
-/// A number of shards: a whole number or decimal text from 1 to 1,024.
+/// A number of shards: a whole number or decimal text from 1 to `MAX_SHARDS`.
 #[tactic(auto, unfolding(agg_reading::specs::IndexLine::shards_at))]
 fn shards(alloc: Global, at: &At<'_>, value: &Value) -> Result<u32, RequestFault>
     ensures { Gives (λ x. x) result (shards_at (pointer at.now) (view value.now)) }
 {
     match whole(value) {
-        Some(n) if 1 <= n && n <= 1_024 => Ok(n as u32),
+        Some(n) if 1 <= n && n <= i128::from(MAX_SHARDS) => Ok(n as u32),
         _ => at.refuse(alloc, REFUSED),
     }
 }
@@ -157,13 +152,13 @@ fn settings(alloc: Global, at: &At<'_>, value: &Value) -> Result<u32, RequestFau
     Ok(shards.unwrap_or(1))
 }
 
-/// The name of an index: a text of 1 to 255 bytes.
+/// The name of an index: a text of 1 to `MAX_INDEX_NAME` bytes.
 #[tactic(auto, unfolding(agg_reading::specs::IndexLine::index_name_at))]
 fn index_name<'v>(alloc: Global, at: &At<'_>, value: &'v Value) -> Result<&'v str, RequestFault>
     ensures { Gives (λ s. s.now) result (index_name_at (pointer at.now) (view value.now)) }
 {
     let name = text(alloc, REFUSED, at, value)?;
-    if 0 < name.len() && name.len() <= 255 {
+    if 0 < name.len() && name.len() <= MAX_INDEX_NAME {
         Ok(name)
     } else {
         at.refuse(alloc, REFUSED)
@@ -267,9 +262,9 @@ fn index_line(alloc: Global, line: &[u8]) -> Result<IndexLine, RequestFault>
     index_value(alloc, &value)
 }
 
-/// The index line that the bytes are: an object with `index`, a text of 1 to 255 bytes, and at will `settings` and
-/// `mappings`. The first thing in the walk that breaks a rule is refused with its pointer, which is empty where the
-/// bytes are no JSON object.
+/// The index line that the bytes are: an object with `index`, a text of 1 to `MAX_INDEX_NAME` bytes, and at will
+/// `settings` and `mappings`. The first thing in the walk that breaks a rule is refused with its pointer, which is
+/// empty where the bytes are no JSON object.
 pub fn index_line_of(alloc: Global, line: &[u8]) -> Result<IndexLine, MapFault>
     ensures line { IfOk result (λ read. index_line_at line.now ≡ Ok read) }
     ensures ordered { IfOk result (λ read. IsOrdered read.mapping) }

@@ -5,13 +5,22 @@
 //! search.
 #![tactic(auto)]
 
-pub mod collected;
-pub mod fault;
-pub mod index_line;
-pub mod lookup;
-pub mod mapping;
-pub mod numbering;
-pub mod paths;
-pub mod properties;
+mod collected;
+mod fault;
+mod index_line;
+mod lookup;
+mod mapping;
+mod numbering;
+mod ordered;
+mod paths;
+mod properties;
 #[cfg(test)]
 mod tests;
+
+pub use collected::Collected;
+pub use fault::MapFault;
+pub use index_line::index_line_of;
+pub use lookup::{field, find_field, find_nested, is_object, nested};
+pub use mapping::mapping_of;
+pub use ordered::OrderedMapping;
+pub use paths::{HasPath, first, is_beneath};

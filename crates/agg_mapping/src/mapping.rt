@@ -3,7 +3,7 @@
 ghost use Rattle.std.specs.Prelude.{◌≡◌, [], codes, IfOk, IfErr, Ok};
 ghost use Rattle.serde_json.specs.View.{view, members_view};
 ghost use Rattle.json_walk.specs.Places.{pointer};
-ghost use Rattle.agg_reading.specs.Outcome.{Gives};
+ghost use Rattle.agg_reading.specs.Reading.{Gives};
 ghost use Rattle.agg_reading.specs.Json.{optional};
 ghost use Rattle.agg_reading.specs.Mapping.{dynamic_at, found_in, mapping_at};
 ghost use Rattle.agg_mapping.specs.Arranged.{arranged};
@@ -14,15 +14,12 @@ use crate::collected::Collected;
 use crate::fault::{MapFault, map_fault};
 use crate::numbering::numbered;
 use crate::properties::{REFUSED, properties_in};
-use agg_model::mapping::Mapping;
-use agg_reading::fault::RequestFault;
-use json_walk::at::At;
-use json_walk::members::{check_names, member, object};
+use agg_model::Mapping;
+use agg_model::limits::MAX_PROPERTY_LEVELS;
+use agg_reading::RequestFault;
+use json_walk::{At, check_names, member, object};
 use serde_json::{Map, Value};
 use std::alloc::Global;
-
-/// So many levels of `properties` may nest.
-const MAX_LEVELS: u32 = 20;
 
 /// Whether `dynamic` is strict: `false`, `"false"` or `"strict"`.
 #[tactic(auto, unfolding(agg_reading::specs::Mapping::dynamic_at))]
@@ -64,7 +61,7 @@ fn found_in(
     ensures { Gives arranged result (found_in (pointer at.now) (members_view members.now.entries)) }
 {
     let found = Collected::new(alloc);
-    properties_in(alloc, MAX_LEVELS, "", "", at, found, members)
+    properties_in(alloc, MAX_PROPERTY_LEVELS, "", "", at, found, members)
 }
 
 /// The mapping that a value is.
@@ -81,8 +78,8 @@ pub(crate) fn mapping(alloc: Global, at: &At<'_>, value: &Value) -> Result<Mappi
 }
 
 /// The mapping that a JSON value is: the members `dynamic` and `properties` of an object, where properties are at most
-/// 1,000 fields and nested paths, at most 20 levels deep. The first thing in the walk that breaks a rule is refused
-/// with its pointer.
+/// `MAX_PATHS` fields and nested paths, at most `MAX_PROPERTY_LEVELS` levels deep. The first thing in the walk that
+/// breaks a rule is refused with its pointer.
 pub fn mapping_of(alloc: Global, value: &Value) -> Result<Mapping, MapFault>
     ensures mapping { IfOk result (λ m. mapping_at [] (view value.now) ≡ Ok m) }
     ensures ordered { IfOk result IsOrdered }

@@ -7,18 +7,16 @@ ghost use Rattle.agg_mapping.specs.Paths.{AscendsBy, IsOrdered};
 
 use crate::collected::Collected;
 use crate::paths::first;
-use agg_model::copying::Copying;
-use agg_model::list::List;
-use agg_model::mapping::{Field, Mapping, NestedPath};
-use agg_model::text::Text;
-use agg_reading::parts::{Found, FoundField, FoundPath};
+use agg_model::limits::MAX_PATHS;
+use agg_model::{Copying, Field, List, Mapping, NestedPath, Text};
+use agg_reading::{Found, FoundField, FoundPath};
 use std::alloc::{AllocError, Global};
 
 /// The context of what a nested path encloses; the empty path is the root.
 #[tactic(auto, unfolding(agg_reading::specs::Mapping::context_of))]
 fn context_of(nested: &[FoundPath], within: &Text) -> u32
     requires ascends { AscendsBy (λ p. p.path) nested.now }
-    requires few { length nested.now ≤ 1000 }
+    requires few { length nested.now ≤ MAX_PATHS }
     ensures { result ≡ context_of nested.now within.now }
 {
     match first(nested, within.as_str().as_bytes()) {
@@ -31,7 +29,7 @@ fn context_of(nested: &[FoundPath], within: &Text) -> u32
 #[tactic(auto, unfolding(agg_reading::specs::Mapping::numbered_field))]
 fn numbered_field(nested: &[FoundPath], field: FoundField) -> Field
     requires ascends { AscendsBy (λ p. p.path) nested.now }
-    requires few { length nested.now ≤ 1000 }
+    requires few { length nested.now ≤ MAX_PATHS }
     ensures { result ≡ numbered_field nested.now field }
 {
     let context = context_of(nested, &field.within);
@@ -57,7 +55,7 @@ fn numbered_path(
     path: &FoundPath,
 ) -> Result<NestedPath, AllocError>
     requires ascends { AscendsBy (λ p. p.path) nested.now }
-    requires few { length nested.now ≤ 1000 }
+    requires few { length nested.now ≤ MAX_PATHS }
     ensures { IfOk result (λ p. p ≡ numbered_path nested.now path.now) }
 {
     Ok(NestedPath {
@@ -73,7 +71,7 @@ fn numbered_fields(
     fields: List<FoundField>,
 ) -> Result<List<Field>, AllocError>
     requires ascends { AscendsBy (λ p. p.path) nested.now }
-    requires few { length nested.now ≤ 1000 }
+    requires few { length nested.now ≤ MAX_PATHS }
     ensures { IfOk result (λ fs. fs ≡ map (numbered_field nested.now) fields) }
 {
     let mut all = List::new(alloc);
@@ -87,7 +85,7 @@ fn numbered_fields(
 /// among all of them.
 fn numbered_paths(alloc: Global, nested: &[FoundPath]) -> Result<List<NestedPath>, AllocError>
     requires ascends { AscendsBy (λ p. p.path) nested.now }
-    requires few { length nested.now ≤ 1000 }
+    requires few { length nested.now ≤ MAX_PATHS }
     ensures { IfOk result (λ ps. ps ≡ map (numbered_path nested.now) nested.now) }
 {
     let mut all = List::new(alloc);

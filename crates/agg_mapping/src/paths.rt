@@ -1,14 +1,13 @@
 //! Paths, items that have one, and the search for one among many.
 
 ghost use Rattle.std.specs.Prelude.{◌≡◌, ◌<◌, [], ℕ, List, IfOk, IfSome, length, option_map};
+ghost use Rattle.list_laws.specs.Sorting.{sorted};
 ghost use Rattle.agg_reading.specs.Fields.{is_beneath};
-ghost use Rattle.agg_mapping.specs.Arranged.{placed};
+ghost use Rattle.agg_reading.specs.Properties.{by_path};
 ghost use Rattle.agg_mapping.specs.Paths.{AscendsBy, first_from};
 
-use agg_model::list::List as Items;
-use agg_model::mapping::{Field, NestedPath};
-use agg_model::text::Text;
-use agg_reading::parts::{FoundField, FoundPath};
+use agg_model::{Field, List as Items, NestedPath, Text};
+use agg_reading::{FoundField, FoundPath};
 use std::alloc::AllocError;
 
 /// What has a path: names from the root, joined by dots.
@@ -70,7 +69,7 @@ pub fn is_beneath(outer: &[u8], path: &[u8]) -> bool
 
 /// The items in byte order of their paths; those with one path keep their order.
 pub(crate) fn in_order<T: HasPath + Drop>(items: Items<T>) -> Result<Items<T>, AllocError>
-    ensures placed { IfOk result (λ xs. xs ≡ placed T.path_of [] items) }
+    ensures value { IfOk result (λ xs. xs ≡ sorted (by_path T.path_of) items) }
     ensures ascends { IfOk result (AscendsBy T.path_of) }
 {
     let mut all = items.into_vec();

@@ -1,29 +1,27 @@
-//! The walk of `properties`. A refusal of an index line has the number 31.
+//! The walk of `properties`. A refusal of an index line is `BAD_INDEX_LINE`.
 
 ghost use Rattle.std.specs.Prelude.{◌≡◌, ◌++◌, ◌==◌, ◌≤◌, IfOk, codes, string_bytes};
 ghost use Rattle.std.specs.List.{list_any};
 ghost use Rattle.serde_json.specs.Find.{get_member};
 ghost use Rattle.serde_json.specs.View.{view, members_view};
 ghost use Rattle.json_walk.specs.Places.{pointer};
-ghost use Rattle.agg_reading.specs.Outcome.{Gives};
+ghost use Rattle.agg_reading.specs.Reading.{Gives};
 ghost use Rattle.agg_reading.specs.Json.{known, optional};
 ghost use Rattle.agg_reading.specs.Properties.{is_field_name, type_named, type_at, type_in, leaf_names, bound_at, leaf_at, fields_from, properties_at, properties_of, inner_at, property_at};
 ghost use Rattle.agg_reading.specs.Pointer.{member_step};
 ghost use Rattle.agg_mapping.specs.Arranged.{arranged};
 
 use crate::collected::Collected;
-use agg_model::mapping::FieldKind;
-use agg_model::text::Text;
-use agg_reading::fault::RequestFault;
-use agg_reading::names::FieldType;
-use agg_reading::parts::FoundField;
-use json_walk::at::At;
-use json_walk::members::{check_names, member, object, text};
+use agg_model::limits::{MAX_FIELD_NAME, MAX_IGNORE_ABOVE};
+use agg_model::script_refusal::BAD_INDEX_LINE;
+use agg_model::{FieldKind, Text};
+use agg_reading::{FieldType, FoundField, RequestFault};
+use json_walk::{At, check_names, member, object, text};
 use serde_json::{Map, Value};
 use std::alloc::{AllocError, Global};
 
-/// The number of every refusal of an index line.
-pub(crate) const REFUSED: u16 = 31;
+/// `BAD_INDEX_LINE` as the readers of JSON take it.
+pub(crate) const REFUSED: u16 = BAD_INDEX_LINE as u16;
 
 /// Whether a name holds a dot.
 fn has_dot(name: &[u8]) -> bool
@@ -37,12 +35,12 @@ fn has_dot(name: &[u8]) -> bool
     false
 }
 
-/// Whether a name is 1 to 255 bytes without a dot.
+/// Whether a name is 1 to `MAX_FIELD_NAME` bytes without a dot.
 #[tactic(auto, unfolding(agg_reading::specs::Properties::is_field_name))]
 fn is_field_name(name: &str) -> bool
     ensures { result ≡ is_field_name name.now }
 {
-    0 < name.len() && name.len() <= 255 && !has_dot(name.as_bytes())
+    0 < name.len() && name.len() <= MAX_FIELD_NAME && !has_dot(name.as_bytes())
 }
 
 /// The type that a word names.
@@ -100,7 +98,7 @@ fn check_leaf_names(
     at: &At<'_>,
     members: &Map<String, Value>,
 ) -> Result<(), RequestFault>
-    ensures { Gives (λ u. u) result (known 31 (leaf_names kind) (pointer at.now) (members_view members.now.entries)) }
+    ensures { Gives (λ u. u) result (known BAD_INDEX_LINE (leaf_names kind) (pointer at.now) (members_view members.now.entries)) }
 {
     match kind {
         FieldKind::Keyword => check_names(
@@ -131,7 +129,7 @@ fn check_leaf_names(
     }
 }
 
-/// A whole number from 0 to 2,147,483,647.
+/// A whole number from 0 to `MAX_IGNORE_ABOVE`.
 #[tactic(auto, unfolding(agg_reading::specs::Properties::bound_at))]
 fn bound(alloc: Global, at: &At<'_>, value: &Value) -> Result<u32, RequestFault>
     ensures { Gives (λ x. x) result (bound_at (pointer at.now) (view value.now)) }
@@ -140,7 +138,7 @@ fn bound(alloc: Global, at: &At<'_>, value: &Value) -> Result<u32, RequestFault>
         return at.refuse(alloc, REFUSED);
     };
     match number.as_u64() {
-        Some(n) if n <= 2_147_483_647 => Ok(n as u32),
+        Some(n) if n <= MAX_IGNORE_ABOVE => Ok(n as u32),
         _ => at.refuse(alloc, REFUSED),
     }
 }

@@ -11,7 +11,7 @@ use Rattle.document_terms.specs.SmallSearch.{HaveKeywords}
 use Rattle.agg_program.specs.Documents.{document_id, documents_of, documents, sources, with_keyword, IsNumbered}
 use Rattle.agg_program.specs.Reading.{Takes, Indexes}
 use Rattle.agg_reading.specs.Lines.{Line, Place, Script, past}
-use Rattle.agg_reading.specs.Outcome.{◌>>◌}
+use Rattle.agg_reading.specs.Reading.{◌>>◌}
 
 abbrev numbered : ℕ × List ℕ → Document
 numbered k = keyword_document (document_id k.0) (document_id k.0) k.1

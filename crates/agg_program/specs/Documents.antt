@@ -5,7 +5,7 @@ use Rattle.std.specs.List.{enumerate_from}
 use Rattle.std.specs.Str.{bytes_eq}
 use Rattle.std.specs.Fmt.{decimal}
 use Rattle.agg_model.specs.declared.row.Document.{Document}
-use Rattle.agg_reading.specs.Outcome.{◌>>◌}
+use Rattle.agg_reading.specs.Reading.{◌>>◌}
 use Rattle.agg_reading.specs.Lines.{Script, Line, Place, start, past, is_empty_line}
 use Rattle.keyword_documents.specs.SmallForm.{keyword_of, keyword_document}
 use Rattle.agg_program.specs.SmallForm.{not_built, within, index_text, action_text}

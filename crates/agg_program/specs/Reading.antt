@@ -1,7 +1,7 @@
 -- What reading one line answers of the rest of a script.
-use Rattle.std.specs.Prelude.{◌≡◌, ◌⊎◌, ◌≤◌, ℕ, List, [], ◌∷◌, ◌++◌, Option, Some, None, Result, Ok, Err, option_map, ⊤}
+use Rattle.std.specs.Prelude.{◌≡◌, ◌⊎◌, ℕ, List, [], ◌∷◌, ◌++◌, Option, Some, None, Result, Ok, Err, option_map, ⊤}
 use Rattle.agg_reading.specs.Lines.{Line, Place, Script, lines, past}
-use Rattle.agg_base.specs.Lines.{unread, position, handed, source_of, source_name}
+use Rattle.agg_base.specs.Lines.{unread, position, handed}
 use Rattle.agg_base.specs.declared.lines.LineFault.{LineFault}
 use Rattle.agg_base.specs.declared.lines.LineFault.TheVariants as fault
 use Rattle.agg_base.specs.declared.lines.Lines.{Lines}
@@ -51,10 +51,6 @@ abbrev pub Follows : {X O : Type 0} → (ℕ → O) → O → Result X Stop → 
 Follows refusal whole (Ok x) next left = (ls : List Line) × (left ≡ Some ls) × (whole ≡ next x ls)
 Follows refusal whole (Err (NotBuilt line)) next left = whole ≡ refusal line
 Follows refusal whole (Err _) next left = ⊤
-
--- what stays the same while a script is read
-abbrev pub KeepsSource : {S : Type 0} {g : Ghosts S} → Lines S g → Lines S g → Type 0
-KeepsSource {g = g} old new = (g.faults (source_of old) ≤ g.faults (source_of new)) × (source_name new ≡ source_name old)
 
 -- One more document in the store, after the documents with these keywords: by the source line that was read.
 abbrev pub Indexes : List (List ℕ) → Place → List Line → Result ⊤ Stop → List Document → Place → Option (List Line) → Type 0

@@ -19,12 +19,8 @@ use crate::reading::{is_empty_line, next_line, not_built_here, take_line};
 use crate::search::{BODY_BACK, BODY_FRONT, MAX_NAME, loaded_line, search_line};
 use crate::stop::Stop;
 use crate::writing::write_line;
-use agg_base::lines::Lines;
-use agg_base::sink::Sink;
-use agg_base::source::{Failed, Source};
-use agg_model::list::List;
-use agg_model::row::Document;
-use agg_model::text::Text;
+use agg_base::{Failed, Lines, Sink, Source};
+use agg_model::{Document, List, Text};
 use std::alloc::{AllocError, Global};
 
 /// The one header that is built so far.

@@ -11,14 +11,9 @@ ghost use Rattle.agg_program.specs.Reading.{place_of, rest_of, Follows, Indexes,
 
 use crate::reading::{is_empty_line, not_built_here, take_line};
 use crate::stop::Stop;
-use agg_base::lines::Lines;
-use agg_base::source::Source;
-use agg_model::bulk::{Action, ActionKind};
-use agg_model::bytes::Bytes;
-use agg_model::copying::Copying;
-use agg_model::text::Text;
-use keyword_documents::document::ItemFault;
-use keyword_documents::store::Store;
+use agg_base::{Lines, Source};
+use agg_model::{Action, ActionKind, Bytes, Copying, Text};
+use keyword_documents::{ItemFault, Store};
 use std::alloc::{AllocError, Global};
 
 /// The one index that is built so far.

@@ -10,9 +10,8 @@ ghost use Rattle.agg_program.specs.Reading.{place_of, rest_of, Reads, Takes, sto
 ghost use Rattle.agg_program.specs.declared.stop.Stop.TheVariants.{Read, Write, NotBuilt, Memory};
 
 use crate::stop::Stop;
-use agg_base::lines::{LineFault, Lines};
-use agg_base::source::Source;
-use agg_model::bytes::Bytes;
+use agg_base::{LineFault, Lines, Source};
+use agg_model::Bytes;
 use std::alloc::Global;
 
 /// Whether a line has no byte, or only a carriage return.

@@ -10,9 +10,7 @@ ghost use Rattle.agg_program.specs.Reading.{place_of, rest_of};
 use crate::answers::{answer_actions, answer_all};
 use crate::documents::load;
 use crate::stop::Stop;
-use agg_base::lines::{Block, Lines};
-use agg_base::sink::Sink;
-use agg_base::source::Source;
+use agg_base::{Block, Lines, Sink, Source};
 use std::alloc::Global;
 
 /// Answers the lines of a script, from its start.

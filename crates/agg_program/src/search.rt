@@ -5,16 +5,10 @@ ghost use Rattle.document_terms.specs.SmallSearch.{HaveKeywords};
 ghost use Rattle.agg_program.specs.Answers.{search_named, search_line, item_of, loaded_line};
 ghost use Rattle.agg_program.specs.Documents.{max_actions};
 
-use agg_model::aggregation::Search;
-use agg_model::bulk::{ActionKind, Applied, Item, ItemEnd};
-use agg_model::copying::Copying;
-use agg_model::list::List;
-use agg_model::row::Document;
-use agg_model::settings::Usage;
-use agg_model::text::Text;
+use agg_model::{ActionKind, Applied, Copying, Document, Item, ItemEnd, List, Search, Text, Usage};
 use agg_response::{bulk_line, response, script_line, usage_line};
-use document_answer::answer::answer_of;
-use document_terms::search::terms_search;
+use document_answer::answer_of;
+use document_terms::terms_search;
 use std::alloc::{AllocError, Global};
 
 pub(crate) const BODY_FRONT: &[u8] = b"{\"aggs\":{\"";

@@ -5,12 +5,9 @@ mod faults;
 mod large;
 mod refusals;
 
-use crate::run::run;
-use agg_base::memory_sink::MemorySink;
-use agg_base::memory_source::MemorySource;
-use agg_model::bytes::Bytes;
-use agg_model::list::List;
-use agg_model::text::Text;
+use crate::running::run;
+use agg_base::{MemorySink, MemorySource};
+use agg_model::{Bytes, List, Text};
 use std::alloc::{AllocError, Global};
 use std::test::Fail;
 

@@ -3,9 +3,8 @@ ghost use Rattle.std.specs.Prelude.{◌≡◌, ◌≤◌, ◌<◌, ◌+◌, ◌+
 ghost use Rattle.std.specs.Io.KnownBytes.{append_known};
 ghost use Rattle.agg_base.specs.Outside.{Rose};
 
-use agg_base::sink::{Sink, write_all};
-use agg_base::source::Failed;
-use agg_model::text::Text;
+use agg_base::{Failed, Sink, write_all};
+use agg_model::Text;
 
 /// Writes a line with its newline. After a fault a front of them was written.
 pub(crate) fn write_line<K: Sink>(sink: &mut K, line: &Text) -> Result<(), Failed>

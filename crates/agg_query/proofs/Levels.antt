@@ -4,7 +4,7 @@ use Rattle.std.specs.Prelude.{nat_le}
 use Rattle.std.proofs.lemmas.Bool.Decides.{nat_tests}
 use Rattle.serde_json.specs.Data.{Data}
 use Rattle.agg_model.specs.declared.mapping.Mapping.{Mapping}
-use Rattle.agg_reading.specs.Outcome.{◌>>=◌, refuse}
+use Rattle.agg_reading.specs.Reading.{◌>>=◌, refuse}
 use Rattle.agg_reading.specs.Json.{object_at, sole_at}
 use Rattle.agg_reading.specs.Query.{named_at, query_at}
 

@@ -13,7 +13,7 @@ use Rattle.agg_model.specs.declared.query.RangeTest.{RangeTest}
 use Rattle.agg_reading.specs.declared.fault.RequestFault.TheVariants.{NotJson, Bad, Memory}
 use Rattle.agg_reading.specs.declared.names.QueryName.{QueryName}
 use Rattle.agg_reading.specs.declared.names.QueryName.TheVariants as name
-use Rattle.agg_reading.specs.Outcome.{Outcome, ◌>>=◌, refuse, or_refuse, Gives}
+use Rattle.agg_reading.specs.Reading.{Reading, ◌>>=◌, refuse, or_refuse, Gives}
 use Rattle.agg_reading.specs.Pointer.{member_step, item_step}
 use Rattle.agg_reading.specs.Json.{object_at, list_at, text_at, required, optional_of, known, is_among, sole_at}
 use Rattle.agg_reading.specs.Numbers.{number_at, in_range, whole_at}
@@ -22,7 +22,7 @@ use Rattle.agg_reading.specs.Leaves.{value_at, field_in, about, match_all_at, bo
 use Rattle.agg_reading.specs.Query.{Counted, query_name, queries_from, clause_of, clause_at, all_at, clauses_at, bool_at, nested_at, path_in, within_at, named, named_at, query_at}
 
 -- a value, or a refusal that is not of the bytes
-pub record IsReadable {A : Type 0} (read : Outcome A) : Type 0 where
+pub record IsReadable {A : Type 0} (read : Reading A) : Type 0 where
   pub json : read ≢ Err NotJson
 
 value : {A : Type 0} (x : A) → IsReadable {A = A} (Ok x)
@@ -35,13 +35,13 @@ found : {A : Type 0} (code : ℕ) (at : List ℕ) (x : Option A) → IsReadable 
 found code at (Some x) = value x
 found code at None = refused code at
 
-then : {A B : Type 0} (r : Outcome A) (f : A → Outcome B) → IsReadable r → ((x : A) → IsReadable (f x)) → IsReadable (r >>= f)
+then : {A B : Type 0} (r : Reading A) (f : A → Reading B) → IsReadable r → ((x : A) → IsReadable (f x)) → IsReadable (r >>= f)
 then (Ok x) f h k = k x
 then (Err NotJson) f h k = absurd (h.json refl)
 then (Err (Bad code at)) f h k = refused code at
 then (Err Memory) f h k = record { json = λ q. cc }
 
-either : {A : Type 0} (b : Bool) (r q : Outcome A) → IsReadable r → IsReadable q → IsReadable (cond b r q)
+either : {A : Type 0} (b : Bool) (r q : Reading A) → IsReadable r → IsReadable q → IsReadable (cond b r q)
 either true r q h k = h
 either false r q h k = k
 
@@ -78,7 +78,7 @@ a_number : (least most : ℕ) (at : List ℕ) (d : Data) → IsReadable (whole_a
 unfolding whole_at number_at
 a_number least most at d = then _ _ (found 103 at _) (λ n. within_range least most at (as_u64 n))
 
-maybe : {A : Type 0} (f : List ℕ → Data → Outcome A) (at : List ℕ) (d : Option Data) → ((at : List ℕ) (d : Data) → IsReadable (f at d)) → IsReadable (optional_of f at d)
+maybe : {A : Type 0} (f : List ℕ → Data → Reading A) (at : List ℕ) (d : Option Data) → ((at : List ℕ) (d : Data) → IsReadable (f at d)) → IsReadable (optional_of f at d)
 maybe f at None h = value None
 maybe f at (Some d) h = then (f at d) _ (h at d) (λ x. value (Some x))
 
@@ -189,7 +189,7 @@ a_path m context at ms =
     then _ _ (a_member (codes "path") at ms) (λ d. then _ _ (a_text 103 _ d) (λ path. a_nested m context _ path))
 
 -- queries within a query, where each is readable
-module _ (read : ℕ → List ℕ → Data → Outcome Counted) (each : (count : ℕ) (at : List ℕ) (d : Data) → IsReadable (read count at d)) where
+module _ (read : ℕ → List ℕ → Data → Reading Counted) (each : (count : ℕ) (at : List ℕ) (d : Data) → IsReadable (read count at d)) where
   some_queries : (at : List ℕ) (n : ℕ) (done : List Query) (count : ℕ) (ds : Items) → IsReadable (queries_from read at n done count ds)
   unfolding queries_from
   some_queries at n done count no_items = value _
@@ -230,7 +230,7 @@ module _ (read : ℕ → List ℕ → Data → Outcome Counted) (each : (count :
   unfolding bool_at
   a_bool at count d = then _ _ (an_object 103 at d) (λ ms. then _ _ (names 101 _ at ms) (λ u. the_clauses at count ms))
 
-module _ (read : ℕ → ℕ → List ℕ → Data → Outcome Counted) (each : (context count : ℕ) (at : List ℕ) (d : Data) → IsReadable (read context count at d)) where
+module _ (read : ℕ → ℕ → List ℕ → Data → Reading Counted) (each : (context count : ℕ) (at : List ℕ) (d : Data) → IsReadable (read context count at d)) where
   a_within : (m : Mapping) (context : ℕ) (at : List ℕ) (count : ℕ) (d : Data) → IsReadable (within_at read m context at count d)
   unfolding within_at
   a_within m context at count d =
@@ -261,7 +261,7 @@ a_query (suc left) m context before at d =
     a_name (query_at left m) (a_query left m) m context at (before + 1) said.0 said.1)))
 
 -- what is given for a readable outcome is one
-pub no_other : {X Y : Type 0} (view : X → Y) (result : Outcome X) (read : Outcome Y) → Gives view result read → IsReadable read → result ≢ Err NotJson
+pub no_other : {X Y : Type 0} (view : X → Y) (result : Reading X) (read : Reading Y) → Gives view result read → IsReadable read → result ≢ Err NotJson
 no_other view (Ok x) read h k = λ q. cc
 no_other view (Err NotJson) read h k = λ q. k.json h
 no_other view (Err (Bad code at)) read h k = λ q. cc

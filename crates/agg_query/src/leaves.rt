@@ -3,37 +3,35 @@
 ghost use Rattle.std.specs.Prelude.{◌≡◌, ◌∷◌, [], None, codes};
 ghost use Rattle.serde_json.specs.View.{view, items_view, members_view};
 ghost use Rattle.json_walk.specs.Places.{pointer};
-ghost use Rattle.agg_reading.specs.Outcome.{Gives, or_refuse};
+ghost use Rattle.agg_reading.specs.Reading.{Gives, or_refuse};
 ghost use Rattle.agg_reading.specs.Json.{sole_besides};
 ghost use Rattle.agg_reading.specs.Leaves.{about, match_all_at, boxed_value, term_value, term_at, terms_at, test_at, tests_at, range_at, exists_at, ids_from, ids_at};
 ghost use Rattle.agg_mapping.specs.Paths.{IsOrdered};
 
 use crate::fields::{field, field_in};
 use crate::probes::{probe, probe_list};
-use agg_model::list::List;
-use agg_model::mapping::{FieldKind, Mapping};
-use agg_model::query::{Probe, Query, RangeOp, RangeTest};
-use agg_model::text::Text;
-use agg_reading::fault::RequestFault;
-use json_walk::at::At;
-use json_walk::members::{check_names, list, member, object, required, sole_besides, text};
+use agg_model::body_refusal::{
+    LIMIT_EXCEEDED, NO_SUCH_FIELD, NOT_ONE_MEMBER, UNKNOWN_MEMBER, WRONG_TYPE,
+};
+use agg_model::limits::MAX_LIST_VALUES;
+use agg_model::{FieldKind, List, Mapping, Probe, Query, RangeOp, RangeTest, Text};
+use agg_reading::RequestFault;
+use json_walk::{At, check_names, list, member, object, required, sole_besides, text};
 use serde_json::{Map, Value};
 use std::alloc::Global;
 
-/// At most so many ids in a list.
-const MAX_IDS: usize = 65_536;
-
-/// The only member beside `boost`; the object is refused with 107 where there is no such member or more than one.
+/// The only member beside `boost`; the object is refused with `NOT_ONE_MEMBER` where there is no such member or more
+/// than one.
 fn sole_subject<'v>(
     alloc: Global,
     at: &At<'_>,
     members: &'v Map<String, Value>,
 ) -> Result<(&'v str, &'v Value), RequestFault>
     ensures { Gives (λ x. (x.0.now, view x.1.now)) result
-        (or_refuse 107 (pointer at.now) (sole_besides (codes "boost" ∷ []) None (members_view members.now.entries))) }
+        (or_refuse NOT_ONE_MEMBER (pointer at.now) (sole_besides (codes "boost" ∷ []) None (members_view members.now.entries))) }
 {
     let Some((path, said)) = sole_besides(members, &["boost"]) else {
-        return at.refuse(alloc, 107);
+        return at.refuse(alloc, NOT_ONE_MEMBER);
     };
     Ok((path, said))
 }
@@ -47,7 +45,7 @@ fn subject<'v>(
 ) -> Result<(&'v str, &'v Value), RequestFault>
     ensures { Gives (λ x. (x.0.now, view x.1.now)) result (about (pointer at.now) (view value.now)) }
 {
-    let members = object(alloc, 103, at, value)?;
+    let members = object(alloc, WRONG_TYPE, at, value)?;
     sole_subject(alloc, at, members)
 }
 
@@ -56,8 +54,8 @@ fn subject<'v>(
 pub fn match_all(alloc: Global, at: &At<'_>, value: &Value) -> Result<Query, RequestFault>
     ensures { Gives (λ q. q) result (match_all_at (pointer at.now) (view value.now)) }
 {
-    let members = object(alloc, 103, at, value)?;
-    check_names(alloc, 101, at, members, &["boost"])?;
+    let members = object(alloc, WRONG_TYPE, at, value)?;
+    check_names(alloc, UNKNOWN_MEMBER, at, members, &["boost"])?;
     Ok(Query::All)
 }
 
@@ -71,7 +69,7 @@ fn boxed_value(
 ) -> Result<Probe, RequestFault>
     ensures { Gives (λ p. p) result (boxed_value kind (pointer at.now) (members_view members.now.entries)) }
 {
-    check_names(alloc, 101, at, members, &["boost", "value"])?;
+    check_names(alloc, UNKNOWN_MEMBER, at, members, &["boost", "value"])?;
     let value = required(alloc, at, members, "value")?;
     probe(alloc, kind, &At::Member(at, "value"), value)
 }
@@ -111,7 +109,7 @@ pub fn term(
     })
 }
 
-/// `terms`: a list of at most 65,536 values of a field.
+/// `terms`: a list of at most `MAX_LIST_VALUES` values of a field.
 #[tactic(auto, unfolding(agg_reading::specs::Leaves::terms_at))]
 pub fn terms(
     alloc: Global,
@@ -165,10 +163,10 @@ fn tests(
 ) -> Result<List<RangeTest>, RequestFault>
     ensures { Gives (λ ts. ts) result (tests_at kind (pointer at.now) (view value.now)) }
 {
-    let members = object(alloc, 103, at, value)?;
+    let members = object(alloc, WRONG_TYPE, at, value)?;
     check_names(
         alloc,
-        101,
+        UNKNOWN_MEMBER,
         at,
         members,
         &["boost", "gt", "gte", "lt", "lte"],
@@ -181,7 +179,7 @@ fn tests(
     Ok(tests)
 }
 
-/// `range`: tests of a field of whole numbers or keywords; one of booleans is refused with 108.
+/// `range`: tests of a field of whole numbers or keywords; one of booleans is refused with `NO_SUCH_FIELD`.
 #[tactic(auto, unfolding(agg_reading::specs::Leaves::range_at))]
 pub fn range(
     alloc: Global,
@@ -196,7 +194,7 @@ pub fn range(
     let field_at = At::Member(at, path);
     let (place, field) = field(alloc, mapping, &field_at, path)?;
     if let FieldKind::Boolean = field.kind {
-        return field_at.refuse(alloc, 108);
+        return field_at.refuse(alloc, NO_SUCH_FIELD);
     }
     Ok(Query::Range {
         field: place,
@@ -215,13 +213,14 @@ pub fn exists(
     requires { IsOrdered mapping.now }
     ensures { Gives (λ q. q) result (exists_at mapping.now (pointer at.now) (view value.now)) }
 {
-    let members = object(alloc, 103, at, value)?;
-    check_names(alloc, 101, at, members, &["boost", "field"])?;
+    let members = object(alloc, WRONG_TYPE, at, value)?;
+    check_names(alloc, UNKNOWN_MEMBER, at, members, &["boost", "field"])?;
     let (place, _) = field_in(alloc, mapping, at, members)?;
     Ok(Query::Exists { field: place })
 }
 
-/// The ids of the items. The first item that is no text is refused with 103, the 65,537th with 111, each at its place.
+/// The ids of the items. The first item that is no text is refused with `WRONG_TYPE`, one beyond `MAX_LIST_VALUES` with
+/// `LIMIT_EXCEEDED`, each at its place.
 #[tactic(auto, unfolding(agg_reading::specs::Leaves::ids_from))]
 fn id_list(alloc: Global, at: &At<'_>, items: &Vec<Value>) -> Result<List<Text>, RequestFault>
     ensures { Gives (λ ids. ids) result (ids_from (pointer at.now) 0 [] (items_view items.now.items)) }
@@ -229,25 +228,25 @@ fn id_list(alloc: Global, at: &At<'_>, items: &Vec<Value>) -> Result<List<Text>,
     let mut ids = List::new(alloc);
     for (place, item) in items.iter().enumerate() {
         let at = At::Item(at, place);
-        if place >= MAX_IDS {
-            return at.refuse(alloc, 111);
+        if place >= MAX_LIST_VALUES {
+            return at.refuse(alloc, LIMIT_EXCEEDED);
         }
-        let id = text(alloc, 103, &at, item)?;
+        let id = text(alloc, WRONG_TYPE, &at, item)?;
         ids.push(Text::of(alloc, id)?)?;
     }
     Ok(ids)
 }
 
-/// `ids`: a list of at most 65,536 ids of documents.
+/// `ids`: a list of at most `MAX_LIST_VALUES` ids of documents.
 #[tactic(auto, unfolding(agg_reading::specs::Leaves::ids_at))]
 pub fn ids(alloc: Global, at: &At<'_>, value: &Value) -> Result<Query, RequestFault>
     ensures { Gives (λ q. q) result (ids_at (pointer at.now) (view value.now)) }
 {
-    let members = object(alloc, 103, at, value)?;
-    check_names(alloc, 101, at, members, &["boost", "values"])?;
+    let members = object(alloc, WRONG_TYPE, at, value)?;
+    check_names(alloc, UNKNOWN_MEMBER, at, members, &["boost", "values"])?;
     let said = required(alloc, at, members, "values")?;
     let at = At::Member(at, "values");
-    let items = list(alloc, 103, &at, said)?;
+    let items = list(alloc, WRONG_TYPE, &at, said)?;
     Ok(Query::Ids {
         values: id_list(alloc, &at, items)?,
     })

@@ -4,9 +4,14 @@
 //! JSON stands for in a field.
 #![tactic(auto)]
 
-pub mod fields;
-pub mod leaves;
-pub mod probes;
-pub mod query;
+mod fields;
+mod leaves;
+mod probes;
+mod query;
 #[cfg(test)]
 mod tests;
+
+pub use fields::{field, field_in, nested, path_in};
+pub use leaves::{exists, ids, match_all, range, term, terms};
+pub use probes::{missing, missing_in, probe, probe_list, probe_list_in};
+pub use query::{counted_query_at, query_of};

@@ -3,27 +3,20 @@
 ghost use Rattle.std.specs.Prelude.{◌≡◌, [], codes};
 ghost use Rattle.serde_json.specs.View.{view, items_view, members_view};
 ghost use Rattle.json_walk.specs.Places.{pointer};
-ghost use Rattle.agg_reading.specs.Outcome.{Gives};
+ghost use Rattle.agg_reading.specs.Reading.{Gives};
 ghost use Rattle.agg_reading.specs.Json.{optional};
 ghost use Rattle.agg_reading.specs.Leaves.{value_at, values_from, values_at};
 ghost use Rattle.agg_reading.specs.Terms.{missing_at};
 
-use agg_model::list::List;
-use agg_model::mapping::FieldKind;
-use agg_model::query::Probe;
-use agg_model::row::Scalar;
-use agg_reading::fault::RequestFault;
-use json_walk::at::At;
-use json_walk::members::{list, member};
-use json_walk::ranges::stored;
-use json_walk::scalars::probe_of;
+use agg_model::body_refusal::{LIMIT_EXCEEDED, OUT_OF_RANGE, WRONG_TYPE};
+use agg_model::limits::MAX_LIST_VALUES;
+use agg_model::{FieldKind, List, Probe, Scalar};
+use agg_reading::RequestFault;
+use json_walk::{At, list, member, probe_of, stored};
 use serde_json::{Map, Value};
 use std::alloc::Global;
 
-/// At most so many values in a list.
-const MAX_VALUES: usize = 65_536;
-
-/// What the value is for a field of this kind; a value that is none for such a field is refused with 104.
+/// What the value is for a field of this kind; a value that is none for such a field is refused with `OUT_OF_RANGE`.
 #[tactic(auto, unfolding(agg_reading::specs::Leaves::value_at))]
 pub fn probe(
     alloc: Global,
@@ -35,12 +28,12 @@ pub fn probe(
 {
     match probe_of(alloc, kind, value)? {
         Some(found) => Ok(found),
-        None => at.refuse(alloc, 104),
+        None => at.refuse(alloc, OUT_OF_RANGE),
     }
 }
 
-/// The values of the items, for a field of this kind. The first item that is none is refused with 104, the 65,537th
-/// with 111, each at its place.
+/// The values of the items, for a field of this kind. The first item that is none is refused with `OUT_OF_RANGE`, one
+/// beyond `MAX_LIST_VALUES` with `LIMIT_EXCEEDED`, each at its place.
 #[tactic(auto, unfolding(agg_reading::specs::Leaves::values_from))]
 fn probes(
     alloc: Global,
@@ -53,16 +46,16 @@ fn probes(
     let mut found = List::new(alloc);
     for (place, item) in items.iter().enumerate() {
         let at = At::Item(at, place);
-        if place >= MAX_VALUES {
-            return at.refuse(alloc, 111);
+        if place >= MAX_LIST_VALUES {
+            return at.refuse(alloc, LIMIT_EXCEEDED);
         }
         found.push(probe(alloc, kind, &at, item)?)?;
     }
     Ok(found)
 }
 
-/// The values of a list, for a field of this kind. A value that is no list is refused with 103, the first item that is
-/// none for such a field with 104, and the 65,537th item with 111.
+/// The values of a list, for a field of this kind. A value that is no list is refused with `WRONG_TYPE`, the first item
+/// that is none for such a field with `OUT_OF_RANGE`, and an item beyond `MAX_LIST_VALUES` with `LIMIT_EXCEEDED`.
 #[tactic(auto, unfolding(agg_reading::specs::Leaves::values_at))]
 pub fn probe_list(
     alloc: Global,
@@ -72,7 +65,7 @@ pub fn probe_list(
 ) -> Result<List<Probe>, RequestFault>
     ensures { Gives (λ ps. ps) result (values_at kind (pointer at.now) (view value.now)) }
 {
-    let items = list(alloc, 103, at, value)?;
+    let items = list(alloc, WRONG_TYPE, at, value)?;
     probes(alloc, kind, at, items)
 }
 
@@ -93,8 +86,8 @@ pub fn probe_list_in(
     }
 }
 
-/// What the value is in a row, for a field of this kind; refused with 104 where it is none for such a field, or a whole
-/// number beyond signed 64 bits.
+/// What the value is in a row, for a field of this kind; refused with `OUT_OF_RANGE` where it is none for such a field,
+/// or a whole number beyond signed 64 bits.
 #[tactic(auto, unfolding(agg_reading::specs::Terms::missing_at))]
 pub fn missing(
     alloc: Global,
@@ -106,7 +99,7 @@ pub fn missing(
 {
     match stored(probe(alloc, kind, at, value)?) {
         Some(found) => Ok(found),
-        None => at.refuse(alloc, 104),
+        None => at.refuse(alloc, OUT_OF_RANGE),
     }
 }
 

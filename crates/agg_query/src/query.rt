@@ -4,7 +4,7 @@ ghost use Rattle.std.specs.Prelude.{◌≡◌, ◌≢◌, ◌≤◌, [], Err, If
 ghost use Rattle.serde_json.specs.View.{view, items_view, members_view};
 ghost use Rattle.json_walk.specs.Places.{pointer};
 ghost use Rattle.agg_reading.specs.declared.fault.RequestFault.TheVariants.{NotJson};
-ghost use Rattle.agg_reading.specs.Outcome.{Gives};
+ghost use Rattle.agg_reading.specs.Reading.{Gives};
 ghost use Rattle.agg_reading.specs.Json.{optional, sole_at};
 ghost use Rattle.agg_reading.specs.Numbers.{whole_at};
 ghost use Rattle.agg_reading.specs.Query.{query_name, minimum, queries_from, clause_at, all_at, clauses_at, bool_at, within_at, named_at, query_at, top_query_at, query_from};
@@ -12,24 +12,15 @@ ghost use Rattle.agg_mapping.specs.Paths.{IsOrdered};
 
 use crate::fields::path_in;
 use crate::leaves::{exists, ids, match_all, range, term, terms};
-use agg_model::boxed::Boxed;
-use agg_model::list::List;
-use agg_model::mapping::Mapping;
-use agg_model::query::Query;
-use agg_model::text::Text;
-use agg_reading::fault::RequestFault;
-use agg_reading::names::QueryName;
-use json_walk::at::At;
-use json_walk::members::{check_names, member, object, required, sole_member};
-use json_walk::numbers::whole_in;
+use agg_model::body_refusal::{
+    LIMIT_EXCEEDED, NOT_ONE_MEMBER, UNKNOWN_MEMBER, UNKNOWN_QUERY, WRONG_TYPE,
+};
+use agg_model::limits::{MAX_QUERIES, MAX_QUERY_LEVELS, MAX_SHOULD_MATCH};
+use agg_model::{Boxed, List, Mapping, Query, Text};
+use agg_reading::{QueryName, RequestFault};
+use json_walk::{At, check_names, member, object, required, sole_member, whole_in};
 use serde_json::{Map, Value};
 use std::alloc::Global;
-
-/// At most so many queries in a search.
-const MAX_QUERIES: u32 = 1_024;
-
-/// So many levels of queries may nest.
-const MAX_LEVELS: u32 = 32;
 
 /// The query of this name.
 #[tactic(auto, unfolding(agg_reading::specs::Query::query_name))]
@@ -49,31 +40,39 @@ fn query_name(name: &str) -> Option<QueryName>
     }
 }
 
-/// The name and value of the only member; the object is refused with 107 where there is no member or more than one.
+/// The name and value of the only member; the object is refused with `NOT_ONE_MEMBER` where there is no member or more
+/// than one.
 #[tactic(auto, unfolding(agg_reading::specs::Json::sole_at))]
 fn sole_name<'v>(
     alloc: Global,
     at: &At<'_>,
     members: &'v Map<String, Value>,
 ) -> Result<(&'v str, &'v Value), RequestFault>
-    ensures { Gives (λ m. (m.0.now, view m.1.now)) result (sole_at 107 (pointer at.now) (members_view members.now.entries)) }
+    ensures { Gives (λ m. (m.0.now, view m.1.now)) result (sole_at NOT_ONE_MEMBER (pointer at.now) (members_view members.now.entries)) }
 {
     let Some((name, value)) = sole_member(members) else {
-        return at.refuse(alloc, 107);
+        return at.refuse(alloc, NOT_ONE_MEMBER);
     };
     Ok((name, value))
 }
 
-/// The number in the member `minimum_should_match`, at most 1,024; none where it is absent.
+/// The number in the member `minimum_should_match`, at most `MAX_SHOULD_MATCH`; none where it is absent.
 fn said_minimum(
     alloc: Global,
     at: &At<'_>,
     members: &Map<String, Value>,
 ) -> Result<Option<u32>, RequestFault>
     ensures { Gives (λ n. n) result
-        (optional (whole_at 0 1024) (codes "minimum_should_match") (pointer at.now) (members_view members.now.entries)) }
+        (optional (whole_at 0 MAX_SHOULD_MATCH) (codes "minimum_should_match") (pointer at.now) (members_view members.now.entries)) }
 {
-    match whole_in(alloc, 0, 1_024, "minimum_should_match", at, members)? {
+    match whole_in(
+        alloc,
+        0,
+        MAX_SHOULD_MATCH,
+        "minimum_should_match",
+        at,
+        members,
+    )? {
         None => Ok(None),
         Some(least) => Ok(Some(least as u32)),
     }
@@ -114,10 +113,10 @@ impl Reader<'_> {
         items: &Vec<Value>,
     ) -> Result<(List<Query>, u32), RequestFault>
         requires ordered { IsOrdered self.now.mapping.now }
-        requires count { before ≤ 1024 }
+        requires count { before ≤ MAX_QUERIES }
         ensures value { Gives (λ x. x) result
             (queries_from (query_at left self.now.mapping.now context) (pointer at.now) 0 done before (items_view items.now.items)) }
-        ensures count { IfOk result (λ x. x.1 ≤ 1024) }
+        ensures count { IfOk result (λ x. x.1 ≤ MAX_QUERIES) }
     {
         let mut count = before;
         for (place, item) in items.iter().enumerate() {
@@ -142,10 +141,10 @@ impl Reader<'_> {
         members: &Map<String, Value>,
     ) -> Result<(List<Query>, u32), RequestFault>
         requires ordered { IsOrdered self.now.mapping.now }
-        requires count { before ≤ 1024 }
+        requires count { before ≤ MAX_QUERIES }
         ensures value { Gives (λ x. x) result
             (clause_at (query_at left self.now.mapping.now context) name.now (pointer at.now) done before (members_view members.now.entries)) }
-        ensures count { IfOk result (λ x. x.1 ≤ 1024) }
+        ensures count { IfOk result (λ x. x.1 ≤ MAX_QUERIES) }
     {
         let at = At::Member(&*at, &*name);
         match member(members, name) {
@@ -171,10 +170,10 @@ impl Reader<'_> {
         members: &Map<String, Value>,
     ) -> Result<(List<Query>, Option<u32>, u32), RequestFault>
         requires ordered { IsOrdered self.now.mapping.now }
-        requires count { before ≤ 1024 }
+        requires count { before ≤ MAX_QUERIES }
         ensures value { Gives (λ x. x) result
             (all_at (query_at left self.now.mapping.now context) (pointer at.now) before (members_view members.now.entries)) }
-        ensures count { IfOk result (λ x. x.2 ≤ 1024) }
+        ensures count { IfOk result (λ x. x.2 ≤ MAX_QUERIES) }
     {
         let none = List::new(self.alloc);
         let (filter, count) = self.clause(left, context, "filter", at, none, before, members)?;
@@ -195,10 +194,10 @@ impl Reader<'_> {
         members: &Map<String, Value>,
     ) -> Result<(Query, u32), RequestFault>
         requires ordered { IsOrdered self.now.mapping.now }
-        requires count { before ≤ 1024 }
+        requires count { before ≤ MAX_QUERIES }
         ensures value { Gives (λ x. x) result
             (clauses_at (query_at left self.now.mapping.now context) (pointer at.now) before (members_view members.now.entries)) }
-        ensures count { IfOk result (λ x. x.1 ≤ 1024) }
+        ensures count { IfOk result (λ x. x.1 ≤ MAX_QUERIES) }
     {
         let (must, said, count) = self.all(left, context, at, before, members)?;
         let none = List::new(self.alloc);
@@ -227,15 +226,15 @@ impl Reader<'_> {
         value: &Value,
     ) -> Result<(Query, u32), RequestFault>
         requires ordered { IsOrdered self.now.mapping.now }
-        requires count { before ≤ 1024 }
+        requires count { before ≤ MAX_QUERIES }
         ensures value { Gives (λ x. x) result
             (bool_at (query_at left self.now.mapping.now context) (pointer at.now) before (view value.now)) }
-        ensures count { IfOk result (λ x. x.1 ≤ 1024) }
+        ensures count { IfOk result (λ x. x.1 ≤ MAX_QUERIES) }
     {
-        let members = object(self.alloc, 103, at, value)?;
+        let members = object(self.alloc, WRONG_TYPE, at, value)?;
         check_names(
             self.alloc,
-            101,
+            UNKNOWN_MEMBER,
             at,
             members,
             &[
@@ -262,15 +261,15 @@ impl Reader<'_> {
         value: &Value,
     ) -> Result<(Query, u32), RequestFault>
         requires ordered { IsOrdered self.now.mapping.now }
-        requires count { before ≤ 1024 }
+        requires count { before ≤ MAX_QUERIES }
         ensures value { Gives (λ x. x) result
             (within_at (query_at left self.now.mapping.now) self.now.mapping.now context (pointer at.now) before (view value.now)) }
-        ensures count { IfOk result (λ x. x.1 ≤ 1024) }
+        ensures count { IfOk result (λ x. x.1 ≤ MAX_QUERIES) }
     {
-        let members = object(self.alloc, 103, at, value)?;
+        let members = object(self.alloc, WRONG_TYPE, at, value)?;
         check_names(
             self.alloc,
-            101,
+            UNKNOWN_MEMBER,
             at,
             members,
             &["boost", "ignore_unmapped", "path", "query", "score_mode"],
@@ -296,14 +295,14 @@ impl Reader<'_> {
         value: &Value,
     ) -> Result<(Query, u32), RequestFault>
         requires ordered { IsOrdered self.now.mapping.now }
-        requires count { count ≤ 1024 }
+        requires count { count ≤ MAX_QUERIES }
         ensures value { Gives (λ x. x) result
             (named_at (query_at left self.now.mapping.now) self.now.mapping.now context (pointer at.now) count name.now (view value.now)) }
-        ensures count { IfOk result (λ x. x.1 ≤ 1024) }
+        ensures count { IfOk result (λ x. x.1 ≤ MAX_QUERIES) }
     {
         let at = At::Member(&*at, &*name);
         match query_name(name) {
-            None => at.refuse(self.alloc, 105),
+            None => at.refuse(self.alloc, UNKNOWN_QUERY),
             Some(QueryName::MatchAll) => Ok((match_all(self.alloc, &at, value)?, count)),
             Some(QueryName::Term) => Ok((term(self.alloc, self.mapping, &at, value)?, count)),
             Some(QueryName::Terms) => Ok((terms(self.alloc, self.mapping, &at, value)?, count)),
@@ -327,15 +326,15 @@ impl Reader<'_> {
         value: &Value,
     ) -> Result<(Query, u32), RequestFault>
         requires ordered { IsOrdered self.now.mapping.now }
-        requires count { before ≤ 1024 }
+        requires count { before ≤ MAX_QUERIES }
         ensures value { Gives (λ x. x) result
             (query_at left self.now.mapping.now context before (pointer at.now) (view value.now)) }
-        ensures count { IfOk result (λ x. x.1 ≤ 1024) }
+        ensures count { IfOk result (λ x. x.1 ≤ MAX_QUERIES) }
     {
         if left == 0 || MAX_QUERIES <= before {
-            return at.refuse(self.alloc, 111);
+            return at.refuse(self.alloc, LIMIT_EXCEEDED);
         }
-        let members = object(self.alloc, 103, at, value)?;
+        let members = object(self.alloc, WRONG_TYPE, at, value)?;
         let (name, value) = sole_name(self.alloc, at, members)?;
         self.named(left - 1, context, at, before + 1, name, value)
     }
@@ -343,8 +342,8 @@ impl Reader<'_> {
 
 /// The query that a value within a search is, over rows of this context (0 for the root, i + 1 for the i-th nested
 /// path), and how many queries of the search were begun up to its end, where so many were begun before it. Refused with
-/// the pointer of the first thing that breaks a rule: a query nests at most 32 deep, and a search has at most 1,024. Never
-/// `NotJson`, since the value was read.
+/// the pointer of the first thing that breaks a rule: a query nests at most `MAX_QUERY_LEVELS` deep, and a search has
+/// at most `MAX_QUERIES`. Never `NotJson`, since the value was read.
 #[tactic(auto, unfolding(agg_reading::specs::Query::top_query_at))]
 pub fn counted_query_at(
     alloc: Global,
@@ -355,14 +354,14 @@ pub fn counted_query_at(
     value: &Value,
 ) -> Result<(Query, u32), RequestFault>
     requires ordered { IsOrdered mapping.now }
-    requires count { before ≤ 1024 }
+    requires count { before ≤ MAX_QUERIES }
     ensures value { Gives (λ x. x) result
         (top_query_at mapping.now context before (pointer at.now) (view value.now)) }
     ensures json { result ≢ Err NotJson }
-    ensures count { IfOk result (λ x. x.1 ≤ 1024) }
+    ensures count { IfOk result (λ x. x.1 ≤ MAX_QUERIES) }
 {
     let reader = Reader { alloc, mapping };
-    reader.query(MAX_LEVELS, context, at, before, value)
+    reader.query(MAX_QUERY_LEVELS, context, at, before, value)
 }
 
 /// The query that a value is, as by `counted_query_at`, without the count. `at` is the pointer of the value.
@@ -376,7 +375,7 @@ pub fn query_of(
     before: u32,
 ) -> Result<Query, RequestFault>
     requires ordered { IsOrdered mapping.now }
-    requires count { before ≤ 1024 }
+    requires count { before ≤ MAX_QUERIES }
     ensures value { Gives (λ q. q) result (query_from mapping.now context before at.now (view value.now)) }
     ensures json { result ≢ Err NotJson }
 {

@@ -1,11 +1,8 @@
 use crate::query::query_of;
-use agg_mapping::mapping::mapping_of;
-use agg_model::boxed::Boxed;
-use agg_model::list::List;
-use agg_model::query::{Probe, Query, RangeOp, RangeTest};
-use agg_model::text::Text;
-use agg_reading::fault::RequestFault;
-use json_walk::bytes::reading;
+use agg_mapping::mapping_of;
+use agg_model::{Boxed, List, Probe, Query, RangeOp, RangeTest, Text};
+use agg_reading::RequestFault;
+use json_walk::reading;
 use std::alloc::{AllocError, Global};
 use std::test::Fail;
 

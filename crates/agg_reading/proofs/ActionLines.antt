@@ -1,7 +1,7 @@
 -- Action lines of the index `i`, read or refused.
 use Rattle.std.specs.Prelude.{◌≡◌, refl, [], Ok, codes}
 use Rattle.agg_model.specs.declared.bulk.ActionKind.TheVariants.{Index, Create, Delete}
-use Rattle.agg_reading.specs.Outcome.{refuse}
+use Rattle.agg_reading.specs.Reading.{refuse}
 use Rattle.agg_reading.specs.Action.{action_at}
 use Rattle.agg_reading.proofs.Computing.{computing}
 

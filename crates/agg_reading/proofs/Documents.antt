@@ -5,7 +5,7 @@ use Rattle.agg_model.specs.declared.mapping.FieldKind.TheVariants.{Integer, Shor
 use Rattle.agg_model.specs.declared.row.Scalar.TheVariants as scalar
 use Rattle.agg_model.specs.declared.row.Row.{roll-Row}
 use Rattle.agg_model.specs.declared.row.Children.{roll-Children}
-use Rattle.agg_reading.specs.Outcome.{refuse}
+use Rattle.agg_reading.specs.Reading.{refuse}
 use Rattle.agg_reading.specs.Document.{document_at}
 use Rattle.agg_reading.proofs.Computing.{computing}
 use Rattle.agg_reading.proofs.Mappings.{plain, nested_orders}

@@ -5,18 +5,19 @@ use Rattle.std.proofs.lemmas.Bool.Decides.{nat_tests}
 use Rattle.serde_json.specs.Data.{Data, null, boolean, number, string, array, object, Members}
 use Rattle.agg_model.specs.declared.mapping.Mapping.{Mapping}
 use Rattle.agg_reading.specs.declared.parts.IndexLine.{IndexLine}
-use Rattle.agg_reading.specs.Outcome.{Outcome, ◌>>=◌, refuse, or_refuse}
+use Rattle.agg_reading.specs.Reading.{Reading, ◌>>=◌, refuse, or_refuse}
 use Rattle.agg_reading.specs.Json.{reading, object_at, known, optional, optional_of}
 use Rattle.agg_reading.specs.Scalars.{whole}
 use Rattle.agg_reading.specs.Mapping.{mapping_at, empty_mapping}
 use Rattle.agg_reading.specs.IndexLine.{shards_in, shards_at, shards_named, agreed, agreed_all, settings_at, inner_shards, inner_shards_of, index_name_at, index_value_at, index_line_at}
-use Rattle.agg_reading.proofs.MappingLaws.{then_ok, next_ok, if_ok, MappingFits, mapping_at-fits}
+use Rattle.agg_reading.proofs.Steps.{then_ok, next_ok, if_ok}
+use Rattle.agg_reading.proofs.MappingLaws.{MappingFits, mapping_at-fits}
 
 -- 1 to 1,024
 abbrev pub ShardsFit : ℕ → Type 0
 ShardsFit n = (1 ≤ n) × (n ≤ 1024)
 
-pub optional_of-ok : {A : Type 0} (P : A → Type 0) (f : List ℕ → Data → Outcome A) (at : List ℕ) (o : Option Data) → ((at : List ℕ) (d : Data) → IfOk (f at d) P) → IfOk (optional_of f at o) (λ o. IfSome o P)
+pub optional_of-ok : {A : Type 0} (P : A → Type 0) (f : List ℕ → Data → Reading A) (at : List ℕ) (o : Option Data) → ((at : List ℕ) (d : Data) → IfOk (f at d) P) → IfOk (optional_of f at o) (λ o. IfSome o P)
 optional_of-ok P f at None h = tt
 optional_of-ok P f at (Some d) h = next_ok P (λ o. IfSome o P) (f at d) (λ x. Ok (Some x)) (h at d) (λ x p. p)
 

@@ -11,5 +11,7 @@ mod Documents
 mod Hashes
 mod Scripts
 mod Limits
+pub mod Steps
 pub mod MappingLaws
 pub mod IndexLineLaws
+pub mod ValueLaws

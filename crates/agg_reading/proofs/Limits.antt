@@ -8,7 +8,7 @@ use Rattle.agg_model.specs.declared.query.Query as query
 use Rattle.agg_model.specs.declared.row.Scalar.TheVariants as scalar
 use Rattle.agg_reading.specs.declared.fault.RequestFault.TheVariants.{NotJson}
 use Rattle.agg_reading.specs.declared.parts.Draft.{Draft}
-use Rattle.agg_reading.specs.Outcome.{Outcome, refuse}
+use Rattle.agg_reading.specs.Reading.{Reading, refuse}
 use Rattle.agg_reading.specs.Document.{document_at, scalar_at, member_at}
 use Rattle.agg_reading.specs.Rows.{empty_draft}
 use Rattle.agg_reading.specs.Store.{Store, store_weight, kept}
@@ -66,7 +66,7 @@ the_1024th_value_is_taken : member_at plain 0 (codes "b") (full 1023, 0) (boolea
 unfolding computing
 the_1024th_value_is_taken = refl
 
-abbrev if_light : Applied → Store → ℕ → Outcome (Applied × Store)
+abbrev if_light : Applied → Store → ℕ → Reading (Applied × Store)
 if_light what store n = if nat_lt n 4294967296 then Ok (what, store) else refuse 28 []
 
 documents_that_weigh_2_to_the_32_are_28 : (what : Applied) (store : Store) → store_weight store ≡ 4294967296 → kept what store ≡ refuse 28 []

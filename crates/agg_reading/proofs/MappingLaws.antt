@@ -3,37 +3,24 @@ use Rattle.std.specs.Prelude.{◌≡◌, refl, ℕ, zero, suc, ◌+◌, ◌≤�
 use Rattle.std.proofs.Common.{arith, ap}
 use Rattle.std.proofs.lemmas.Bool.Decides.{nat_tests}
 use Rattle.std.proofs.lemmas.List.{length-map}
+use Rattle.list_laws.proofs.StableSort.{length-insert_behind}
 use Rattle.serde_json.specs.Data.{Data, Members, no_members, member}
 use Rattle.agg_model.specs.declared.mapping.FieldKind.{FieldKind}
 use Rattle.agg_model.specs.declared.mapping.Mapping.{Mapping}
 use Rattle.agg_reading.specs.declared.names.FieldType.{FieldType}
 use Rattle.agg_reading.specs.declared.names.FieldType.TheVariants.{Leaf, Object, Nested}
 use Rattle.agg_reading.specs.declared.parts.Found.{Found}
-use Rattle.agg_reading.specs.Outcome.{Outcome, ◌>>=◌, refuse}
+use Rattle.agg_reading.specs.Reading.{Reading, ◌>>=◌, refuse}
 use Rattle.agg_reading.specs.Pointer.{member_step}
+use Rattle.agg_reading.proofs.Steps.{then_ok, next_ok, if_ok}
 use Rattle.agg_reading.specs.Json.{object_at, known, optional}
-use Rattle.agg_reading.specs.Properties.{is_before, place, is_field_name, bound_at, leaf_names, leaf_at, is_full, with_nested, with_object, fields_from, properties_at, properties_of, inner_at, by_type, type_in, property_at}
+use Rattle.agg_reading.specs.Properties.{by_path, place, is_field_name, bound_at, leaf_names, leaf_at, is_full, with_nested, with_object, fields_from, properties_at, properties_of, inner_at, by_type, type_in, property_at}
 use Rattle.agg_reading.specs.Mapping.{numbered, numbered_field, numbered_path, found_in, nothing_found, dynamic_at, mapping_at}
 
--- a reading that goes on, where every value lets the rest keep Q
-pub then_ok : {A B E : Type 0} (Q : B → Type 0) (r : Result A E) (f : A → Result B E) → ((x : A) → IfOk (f x) Q) → IfOk (r >>= f) Q
-then_ok Q (Ok x) f h = h x
-then_ok Q (Err e) f h = tt
-
--- the same, where the rest rests on what the first keeps
-pub next_ok : {A B E : Type 0} (P : A → Type 0) (Q : B → Type 0) (r : Result A E) (f : A → Result B E) → IfOk r P → ((x : A) → P x → IfOk (f x) Q) → IfOk (r >>= f) Q
-next_ok P Q (Ok x) f p h = h x p
-next_ok P Q (Err e) f p h = tt
-
-pub if_ok : {A E : Type 0} (Q : A → Type 0) (b : Bool) (x y : Result A E) → (b ≡ true → IfOk x Q) → (b ≡ false → IfOk y Q) → IfOk (if b then x else y) Q
-if_ok Q true x y h k = h refl
-if_ok Q false x y h k = k refl
-
+-- one more item makes the list one longer
 length-place : {A : Type 0} (path_of : A → List ℕ) (x : A) (ys : List A) → length (place path_of x ys) ≡ suc (length ys)
 unfolding place
-length-place path_of x [] = refl
-length-place path_of x (y ∷ ys) =
-    elim (is_before (path_of x) (path_of y)) as (λ b. length (if b then x ∷ y ∷ ys else y ∷ place path_of x ys) ≡ suc (suc (length ys))) [ true ↦ refl | false ↦ ap suc (length-place path_of x ys) ]
+length-place path_of x ys = length-insert_behind (by_path path_of) x ys
 
 abbrev pub Fits : Found → Type 0
 Fits found = length found.fields + length found.nested ≤ 1000
@@ -50,10 +37,10 @@ leaf_at-fits kind within path at found ms =
     rw (length-place (λ f. f.path) (record { path = path; kind = kind; ignore_above = above; within = within }) found.fields) (omega (arith, not_full found e)))))
 
 -- what adds fields keeps the bound
-abbrev Keeps : (List ℕ → List ℕ → List ℕ → Found → Data → Outcome Found) → Type 0
+abbrev Keeps : (List ℕ → List ℕ → List ℕ → Found → Data → Reading Found) → Type 0
 Keeps field = (within path at : List ℕ) (found : Found) (d : Data) → Fits found → IfOk (field within path at found d) Fits
 
-fields_from-fits : (field : List ℕ → List ℕ → List ℕ → Found → Data → Outcome Found) → Keeps field → (within front at : List ℕ) (found : Found) (ms : Members) → Fits found → IfOk (fields_from field within front at found ms) Fits
+fields_from-fits : (field : List ℕ → List ℕ → List ℕ → Found → Data → Reading Found) → Keeps field → (within front at : List ℕ) (found : Found) (ms : Members) → Fits found → IfOk (fields_from field within front at found ms) Fits
 unfolding fields_from
 fields_from-fits field h within front at found no_members b = b
 fields_from-fits field h within front at found (member k d ms) b =
@@ -61,12 +48,12 @@ fields_from-fits field h within front at found (member k d ms) b =
     (λ e. next_ok Fits Fits (field within (front ++ k) (at ++ member_step k) found d) _ (h within (front ++ k) (at ++ member_step k) found d b) (λ next c. fields_from-fits field h within front at next ms c))
     (λ e. tt)
 
-properties_of-fits : (field : List ℕ → List ℕ → List ℕ → Found → Data → Outcome Found) → Keeps field → (within front at : List ℕ) (found : Found) (o : Option Data) → Fits found → IfOk (properties_of field within front at found o) Fits
+properties_of-fits : (field : List ℕ → List ℕ → List ℕ → Found → Data → Reading Found) → Keeps field → (within front at : List ℕ) (found : Found) (o : Option Data) → Fits found → IfOk (properties_of field within front at found o) Fits
 unfolding properties_at
 properties_of-fits field h within front at found None b = b
 properties_of-fits field h within front at found (Some d) b = then_ok Fits (object_at 31 at d) _ (λ ms. fields_from-fits field h within front at found ms b)
 
-inner_at-fits : (field : List ℕ → List ℕ → List ℕ → Found → Data → Outcome Found) → Keeps field → (within path at : List ℕ) (found : Found) (ms : Members) → Fits found → IfOk (inner_at field within path at found ms) Fits
+inner_at-fits : (field : List ℕ → List ℕ → List ℕ → Found → Data → Reading Found) → Keeps field → (within path at : List ℕ) (found : Found) (ms : Members) → Fits found → IfOk (inner_at field within path at found ms) Fits
 unfolding inner_at
 inner_at-fits field h within path at found ms b =
     then_ok Fits (known 31 (codes "properties" ∷ codes "type" ∷ []) at ms) _ (λ _. properties_of-fits field h within _ _ found _ b)
@@ -75,7 +62,7 @@ nested_fits : (within path : List ℕ) (found : Found) → is_full found ≡ fal
 nested_fits within path found e =
     rw (length-place (λ p. p.path) (record { path = path; within = within }) found.nested) (omega (arith, not_full found e))
 
-by_type-fits : (field : List ℕ → List ℕ → List ℕ → Found → Data → Outcome Found) → Keeps field → (t : FieldType) (within path at : List ℕ) (found : Found) (ms : Members) → Fits found → IfOk (by_type field t within path at found ms) Fits
+by_type-fits : (field : List ℕ → List ℕ → List ℕ → Found → Data → Reading Found) → Keeps field → (t : FieldType) (within path at : List ℕ) (found : Found) (ms : Members) → Fits found → IfOk (by_type field t within path at found ms) Fits
 by_type-fits field h (Leaf kind) within path at found ms b = leaf_at-fits kind within path at found ms
 by_type-fits field h Object within path at found ms b = inner_at-fits field h within path at (with_object path found) ms b
 by_type-fits field h Nested within path at found ms b =

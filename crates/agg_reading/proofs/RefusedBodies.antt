@@ -1,7 +1,7 @@
 -- Bodies that are refused, each with the number and the pointer of the first thing refused.
 use Rattle.std.specs.Prelude.{◌≡◌, refl, [], Err, codes}
 use Rattle.agg_reading.specs.declared.fault.RequestFault.TheVariants.{NotJson}
-use Rattle.agg_reading.specs.Outcome.{refuse}
+use Rattle.agg_reading.specs.Reading.{refuse}
 use Rattle.agg_reading.specs.Request.{search_of}
 use Rattle.agg_reading.proofs.Computing.{computing}
 use Rattle.agg_reading.proofs.Mappings.{plain}

@@ -1,6 +1,6 @@
 -- Index lines that are refused, each with the pointer of the first thing refused.
 use Rattle.std.specs.Prelude.{◌≡◌, refl, [], codes}
-use Rattle.agg_reading.specs.Outcome.{refuse}
+use Rattle.agg_reading.specs.Reading.{refuse}
 use Rattle.agg_reading.specs.IndexLine.{index_line_at}
 use Rattle.agg_reading.proofs.Computing.{computing}
 

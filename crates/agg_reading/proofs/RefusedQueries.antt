@@ -1,6 +1,6 @@
 -- Queries that are refused.
 use Rattle.std.specs.Prelude.{◌≡◌, refl, codes}
-use Rattle.agg_reading.specs.Outcome.{refuse}
+use Rattle.agg_reading.specs.Reading.{refuse}
 use Rattle.agg_reading.specs.Request.{search_of}
 use Rattle.agg_reading.proofs.Computing.{computing}
 use Rattle.agg_reading.proofs.Mappings.{plain, nested_orders}

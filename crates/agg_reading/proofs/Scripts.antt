@@ -8,7 +8,7 @@ use Rattle.agg_model.specs.declared.bulk.ActionKind.TheVariants.{Index, Create, 
 use Rattle.agg_model.specs.declared.bulk.Applied.TheVariants.{Created, Deleted, NotFound}
 use Rattle.agg_model.specs.declared.bulk.Item.{Item}
 use Rattle.agg_model.specs.declared.bulk.ItemEnd.TheVariants.{Applied, Refused}
-use Rattle.agg_reading.specs.Outcome.{◌>>=◌}
+use Rattle.agg_reading.specs.Reading.{◌>>=◌}
 use Rattle.agg_reading.specs.declared.parts.IndexLine.{IndexLine}
 use Rattle.agg_reading.specs.Lines.{lines, start, line_fault, Script, refuse_script}
 use Rattle.agg_reading.specs.Store.{live_documents}

@@ -1,13 +1,15 @@
--- Action lines (Elasticsearch Reference 8, 'Bulk API'). 32 is a malformed line, 33 an `update`; neither has a pointer.
+-- Action lines (Elasticsearch Reference 8, 'Bulk API'). Neither refusal has a pointer.
 use Rattle.std.specs.Prelude.{ℕ, List, [], ◌∷◌, ◌++◌, length, Option, Some, None, Ok, Bool, true, false, ◌&&◌, if◌then◌else◌, nat_le, nat_lt, codes, decimal, is_none}
 use Rattle.std.specs.List.{list_all}
 use Rattle.std.specs.Fmt.{signed_decimal}
 use Rattle.std.specs.Str.{bytes_eq}
 use Rattle.serde_json.specs.Data.{Data, null, number, string, Members}
 use Rattle.serde_json.specs.Find.{as_integer, get_member}
+use Rattle.agg_model.specs.declared.limits.TheConstants.{MAX_ID}
+use Rattle.agg_model.specs.declared.script_refusal.TheConstants.{MALFORMED_ACTION, UPDATE_NOT_SUPPORTED}
 use Rattle.agg_model.specs.declared.bulk.ActionKind.{ActionKind}
 use Rattle.agg_model.specs.declared.bulk.ActionKind.TheVariants.{Index, Create, Delete}
-use Rattle.agg_reading.specs.Outcome.{Outcome, ◌>>=◌, refuse, or_refuse}
+use Rattle.agg_reading.specs.Reading.{Reading, ◌>>=◌, refuse, or_refuse}
 use Rattle.agg_reading.specs.Json.{reading, object_at, sole_at}
 
 -- what an action line says: the action, the id, and the routing
@@ -40,44 +42,44 @@ is_plain index ms =
     && list_all (λ name. is_none (set_member name ms)) (codes "if_primary_term" ∷ codes "if_seq_no" ∷ codes "pipeline" ∷ codes "version" ∷ codes "version_type" ∷ [])
 
 -- a text or a whole number, which counts as its decimal text
-abbrev pub label_of : Option Data → Outcome (Option (List ℕ))
+abbrev pub label_of : Option Data → Reading (Option (List ℕ))
 label_of None = Ok None
 label_of (Some (string s)) = Ok (Some s)
-label_of (Some (number n)) = or_refuse 32 [] (as_integer n) >>= λ z. Ok (Some (signed_decimal z))
-label_of (Some _) = refuse 32 []
+label_of (Some (number n)) = or_refuse MALFORMED_ACTION [] (as_integer n) >>= λ z. Ok (Some (signed_decimal z))
+label_of (Some _) = refuse MALFORMED_ACTION []
 
-unfoldable pub label_in : List ℕ → Members → Outcome (Option (List ℕ))
+unfoldable pub label_in : List ℕ → Members → Reading (Option (List ℕ))
 label_in name ms = label_of (set_member name ms)
 
 -- an absent id is made from the number of the action; a delete has to name one
-abbrev pub id_or : ActionKind → ℕ → Option (List ℕ) → Outcome (List ℕ)
-id_or Delete before None = refuse 32 []
+abbrev pub id_or : ActionKind → ℕ → Option (List ℕ) → Reading (List ℕ)
+id_or Delete before None = refuse MALFORMED_ACTION []
 id_or _ before None = Ok (codes "_auto_" ++ decimal before)
-id_or _ before (Some id) = if nat_lt 0 (length id) && nat_le (length id) 512 then Ok id else refuse 32 []
+id_or _ before (Some id) = if nat_lt 0 (length id) && nat_le (length id) MAX_ID then Ok id else refuse MALFORMED_ACTION []
 
 abbrev pub routing_or : List ℕ → Option (List ℕ) → List ℕ
 routing_or id None = id
 routing_or id (Some routing) = routing
 
 -- the members of the one action
-unfoldable pub heading_at : List ℕ → ℕ → ActionKind → Members → Outcome Heading
+unfoldable pub heading_at : List ℕ → ℕ → ActionKind → Members → Reading Heading
 heading_at index before kind ms =
     if is_plain index ms then (do
       said ← label_in (codes "_id") ms
       id ← id_or kind before said
       routing ← label_in (codes "routing") ms
       Ok (kind, id, routing_or id routing))
-    else refuse 32 []
+    else refuse MALFORMED_ACTION []
 
 -- before : how many actions come before
-unfoldable pub action_value_at : List ℕ → ℕ → Data → Outcome Heading
+unfoldable pub action_value_at : List ℕ → ℕ → Data → Reading Heading
 action_value_at index before d = do
-  ms ← object_at 32 [] d
-  said ← sole_at 32 [] ms
-  inner ← object_at 32 [] said.1
-  if bytes_eq said.0 (codes "update") then refuse 33 [] else (do
-    kind ← or_refuse 32 [] (action_named said.0)
+  ms ← object_at MALFORMED_ACTION [] d
+  said ← sole_at MALFORMED_ACTION [] ms
+  inner ← object_at MALFORMED_ACTION [] said.1
+  if bytes_eq said.0 (codes "update") then refuse UPDATE_NOT_SUPPORTED [] else (do
+    kind ← or_refuse MALFORMED_ACTION [] (action_named said.0)
     heading_at index before kind inner)
 
-unfoldable pub action_at : List ℕ → ℕ → List ℕ → Outcome Heading
-action_at index before bytes = or_refuse 32 [] (reading bytes) >>= action_value_at index before
+unfoldable pub action_at : List ℕ → ℕ → List ℕ → Reading Heading
+action_at index before bytes = or_refuse MALFORMED_ACTION [] (reading bytes) >>= action_value_at index before

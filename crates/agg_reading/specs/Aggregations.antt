@@ -4,6 +4,7 @@ use Rattle.std.specs.List.{list_any}
 use Rattle.std.specs.Str.{bytes_eq}
 use Rattle.serde_json.specs.Data.{Data, Members}
 use Rattle.serde_json.specs.Find.{get_member}
+use Rattle.agg_model.specs.declared.body_refusal.TheConstants.{NOT_ONE_MEMBER}
 use Rattle.agg_model.specs.declared.mapping.Mapping.{Mapping}
 use Rattle.agg_model.specs.declared.aggregation.Kind.{Kind}
 use Rattle.agg_model.specs.declared.aggregation.Kind.TheVariants as kind
@@ -11,7 +12,7 @@ use Rattle.agg_reading.specs.declared.names.KindName.{KindName}
 use Rattle.agg_reading.specs.declared.names.KindName.TheVariants as name
 use Rattle.agg_reading.specs.declared.parts.NamedOrder.{NamedOrder}
 use Rattle.agg_reading.specs.declared.parts.ReadKind.{ReadKind}
-use Rattle.agg_reading.specs.Outcome.{Outcome, ◌>>=◌, refuse, or_refuse}
+use Rattle.agg_reading.specs.Reading.{Reading, ◌>>=◌, refuse, or_refuse}
 use Rattle.agg_reading.specs.Json.{sole_besides, is_among}
 use Rattle.agg_reading.specs.Query.{top_query_at}
 use Rattle.agg_reading.specs.Terms.{terms_at}
@@ -38,14 +39,14 @@ kind_name s =
     if bytes_eq s (codes "value_count") then Some name.ValueCount else None)))))))))))))
 
 -- a kind without an order, and the context of the rows that it hands on
-abbrev pub plain : ℕ → ℕ → Kind → Outcome ReadKind
+abbrev pub plain : ℕ → ℕ → Kind → Reading ReadKind
 plain within queries k = Ok (record { kind = k; order = []; within = within; queries = queries })
 
-abbrev pub ordered : ℕ → ℕ → Kind × List NamedOrder → Outcome ReadKind
+abbrev pub ordered : ℕ → ℕ → Kind × List NamedOrder → Reading ReadKind
 ordered within queries k = Ok (record { kind = k.0; order = k.1; within = within; queries = queries })
 
 -- queries : how many queries of the search were begun before
-unfoldable pub kind_at : KindName → Mapping → ℕ → ℕ → List ℕ → Data → Outcome ReadKind
+unfoldable pub kind_at : KindName → Mapping → ℕ → ℕ → List ℕ → Data → Reading ReadKind
 kind_at name.Terms m context queries at d = terms_at m at d >>= ordered context queries
 kind_at name.Histogram m context queries at d = histogram_at m at d >>= ordered context queries
 kind_at name.Filters m context queries at d = filters_at m context queries at d >>= λ f. plain context f.1 f.0
@@ -84,8 +85,8 @@ is_aggregation_name s =
 abbrev pub has_both : Members → Bool
 has_both ms = is_some (get_member (codes "aggregations") ms) && is_some (get_member (codes "aggs") ms)
 
-unfoldable pub kind_member : List ℕ → Members → Outcome (List ℕ × Data)
-kind_member at ms = if has_both ms then refuse 107 at else or_refuse 107 at (sole_besides (codes "aggregations" ∷ codes "aggs" ∷ []) None ms)
+unfoldable pub kind_member : List ℕ → Members → Reading (List ℕ × Data)
+kind_member at ms = if has_both ms then refuse NOT_ONE_MEMBER at else or_refuse NOT_ONE_MEMBER at (sole_besides (codes "aggregations" ∷ codes "aggs" ∷ []) None ms)
 
 abbrev pub children_name : Members → List ℕ
 children_name ms = if is_some (get_member (codes "aggs") ms) then codes "aggs" else codes "aggregations"

@@ -3,10 +3,11 @@ use Rattle.std.specs.Prelude.{ℕ, zero, suc, ◌+◌, List, [], ◌∷◌, ◌+
 use Rattle.std.specs.List.{starts_with}
 use Rattle.std.specs.Option.{option_map_or}
 use Rattle.std.specs.Str.{bytes_eq}
+use Rattle.agg_model.specs.declared.body_refusal.TheConstants.{NO_SUCH_FIELD}
 use Rattle.agg_model.specs.declared.mapping.Field.{Field}
 use Rattle.agg_model.specs.declared.mapping.NestedPath.{NestedPath}
 use Rattle.agg_model.specs.declared.mapping.Mapping.{Mapping}
-use Rattle.agg_reading.specs.Outcome.{Outcome, or_refuse}
+use Rattle.agg_reading.specs.Reading.{Reading, or_refuse}
 
 -- the field with this path and its place, counted from n
 unfoldable pub field_from : ℕ → List Field → List ℕ → Option (ℕ × Field)
@@ -17,9 +18,9 @@ unfoldable pub nested_from : ℕ → List NestedPath → List ℕ → Option (�
 nested_from n [] path = None
 nested_from n (p ∷ ps) path = if bytes_eq p.path path then Some (n, p) else nested_from (n + 1) ps path
 
--- a field that is there: 108
-unfoldable pub field_at : Mapping → List ℕ → List ℕ → Outcome (ℕ × Field)
-field_at m at path = or_refuse 108 at (field_from 0 m.fields path)
+-- a field that is there
+unfoldable pub field_at : Mapping → List ℕ → List ℕ → Reading (ℕ × Field)
+field_at m at path = or_refuse NO_SUCH_FIELD at (field_from 0 m.fields path)
 
 -- a path lies strictly beneath another: the names of the other come first, and more follow
 abbrev pub is_beneath : List ℕ → List ℕ → Bool

@@ -1,4 +1,4 @@
-pub mod Outcome
+pub mod Reading
 pub mod Pointer
 pub mod Json
 pub mod Scalars

@@ -1,6 +1,8 @@
 -- Input as lines, with their limits (newline-delimited JSON; Elasticsearch Reference 8, 'Bulk API').
 use Rattle.std.specs.Prelude.{ℕ, ◌+◌, ◌-◌, List, [], ◌∷◌, length, Option, Some, None, Result, Ok, Err, Bool, ◌&&◌, ◌||◌, ◌==◌, nat_le, nat_lt, if◌then◌else◌}
 use Rattle.std.specs.Str.{bytes_eq}
+use Rattle.agg_model.specs.declared.limits.TheConstants.{MAX_INPUT, MAX_LINE}
+use Rattle.agg_model.specs.declared.script_refusal.TheConstants.{INPUT_TOO_LONG, LINE_TOO_LONG}
 
 -- a line without its newline, and how many bytes of input it takes
 pub record Line : Type 0 where
@@ -21,12 +23,6 @@ lines (b ∷ bs) = if b == 10 then record { text = []; size = 1 } ∷ lines bs e
 unfoldable pub is_empty_line : List ℕ → Bool
 is_empty_line text = bytes_eq text [] || bytes_eq text (13 ∷ [])
 
-abbrev pub max_line : ℕ
-max_line = 1048576
-
-abbrev pub max_input : ℕ
-max_input = 268435456
-
 -- how many lines and bytes were read
 pub record Place : Type 0 where
   pub number : ℕ
@@ -40,13 +36,13 @@ past l place = record { number = place.number + 1; read = place.read + l.size }
 
 -- The first byte beyond the greatest input lies in the line, and is found before the line is too long. The newline is a line's last byte.
 abbrev pub is_beyond : Place → Line → Bool
-is_beyond place l = nat_le place.read max_input && nat_lt max_input (place.read + l.size) && nat_le (max_input - place.read) max_line
+is_beyond place l = nat_le place.read MAX_INPUT && nat_lt MAX_INPUT (place.read + l.size) && nat_le (MAX_INPUT - place.read) MAX_LINE
 
--- 37 input too long, 30 line too long
+-- why a line is refused; the whole input comes first
 unfoldable pub line_fault : Place → Line → Option ℕ
-line_fault place l = if is_beyond place l then Some 37 else (if nat_lt max_line (length l.text) then Some 30 else None)
+line_fault place l = if is_beyond place l then Some INPUT_TOO_LONG else (if nat_lt MAX_LINE (length l.text) then Some LINE_TOO_LONG else None)
 
--- why a script is refused: the number, the line counted from 1, and for 31 the pointer
+-- why a script is refused: the number, the line counted from 1, and for BAD_INDEX_LINE the pointer
 pub record ScriptRefusal : Type 0 where
   pub number : ℕ
   pub line : ℕ

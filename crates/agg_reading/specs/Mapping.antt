@@ -4,13 +4,15 @@ use Rattle.std.specs.Option.{option_map_or}
 use Rattle.std.specs.Str.{bytes_eq}
 use Rattle.serde_json.specs.Data.{Data, boolean, string, Members}
 use Rattle.serde_json.specs.Find.{get_member}
+use Rattle.agg_model.specs.declared.limits.TheConstants.{MAX_PROPERTY_LEVELS}
+use Rattle.agg_model.specs.declared.script_refusal.TheConstants.{BAD_INDEX_LINE}
 use Rattle.agg_model.specs.declared.mapping.Field.{Field}
 use Rattle.agg_model.specs.declared.mapping.NestedPath.{NestedPath}
 use Rattle.agg_model.specs.declared.mapping.Mapping.{Mapping}
 use Rattle.agg_reading.specs.declared.parts.Found.{Found}
 use Rattle.agg_reading.specs.declared.parts.FoundField.{FoundField}
 use Rattle.agg_reading.specs.declared.parts.FoundPath.{FoundPath}
-use Rattle.agg_reading.specs.Outcome.{Outcome, ◌>>=◌, ◌>>◌, refuse}
+use Rattle.agg_reading.specs.Reading.{Reading, ◌>>=◌, ◌>>◌, refuse}
 use Rattle.agg_reading.specs.Pointer.{member_step}
 use Rattle.agg_reading.specs.Json.{object_at, known, optional}
 use Rattle.agg_reading.specs.Properties.{property_at, properties_of}
@@ -40,22 +42,22 @@ numbered strict found = record {
 }
 
 -- whether `dynamic` is strict: `false`, `"false"` or `"strict"`
-unfoldable pub dynamic_at : List ℕ → Data → Outcome Bool
-dynamic_at at (boolean b) = if b then refuse 31 at else Ok false
-dynamic_at at (string s) = if bytes_eq s (codes "strict") then Ok true else (if bytes_eq s (codes "false") then Ok false else refuse 31 at)
-dynamic_at at _ = refuse 31 at
+unfoldable pub dynamic_at : List ℕ → Data → Reading Bool
+dynamic_at at (boolean b) = if b then refuse BAD_INDEX_LINE at else Ok false
+dynamic_at at (string s) = if bytes_eq s (codes "strict") then Ok true else (if bytes_eq s (codes "false") then Ok false else refuse BAD_INDEX_LINE at)
+dynamic_at at _ = refuse BAD_INDEX_LINE at
 
 abbrev pub nothing_found : Found
 nothing_found = record { fields = []; nested = []; objects = [] }
 
--- properties stand at most 20 deep
-unfoldable pub found_in : List ℕ → Members → Outcome Found
-found_in at ms = properties_of (property_at 20) [] [] (at ++ member_step (codes "properties")) nothing_found (get_member (codes "properties") ms)
+-- properties stand at most MAX_PROPERTY_LEVELS deep
+unfoldable pub found_in : List ℕ → Members → Reading Found
+found_in at ms = properties_of (property_at MAX_PROPERTY_LEVELS) [] [] (at ++ member_step (codes "properties")) nothing_found (get_member (codes "properties") ms)
 
-unfoldable pub mapping_at : List ℕ → Data → Outcome Mapping
+unfoldable pub mapping_at : List ℕ → Data → Reading Mapping
 mapping_at at d = do
-  ms ← object_at 31 at d
-  known 31 (codes "dynamic" ∷ codes "properties" ∷ []) at ms
+  ms ← object_at BAD_INDEX_LINE at d
+  known BAD_INDEX_LINE (codes "dynamic" ∷ codes "properties" ∷ []) at ms
   strict ← optional dynamic_at (codes "dynamic") at ms
   found ← found_in at ms
   Ok (numbered (unwrap_or strict false) found)

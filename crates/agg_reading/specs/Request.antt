@@ -2,6 +2,8 @@
 use Rattle.std.specs.Prelude.{ℕ, zero, suc, ◌+◌, List, [], ◌∷◌, ◌++◌, length, Option, Some, None, Ok, Bool, true, false, ◌&&◌, not, nat_le, if◌then◌else◌, ⊤, codes}
 use Rattle.serde_json.specs.Data.{Data, Members, no_members, member}
 use Rattle.serde_json.specs.Find.{get_member}
+use Rattle.agg_model.specs.declared.limits.TheConstants.{MAX_AGGREGATIONS, MAX_AGGREGATION_LEVELS}
+use Rattle.agg_model.specs.declared.body_refusal.TheConstants.{BODY_NOT_OBJECT, INVALID_NAME, LIMIT_EXCEEDED, MISPLACED_AGGREGATION, NOT_ONE_MEMBER, UNKNOWN_KIND, UNKNOWN_MEMBER, WRONG_TYPE}
 use Rattle.agg_model.specs.declared.mapping.Mapping.{Mapping}
 use Rattle.agg_model.specs.declared.query.Query.{Query, All}
 use Rattle.agg_model.specs.declared.aggregation.Agg.{Agg, roll-Agg}
@@ -9,7 +11,7 @@ use Rattle.agg_model.specs.declared.aggregation.Search.{Search}
 use Rattle.agg_reading.specs.declared.names.KindName.{KindName}
 use Rattle.agg_reading.specs.declared.parts.Counts.{Counts}
 use Rattle.agg_reading.specs.declared.parts.ReadKind.{ReadKind}
-use Rattle.agg_reading.specs.Outcome.{Outcome, ◌>>=◌, ◌>>◌, refuse, or_refuse}
+use Rattle.agg_reading.specs.Reading.{Reading, ◌>>=◌, ◌>>◌, refuse, or_refuse}
 use Rattle.agg_reading.specs.Pointer.{member_step}
 use Rattle.agg_reading.specs.Json.{json_at, object_at, known}
 use Rattle.agg_reading.specs.Query.{top_query_at}
@@ -21,24 +23,24 @@ abbrev pub Aggregated : Type 0
 Aggregated = List Agg × Counts
 
 -- read : an aggregation by its context, its name, where it stands, the counts before it, and its value
-module _ (read : ℕ → List ℕ → List ℕ → Counts → Data → Outcome (Agg × Counts)) where
-  unfoldable pub aggregations_from : ℕ → List ℕ → List Agg → Counts → Members → Outcome Aggregated
+module _ (read : ℕ → List ℕ → List ℕ → Counts → Data → Reading (Agg × Counts)) where
+  unfoldable pub aggregations_from : ℕ → List ℕ → List Agg → Counts → Members → Reading Aggregated
   aggregations_from context at done counts no_members = Ok (done, counts)
   aggregations_from context at done counts (member k d ms) =
       if is_aggregation_name k then (do
         a ← read context k (at ++ member_step k) counts d
         aggregations_from context at (done ++ a.0 ∷ []) a.1 ms)
-      else refuse 112 (at ++ member_step k)
+      else refuse INVALID_NAME (at ++ member_step k)
 
-  unfoldable pub aggregations_at : ℕ → List ℕ → Counts → Data → Outcome Aggregated
-  aggregations_at context at counts d = object_at 103 at d >>= aggregations_from context at [] counts
+  unfoldable pub aggregations_at : ℕ → List ℕ → Counts → Data → Reading Aggregated
+  aggregations_at context at counts d = object_at WRONG_TYPE at d >>= aggregations_from context at [] counts
 
-  abbrev pub children_of : ℕ → List ℕ → Counts → Option Data → Outcome Aggregated
+  abbrev pub children_of : ℕ → List ℕ → Counts → Option Data → Reading Aggregated
   children_of context at counts None = Ok ([], counts)
   children_of context at counts (Some d) = aggregations_at context at counts d
 
   -- the member `aggs` or `aggregations`; none is as an empty object
-  unfoldable pub children_in : ℕ → List ℕ → Counts → Members → Outcome Aggregated
+  unfoldable pub children_in : ℕ → List ℕ → Counts → Members → Reading Aggregated
   children_in context at counts ms = children_of context (at ++ member_step (children_name ms)) counts (get_member (children_name ms) ms)
 
 abbrev pub is_childless : List Agg → Bool
@@ -46,13 +48,13 @@ is_childless [] = true
 is_childless (a ∷ rest) = false
 
 -- Metrics have no children; `global` and `composite` stand only at the top.
-unfoldable pub placed : Bool → KindName → List ℕ → Members → List Agg → Outcome ⊤
+unfoldable pub placed : Bool → KindName → List ℕ → Members → List Agg → Reading ⊤
 placed top kind at ms children =
-    if is_metric kind && not (is_childless children) then refuse 110 (at ++ member_step (children_name ms))
-    else (if is_top_kind kind && not top then refuse 110 at else Ok tt)
+    if is_metric kind && not (is_childless children) then refuse MISPLACED_AGGREGATION (at ++ member_step (children_name ms))
+    else (if is_top_kind kind && not top then refuse MISPLACED_AGGREGATION at else Ok tt)
 
 -- an aggregation, after its kind and its children were read
-unfoldable pub assembled : Bool → KindName → List ℕ → List ℕ → Members → ReadKind → Aggregated → Outcome (Agg × Counts)
+unfoldable pub assembled : Bool → KindName → List ℕ → List ℕ → Members → ReadKind → Aggregated → Reading (Agg × Counts)
 assembled top kind name at ms found children = do
   placed top kind at ms children.0
   order ← resolved children.0 [] found.order
@@ -62,24 +64,21 @@ abbrev pub counts_after : ReadKind → Counts → Counts
 counts_after found counts = record { queries = found.queries; aggregations = counts.aggregations + 1 }
 
 -- read : the aggregations below
-module _ (read : ℕ → List ℕ → List ℕ → Counts → Data → Outcome (Agg × Counts)) where
-  unfoldable pub aggregation_of : Mapping → Bool → ℕ → List ℕ → List ℕ → Counts → Data → Outcome (Agg × Counts)
+module _ (read : ℕ → List ℕ → List ℕ → Counts → Data → Reading (Agg × Counts)) where
+  unfoldable pub aggregation_of : Mapping → Bool → ℕ → List ℕ → List ℕ → Counts → Data → Reading (Agg × Counts)
   aggregation_of m top context name at counts d = do
-    ms ← object_at 103 at d
+    ms ← object_at WRONG_TYPE at d
     said ← kind_member at ms
-    kind ← or_refuse 106 (at ++ member_step said.0) (kind_name said.0)
+    kind ← or_refuse UNKNOWN_KIND (at ++ member_step said.0) (kind_name said.0)
     found ← kind_at kind m context counts.queries (at ++ member_step said.0) said.1
     children ← children_in read found.within at (counts_after found counts) ms
     assembled top kind name at ms found children
 
-abbrev pub max_aggregations : ℕ
-max_aggregations = 256
-
 -- left : how many levels may still nest; counts : what was begun before
-unfoldable pub aggregation_at : ℕ → Mapping → Bool → ℕ → List ℕ → List ℕ → Counts → Data → Outcome (Agg × Counts)
-aggregation_at zero m top context name at counts d = refuse 111 at
+unfoldable pub aggregation_at : ℕ → Mapping → Bool → ℕ → List ℕ → List ℕ → Counts → Data → Reading (Agg × Counts)
+aggregation_at zero m top context name at counts d = refuse LIMIT_EXCEEDED at
 aggregation_at (suc left) m top context name at counts d =
-    if nat_le max_aggregations counts.aggregations then refuse 111 at
+    if nat_le MAX_AGGREGATIONS counts.aggregations then refuse LIMIT_EXCEEDED at
     else aggregation_of (aggregation_at left m false) m top context name at counts d
 
 -- the members of a body; those beside aggregations and query have no effect
@@ -89,27 +88,27 @@ body_members =
     ∷ codes "size" ∷ codes "sort" ∷ codes "stored_fields" ∷ codes "timeout" ∷ codes "track_scores" ∷ codes "track_total_hits" ∷ codes "version" ∷ []
 
 -- an absent query is match_all
-abbrev pub query_or_all : Mapping → ℕ → Option Data → Outcome Query
+abbrev pub query_or_all : Mapping → ℕ → Option Data → Reading Query
 query_or_all m count None = Ok All
 query_or_all m count (Some d) = top_query_at m 0 count (member_step (codes "query")) d >>= λ q. Ok q.0
 
 abbrev pub no_counts : Counts
 no_counts = record { queries = 0; aggregations = 0 }
 
--- aggregations nest at most 16 deep
-unfoldable pub search_in : Mapping → ℕ → Members → Outcome Search
+-- aggregations nest at most MAX_AGGREGATION_LEVELS deep
+unfoldable pub search_in : Mapping → ℕ → Members → Reading Search
 search_in m bytes ms = do
-  aggs ← children_in (aggregation_at 16 m true) 0 [] no_counts ms
+  aggs ← children_in (aggregation_at MAX_AGGREGATION_LEVELS m true) 0 [] no_counts ms
   query ← query_or_all m aggs.1.queries (get_member (codes "query") ms)
   Ok (record { query = query; aggs = aggs.0; body_bytes = bytes })
 
-unfoldable pub search_value_at : Mapping → ℕ → Data → Outcome Search
+unfoldable pub search_value_at : Mapping → ℕ → Data → Reading Search
 search_value_at m bytes d = do
-  ms ← object_at 100 [] d
-  if has_both ms then refuse 107 [] else (do
-    known 101 body_members [] ms
+  ms ← object_at BODY_NOT_OBJECT [] d
+  if has_both ms then refuse NOT_ONE_MEMBER [] else (do
+    known UNKNOWN_MEMBER body_members [] ms
     search_in m bytes ms)
 
 -- a search in the bytes of a body, or NotJson, or the first refusal
-unfoldable pub search_of : Mapping → List ℕ → Outcome Search
+unfoldable pub search_of : Mapping → List ℕ → Reading Search
 search_of m body = json_at body >>= search_value_at m (length body)

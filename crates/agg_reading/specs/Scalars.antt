@@ -5,6 +5,7 @@ use Rattle.std.specs.Str.Parse.{starts_with_minus, signed_digits_value}
 use Rattle.std.specs.Fmt.{signed_decimal}
 use Rattle.serde_json.specs.Data.{Data, boolean, number, string}
 use Rattle.serde_json.specs.Find.{as_integer}
+use Rattle.agg_model.specs.declared.limits.TheConstants.{MAX_DIGITS}
 use Rattle.agg_model.specs.declared.query.Probe.{Probe}
 use Rattle.agg_model.specs.declared.query.Probe.TheVariants as probe
 use Rattle.agg_model.specs.declared.row.Scalar.{Scalar}
@@ -15,9 +16,9 @@ use Rattle.agg_model.specs.declared.mapping.FieldKind.TheVariants.{Integer, Shor
 abbrev pub digits_of : List ℕ → List ℕ
 digits_of s = if starts_with_minus s then drop 1 s else s
 
--- an optional `-` and 1 to 38 digits
+-- an optional `-` and 1 to MAX_DIGITS digits
 abbrev pub is_decimal : List ℕ → Bool
-is_decimal s = nat_lt 0 (length (digits_of s)) && nat_le (length (digits_of s)) 38 && all_ascii_digits (digits_of s)
+is_decimal s = nat_lt 0 (length (digits_of s)) && nat_le (length (digits_of s)) MAX_DIGITS && all_ascii_digits (digits_of s)
 
 unfoldable pub decimal_of : List ℕ → Option ℤ
 decimal_of s = if is_decimal s then Some (signed_digits_value 10 s) else None

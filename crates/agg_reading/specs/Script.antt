@@ -1,6 +1,8 @@
 -- A script: the index line, an empty line, bulk lines up to an empty line, then pairs of a header and a body
 -- (Elasticsearch Reference 8, 'Bulk API', 'Multi search API').
 use Rattle.std.specs.Prelude.{ℕ, ◌+◌, List, [], ◌∷◌, ◌++◌, Option, Some, None, Ok, Err, Bool, true, false, nat_le, if◌then◌else◌}
+use Rattle.agg_model.specs.declared.limits.TheConstants.{MAX_ACTIONS}
+use Rattle.agg_model.specs.declared.script_refusal.TheConstants.{BAD_HEADER, MISSING_BODY, MISSING_SECTION, MISSING_SOURCE, TOO_MANY_DOCUMENTS}
 use Rattle.agg_model.specs.declared.bulk.Action.{Action}
 use Rattle.agg_model.specs.declared.bulk.ActionKind.{ActionKind}
 use Rattle.agg_model.specs.declared.bulk.ActionKind.TheVariants.{Delete}
@@ -11,7 +13,7 @@ use Rattle.agg_model.specs.declared.bulk.ItemEnd.TheVariants as end
 use Rattle.agg_model.specs.declared.bulk.ItemRefusal.{ItemRefusal}
 use Rattle.agg_reading.specs.declared.fault.RequestFault.{RequestFault}
 use Rattle.agg_reading.specs.declared.fault.RequestFault.TheVariants.{Bad}
-use Rattle.agg_reading.specs.Outcome.{Outcome, ◌>>=◌, ◌>>◌, or_refuse}
+use Rattle.agg_reading.specs.Reading.{Reading, ◌>>=◌, ◌>>◌, or_refuse}
 use Rattle.agg_reading.specs.Json.{reading, object_at}
 use Rattle.agg_reading.specs.declared.parts.IndexLine.{IndexLine}
 use Rattle.agg_reading.specs.IndexLine.{index_line_at}
@@ -24,7 +26,7 @@ abbrev pub refusal_at : ℕ → RequestFault → ScriptRefusal
 refusal_at line (Bad code path) = record { number = code; line = line; path = path }
 refusal_at line _ = record { number = 0; line = line; path = [] }
 
-abbrev pub at_line : {A : Type 0} → ℕ → Outcome A → Script A
+abbrev pub at_line : {A : Type 0} → ℕ → Reading A → Script A
 at_line line (Ok x) = Ok x
 at_line line (Err e) = Err (refusal_at line e)
 
@@ -50,7 +52,7 @@ with_item action ended store now = record {
 }
 
 -- a refused item leaves the store as it was
-abbrev pub after : Action → Outcome (Applied × Store) → Loading → Loading
+abbrev pub after : Action → Reading (Applied × Store) → Loading → Loading
 after action (Ok done) now = with_item action (end.Applied done.0) done.1 now
 after action (Err e) now = with_item action (end.Refused (item_refusal e)) now.store now
 
@@ -60,12 +62,9 @@ with_action heading source now =
     let action : Action = record { kind = heading.0; id = heading.1; routing = heading.2; source = source } in
     after action (applied now.index.mapping action now.store) now
 
-abbrev pub max_actions : ℕ
-max_actions = 1048576
-
--- the action of a line; 35 is the action after the last that is taken
+-- the action of a line; at most MAX_ACTIONS are taken
 unfoldable pub heading_of : ℕ → Line → Loading → Script Heading
-heading_of line l now = if nat_le max_actions now.actions then refuse_script 35 line else at_line line (action_at now.index.name now.actions l.text)
+heading_of line l now = if nat_le MAX_ACTIONS now.actions then refuse_script TOO_MANY_DOCUMENTS line else at_line line (action_at now.index.name now.actions l.text)
 
 abbrev pub is_delete : ActionKind → Bool
 is_delete Delete = true
@@ -83,37 +82,37 @@ pub record Loaded : Type 0 where
 abbrev pub done_at : Loading → Place → List Line → Loaded
 done_at now place rest = record { index = now.index; store = now.store; items = now.items; place = place; rest = rest }
 
--- The bulk lines. 34 is an action without its source line, 38 the end of the input before the empty line.
+-- The bulk lines: each action with its source line, up to the empty line.
 unfoldable pub bulk : Loading → Place → List Line → Script Loaded
-bulk now place [] = refuse_script 38 place.number
+bulk now place [] = refuse_script MISSING_SECTION place.number
 bulk now place (l ∷ []) =
     checked place l >>
     (if is_empty_line l.text then Ok (done_at now (past l place) []) else (do
       heading ← heading_of (place.number + 1) l now
-      if is_delete heading.0 then refuse_script 38 (place.number + 1) else refuse_script 34 (place.number + 1)))
+      if is_delete heading.0 then refuse_script MISSING_SECTION (place.number + 1) else refuse_script MISSING_SOURCE (place.number + 1)))
 bulk now place (l ∷ s ∷ ls) =
     checked place l >>
     (if is_empty_line l.text then Ok (done_at now (past l place) (s ∷ ls)) else (do
       heading ← heading_of (place.number + 1) l now
       if is_delete heading.0 then bulk (with_action heading [] now) (past l place) (s ∷ ls) else (
           checked (past l place) s >>
-          (if is_empty_line s.text then refuse_script 34 (place.number + 1) else bulk (with_action heading s.text now) (past s (past l place)) ls))))
+          (if is_empty_line s.text then refuse_script MISSING_SOURCE (place.number + 1) else bulk (with_action heading s.text now) (past s (past l place)) ls))))
 
 abbrev pub begun : IndexLine → Loading
 begun index = record { index = index; store = []; items = []; actions = 0 }
 
--- the first two sections of a script; 38 is a second line that is not empty, or an input that ends before it
+-- the first two sections of a script, with an empty line after the first
 unfoldable pub loaded : List Line → Script Loaded
-loaded [] = refuse_script 38 0
+loaded [] = refuse_script MISSING_SECTION 0
 loaded (l ∷ []) = do
   checked start l
   index ← at_line 1 (index_line_at l.text)
-  refuse_script 38 1
+  refuse_script MISSING_SECTION 1
 loaded (l ∷ e ∷ ls) = do
   checked start l
   index ← at_line 1 (index_line_at l.text)
   checked (past l start) e
-  if is_empty_line e.text then bulk (begun index) (past e (past l start)) ls else refuse_script 38 2
+  if is_empty_line e.text then bulk (begun index) (past e (past l start)) ls else refuse_script MISSING_SECTION 2
 
 -- the bodies of the third section, and the refusal that ends them
 pub record Bodies : Type 0 where
@@ -133,16 +132,16 @@ ended_by (Err e) rest = record { bodies = []; refused = Some e }
 abbrev pub with_body : List ℕ → Bodies → Bodies
 with_body body more = record { bodies = body ∷ more.bodies; refused = more.refused }
 
--- a header is a JSON object: else 39
+-- a header is a JSON object
 unfoldable pub header_at : ℕ → List ℕ → Script (Unit {0})
-header_at line text = at_line line (or_refuse 39 [] (reading text) >>= object_at 39 []) >>= λ ms. Ok tt
+header_at line text = at_line line (or_refuse BAD_HEADER [] (reading text) >>= object_at BAD_HEADER []) >>= λ ms. Ok tt
 
--- the pairs; an empty line where a header is due is passed over, and 36 is a header without a body line
+-- the pairs; an empty line where a header is due is passed over, and each header has its body line
 unfoldable pub pairs : Place → List Line → Bodies
 pairs place [] = no_more
 pairs place (h ∷ []) =
     ended_by (checked place h) (if is_empty_line h.text then no_more else
-    ended_by (header_at (place.number + 1) h.text) (stopped 36 (place.number + 1)))
+    ended_by (header_at (place.number + 1) h.text) (stopped MISSING_BODY (place.number + 1)))
 pairs place (h ∷ b ∷ ls) =
     ended_by (checked place h) (if is_empty_line h.text then pairs (past h place) (b ∷ ls) else
     ended_by (header_at (place.number + 1) h.text >> checked (past h place) b) (with_body b.text (pairs (past b (past h place)) ls)))

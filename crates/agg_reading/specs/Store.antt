@@ -1,11 +1,10 @@
 -- What bulk actions leave (Elasticsearch Reference 8, 'Bulk API', 'Index API').
-use Rattle.std.specs.Prelude.{ℕ, ◌+◌, ◌^◌, List, [], ◌∷◌, length, map, filter, sum_by, flat_map, nat_lt, Option, Some, None, Ok, Bool, true, false, ◌&&◌, ◌==◌, is_some, option_to_list, if◌then◌else◌}
+use Rattle.std.specs.Prelude.{ℕ, ◌+◌, ◌^◌, List, [], ◌∷◌, map, filter, sum_by, flat_map, nat_lt, Option, Some, None, Ok, Bool, true, false, ◌&&◌, ◌==◌, is_some, option_to_list, if◌then◌else◌}
 use Rattle.std.specs.List.{range_with_len}
 use Rattle.std.specs.Str.{bytes_eq}
+use Rattle.agg_model.specs.declared.limits.TheConstants.{WEIGHT_LIMIT}
+use Rattle.agg_model.specs.declared.item_refusal.TheConstants.{INDEX_FULL, VERSION_CONFLICT}
 use Rattle.agg_model.specs.declared.mapping.Mapping.{Mapping}
-use Rattle.agg_model.specs.declared.row.Scalar.{Scalar}
-use Rattle.agg_model.specs.declared.row.Scalar.TheVariants as scalar
-use Rattle.agg_model.specs.declared.row.FieldValues.{FieldValues}
 use Rattle.agg_model.specs.declared.row.Row.{Row, Row', Row_of-Children, end_of-Children, more_of-Children}
 use Rattle.agg_model.specs.declared.row.Children.{Children, Children', Row_of-Row, end_of-Row, more_of-Row}
 use Rattle.agg_model.specs.declared.row.Document.{Document}
@@ -14,9 +13,10 @@ use Rattle.agg_model.specs.declared.bulk.ActionKind.{ActionKind}
 use Rattle.agg_model.specs.declared.bulk.ActionKind.TheVariants.{Create, Delete}
 use Rattle.agg_model.specs.declared.bulk.Applied.{Applied}
 use Rattle.agg_model.specs.declared.bulk.Applied.TheVariants.{Created, Updated, Deleted, NotFound}
-use Rattle.agg_reading.specs.Outcome.{Outcome, ◌>>=◌, refuse}
+use Rattle.agg_reading.specs.Reading.{Reading, ◌>>=◌, refuse}
 use Rattle.agg_reading.specs.Document.{document_at}
 use Rattle.agg_reading.specs.Routing.{shard_of}
+use Rattle.agg_model.specs.Weight.{field_weight}
 
 -- all ids in the order of their first accepted index or create, each with its live document
 abbrev pub Store : Type 0
@@ -35,13 +35,6 @@ unfoldable pub live_documents : Store → List Document
 live_documents store = flat_map (λ e. option_to_list e.1) store
 
 -- the weight of a document: its rows, its values, and the bytes of its words
-
-abbrev pub scalar_weight : Scalar → ℕ
-scalar_weight (scalar.Word w) = 1 + length w
-scalar_weight _ = 1
-
-abbrev pub field_weight : FieldValues → ℕ
-field_weight f = sum_by scalar_weight f.values
 
 abbrev mutual
   pub row_weight : Row → ℕ
@@ -68,14 +61,14 @@ abbrev pub is_create : ActionKind → Bool
 is_create Create = true
 is_create _ = false
 
--- a store whose documents weigh less than 2^32: else 28
-abbrev pub kept : Applied → Store → Outcome (Applied × Store)
-kept what store = if nat_lt (store_weight store) (2 ^ 32) then Ok (what, store) else refuse 28 []
+-- a store whose documents weigh less than WEIGHT_LIMIT
+abbrev pub kept : Applied → Store → Reading (Applied × Store)
+kept what store = if nat_lt (store_weight store) WEIGHT_LIMIT then Ok (what, store) else refuse INDEX_FULL []
 
--- 26 is a create of a live id
-unfoldable pub put_row : Action → Row → Store → Outcome (Applied × Store)
+-- a create of a live id is refused
+unfoldable pub put_row : Action → Row → Store → Reading (Applied × Store)
 put_row action root store =
-    if is_create action.kind && is_some (live_at action.id store) then refuse 26 []
+    if is_create action.kind && is_some (live_at action.id store) then refuse VERSION_CONFLICT []
     else kept (if is_some (live_at action.id store) then Updated else Created)
     (with_document action.id (Some (record { id = action.id; routing = action.routing; root = root })) store)
 
@@ -83,11 +76,11 @@ unfoldable pub deleted : List ℕ → Store → Applied × Store
 deleted id store = if is_some (live_at id store) then (Deleted, with_document id None store) else (NotFound, store)
 
 -- what an action does and the store after it, or the refusal of its document or of the store
-abbrev pub applied_by : ActionKind → Mapping → Action → Store → Outcome (Applied × Store)
+abbrev pub applied_by : ActionKind → Mapping → Action → Store → Reading (Applied × Store)
 applied_by Delete m action store = Ok (deleted action.id store)
 applied_by _ m action store = document_at m action.source >>= λ root. put_row action root store
 
-unfoldable pub applied : Mapping → Action → Store → Outcome (Applied × Store)
+unfoldable pub applied : Mapping → Action → Store → Reading (Applied × Store)
 applied m action store = applied_by action.kind m action store
 
 -- the live documents of each shard, in store order

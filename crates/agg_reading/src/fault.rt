@@ -1,5 +1,5 @@
 //! Why a reading ends without a value.
-use agg_model::text::Text;
+use agg_model::Text;
 use std::alloc::{AllocError, AllocFailed};
 
 /// Why something that was read is refused.

@@ -2,6 +2,12 @@
 //! or to the first refusal of its walk. This crate has definitions, a few types that they speak of, and no reader.
 #![tactic(auto)]
 
-pub mod fault;
-pub mod names;
-pub mod parts;
+mod fault;
+mod names;
+mod parts;
+
+pub use fault::RequestFault;
+pub use names::{FieldType, KindName, QueryName, SourceName};
+pub use parts::{
+    Counts, Draft, Found, FoundField, FoundPath, IndexLine, NamedOrder, ReadKind, Role,
+};

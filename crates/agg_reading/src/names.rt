@@ -1,5 +1,5 @@
 //! The words that choose how the value beside them is read.
-use agg_model::mapping::FieldKind;
+use agg_model::FieldKind;
 
 /// The queries ('Query DSL').
 #[derive(Clone, Copy, Debug, PartialEq, Eq)]

@@ -1,9 +1,5 @@
 //! What a reading has in hand before it is done.
-use agg_model::aggregation::Kind;
-use agg_model::list::List;
-use agg_model::mapping::{FieldKind, Mapping};
-use agg_model::row::{Children, FieldValues};
-use agg_model::text::Text;
+use agg_model::{Children, FieldKind, FieldValues, Kind, List, Mapping, Text};
 
 /// A scalar field, while the other nested paths are not yet known.
 #[derive(Drop)]

@@ -3,20 +3,16 @@
 ghost use Rattle.std.specs.Prelude.{◌≡◌, ◌≤◌, codes};
 ghost use Rattle.serde_json.specs.Find.{get_member};
 ghost use Rattle.serde_json.specs.View.{view, members_view};
-ghost use Rattle.agg_reading.specs.Outcome.{Gives};
+ghost use Rattle.agg_reading.specs.Reading.{Gives};
 ghost use Rattle.agg_reading.specs.Request.{query_or_all, search_in, search_value_at, search_of};
 ghost use Rattle.agg_mapping.specs.Paths.{IsOrdered};
 
 use crate::parts::has_both;
 use crate::tree::aggregations_in;
-use agg_model::aggregation::Search;
-use agg_model::mapping::Mapping;
-use agg_model::query::Query;
-use agg_query::query::counted_query_at;
-use agg_reading::fault::RequestFault;
-use json_walk::at::At;
-use json_walk::bytes::json;
-use json_walk::members::{check_names, member, object};
+use agg_model::{Mapping, Query, Search};
+use agg_query::counted_query_at;
+use agg_reading::RequestFault;
+use json_walk::{At, check_names, json, member, object};
 use serde_json::{Map, Value};
 use std::alloc::Global;
 

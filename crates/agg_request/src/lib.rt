@@ -2,12 +2,14 @@
 //!
 //! Names are refused first, then each member is read in byte order; but of an aggregation the kind is read before the
 //! children, and in what takes a `field` that member before the others. The kinds themselves are read by
-//! `aggregation_kinds`, queries by `agg_query`.
+//! `request_kinds`, queries by `agg_query`.
 #![tactic(auto)]
 
-pub mod body;
-pub mod names;
-pub mod parts;
+mod body;
+mod names;
+mod parts;
 #[cfg(test)]
 mod tests;
-pub mod tree;
+mod tree;
+
+pub use body::search_of;

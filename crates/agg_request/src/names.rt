@@ -4,8 +4,8 @@ ghost use Rattle.std.specs.Prelude.{◌≡◌, ◌==◌, ◌||◌};
 ghost use Rattle.std.specs.List.{list_any};
 ghost use Rattle.agg_reading.specs.Aggregations.{is_aggregation_name};
 
-use aggregation_kinds::names::is_name;
-use json_walk::members::is_one_of;
+use json_walk::is_one_of;
+use request_kinds::is_name;
 
 /// Whether a name holds `[`, `]` or `>`, which paths to aggregations are written with.
 fn has_path_sign(name: &[u8]) -> bool

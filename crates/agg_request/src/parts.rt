@@ -3,20 +3,15 @@
 ghost use Rattle.std.specs.Prelude.{◌≡◌, ◌≤◌, ◌∷◌, [], IfOk, None, codes, length};
 ghost use Rattle.serde_json.specs.View.{view, members_view};
 ghost use Rattle.json_walk.specs.Places.{pointer};
-ghost use Rattle.agg_reading.specs.Outcome.{Gives, or_refuse};
+ghost use Rattle.agg_reading.specs.Reading.{Gives, or_refuse};
 ghost use Rattle.agg_reading.specs.Json.{sole_besides};
 ghost use Rattle.agg_reading.specs.Aggregations.{is_metric, is_top_kind, has_both, kind_member, children_name};
 ghost use Rattle.agg_reading.specs.Request.{is_childless, placed, assembled};
 
-use agg_model::aggregation::Agg;
-use agg_model::list::List;
-use agg_model::text::Text;
-use agg_reading::fault::RequestFault;
-use agg_reading::names::KindName;
-use agg_reading::parts::{Counts, ReadKind};
-use aggregation_kinds::resolving::{resolved, with_order};
-use json_walk::at::At;
-use json_walk::members::{member, sole_besides};
+use agg_model::{Agg, List, Text};
+use agg_reading::{Counts, KindName, ReadKind, RequestFault};
+use json_walk::{At, member, sole_besides};
+use request_kinds::{resolved, with_order};
 use serde_json::{Map, Value};
 use std::alloc::Global;
 

@@ -1,11 +1,9 @@
 ghost use Rattle.agg_mapping.specs.Paths.{IsOrdered};
 
 use crate::body::search_of;
-use agg_mapping::index_line::index_line_of;
-use agg_model::aggregation::{Kind, Order, OrderBy};
-use agg_model::key::Key;
-use agg_model::mapping::Mapping;
-use agg_reading::fault::RequestFault;
+use agg_mapping::index_line_of;
+use agg_model::{Key, Kind, Mapping, Order, OrderBy};
+use agg_reading::RequestFault;
 use std::alloc::{AllocError, Global};
 use std::test::Fail;
 

@@ -3,20 +3,16 @@
 ghost use Rattle.std.specs.Prelude.{◌≡◌, ◌≤◌, ◌<◌, ◌+◌, [], IfOk, true, false, length};
 ghost use Rattle.serde_json.specs.View.{view, members_view};
 ghost use Rattle.json_walk.specs.Places.{pointer};
-ghost use Rattle.agg_reading.specs.Outcome.{Gives};
+ghost use Rattle.agg_reading.specs.Reading.{Gives};
 ghost use Rattle.agg_reading.specs.Request.{aggregations_from, aggregations_at, children_in, aggregation_of, aggregation_at, no_counts};
 ghost use Rattle.agg_mapping.specs.Paths.{IsOrdered};
 
 use crate::names::is_aggregation_name;
 use crate::parts::{assembled, children_name, kind_member};
-use agg_model::aggregation::Agg;
-use agg_model::list::List;
-use agg_model::mapping::Mapping;
-use agg_reading::fault::RequestFault;
-use agg_reading::parts::Counts;
-use aggregation_kinds::kind::{kind_at, kind_name};
-use json_walk::at::At;
-use json_walk::members::{member, object};
+use agg_model::{Agg, List, Mapping};
+use agg_reading::{Counts, RequestFault};
+use json_walk::{At, member, object};
+use request_kinds::{kind_at, kind_name};
 use serde_json::{Map, Value};
 use std::alloc::Global;
 

@@ -14,11 +14,7 @@ use crate::buckets::with_bucket;
 use crate::json::{Array, Json, Object, count_value};
 use crate::keys::{composite_value, key_number};
 use crate::numbers::{average_value, integer_value, optional_value, wide_value};
-use agg_model::aggregation::{Agg, CompositeSource, Kind};
-use agg_model::answer::{BucketAnswer, NodeAnswer};
-use agg_model::list::List;
-use agg_model::partial::Metric;
-use agg_model::text::Text;
+use agg_model::{Agg, BucketAnswer, CompositeSource, Kind, List, Metric, NodeAnswer, Text};
 use std::alloc::{AllocError, Global};
 
 /// An object with one member.

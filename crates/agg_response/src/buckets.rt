@@ -11,8 +11,7 @@ ghost use Rattle.agg_response.specs.Buckets as tree;
 use crate::json::Object;
 use crate::keys::{composite_value, with_term_key};
 use crate::numbers::integer_value;
-use agg_model::aggregation::Kind;
-use agg_model::answer::BucketAnswer;
+use agg_model::{BucketAnswer, Kind};
 use std::alloc::{AllocError, Global};
 
 /// The object with the error of a bucket, where it is to be shown and is known.

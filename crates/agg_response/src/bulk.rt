@@ -8,9 +8,7 @@ ghost use Rattle.agg_spec.specs.Json.{with_members, object_of, count};
 ghost use Rattle.agg_spec.specs.BulkLine as definition;
 
 use crate::json::{Json, Object, flag_value};
-use agg_model::bulk::{ActionKind, Applied, Item, ItemEnd, ItemRefusal};
-use agg_model::list::List;
-use agg_model::text::Text;
+use agg_model::{ActionKind, Applied, Item, ItemEnd, ItemRefusal, List, Text};
 use std::alloc::{AllocError, Global};
 
 /// The refusal of an action whose id is live.

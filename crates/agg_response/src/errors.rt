@@ -8,10 +8,7 @@ ghost use Rattle.agg_spec.specs.EndLines as definition;
 ghost use Rattle.agg_spec.specs.ErrorLines.{breaker_name as name_of_breaker, durability as durability_of, breaker_reason, exception_line, refusal_members as members_of_refusal, refusal_line};
 
 use crate::json::Object;
-use agg_model::breaker::{Tripped, Which};
-use agg_model::outcome::Refused;
-use agg_model::settings::Usage;
-use agg_model::text::Text;
+use agg_model::{Refused, Text, Tripped, Usage, Which};
 use std::alloc::{AllocError, Global};
 
 /// The line of an error with these members.

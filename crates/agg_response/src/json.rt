@@ -6,7 +6,7 @@ ghost use Rattle.serde_json.specs.View.{view, items_view, members_view};
 ghost use Rattle.serde_json.specs.Written.{compact_text, has_float, items_have_float, members_have_float};
 ghost use Rattle.agg_spec.specs.Json.{array_of, count};
 
-use agg_model::text::Text;
+use agg_model::Text;
 use serde_json::{Map, Value, put};
 use std::alloc::{AllocError, Global};
 

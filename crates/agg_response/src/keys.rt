@@ -8,9 +8,7 @@ ghost use Rattle.agg_spec.specs.RangeCheck.{key_in_range};
 
 use crate::json::{Json, Object, flag_value, text_value};
 use crate::numbers::{null_value, wide_value};
-use agg_model::aggregation::CompositeSource;
-use agg_model::key::Key;
-use agg_model::list::List;
+use agg_model::{CompositeSource, Key, List};
 use std::alloc::{AllocError, Global};
 
 /// The text of a truth value.

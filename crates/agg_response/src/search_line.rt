@@ -10,9 +10,7 @@ ghost use Rattle.agg_spec.specs.Response as definition;
 use crate::answers::with_answers;
 use crate::json::{Array, Json, Object, flag_value, text_value};
 use crate::numbers::null_value;
-use agg_model::aggregation::Search;
-use agg_model::answer::Answer;
-use agg_model::text::Text;
+use agg_model::{Answer, Search, Text};
 use std::alloc::{AllocError, Global};
 
 /// The shards that answered, all of them.

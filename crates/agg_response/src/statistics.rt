@@ -6,8 +6,7 @@ ghost use Rattle.agg_spec.specs.StatisticsLine.{breaker_member, statistics_line}
 
 use crate::errors::breaker_name;
 use crate::json::{Json, Object};
-use agg_model::breaker::{BreakerStats, Totals, Which};
-use agg_model::text::Text;
+use agg_model::{BreakerStats, Text, Totals, Which};
 use std::alloc::{AllocError, Global};
 
 /// The numbers of one breaker.

@@ -1,10 +1,8 @@
 use crate::{bulk_line, exception, refusal, script_line, stats_line, usage_line};
-use agg_model::breaker::{BreakerStats, Totals, Tripped, Which};
-use agg_model::bulk::{ActionKind, Applied, Item, ItemEnd, ItemRefusal};
-use agg_model::list::List;
-use agg_model::outcome::Refused;
-use agg_model::settings::Usage;
-use agg_model::text::Text;
+use agg_model::{
+    ActionKind, Applied, BreakerStats, Item, ItemEnd, ItemRefusal, List, Refused, Text, Totals,
+    Tripped, Usage, Which,
+};
 use std::alloc::{AllocError, Global};
 use std::test::Fail;
 

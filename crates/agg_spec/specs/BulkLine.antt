@@ -3,6 +3,7 @@ use Rattle.std.specs.Prelude.{ℕ, Bool, true, false, if◌then◌else◌, ◌==
 use Rattle.std.specs.List.{list_any}
 use Rattle.serde_json.specs.Data.{Data, boolean, string}
 use Rattle.serde_json.specs.Written.{compact_text}
+use Rattle.agg_model.specs.declared.item_refusal.TheConstants.{INDEX_FULL, STRICT_MAPPING, VERSION_CONFLICT}
 use Rattle.agg_model.specs.declared.bulk.ActionKind.{ActionKind}
 use Rattle.agg_model.specs.declared.bulk.ActionKind.TheVariants.{Index, Create, Delete}
 use Rattle.agg_model.specs.declared.bulk.Applied.{Applied}
@@ -30,30 +31,18 @@ applied_status Updated = 200
 applied_status Deleted = 200
 applied_status NotFound = 404
 
--- a create of an id that is live
-abbrev pub id_is_live : ℕ
-id_is_live = 26
-
--- a name that a strict mapping lacks
-abbrev pub strict_mapping : ℕ
-strict_mapping = 27
-
--- a document that the index has no room for
-abbrev pub index_is_full : ℕ
-index_is_full = 28
-
 abbrev pub refusal_type : ℕ → List ℕ
 refusal_type n =
-    if n == id_is_live then codes "version_conflict_engine_exception"
-    else if n == strict_mapping then codes "strict_dynamic_mapping_exception"
-    else if n == index_is_full then codes "index_full_exception" else codes "mapper_parsing_exception"
+    if n == VERSION_CONFLICT then codes "version_conflict_engine_exception"
+    else if n == STRICT_MAPPING then codes "strict_dynamic_mapping_exception"
+    else if n == INDEX_FULL then codes "index_full_exception" else codes "mapper_parsing_exception"
 
 abbrev pub refusal_status : ℕ → ℕ
-refusal_status n = if n == id_is_live then 409 else 400
+refusal_status n = if n == VERSION_CONFLICT then 409 else 400
 
 -- a refusal of the action, and not of its document, has no path
 abbrev pub refusal_path : ItemRefusal → List Member
-refusal_path r = if (r.number == id_is_live) || (r.number == index_is_full) then [] else (codes "path", string r.path) ∷ []
+refusal_path r = if (r.number == VERSION_CONFLICT) || (r.number == INDEX_FULL) then [] else (codes "path", string r.path) ∷ []
 
 abbrev pub end_members : ItemEnd → List Member
 end_members (end.Applied a) = (codes "result", string (applied_name a)) ∷ (codes "status", count (applied_status a)) ∷ []

@@ -1,11 +1,9 @@
 //! `aggs` over standard input and output.
 #![tactic(auto)]
 
-use agg_base::adapters::{StdSink, StdSource};
-use agg_model::list::List;
-use agg_model::text::Text;
-use agg_program::run::run;
-use agg_program::status::Status;
+use agg_base::{StdSink, StdSource};
+use agg_model::{List, Text};
+use agg_program::{Status, run};
 use std::alloc::{AllocError, Global};
 use std::process::ExitCode;
 use std::{env, io};

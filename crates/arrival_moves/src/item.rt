@@ -1,6 +1,6 @@
 // What a desk has in hand. Contracts alone see these types.
 use crate::label::Label;
-use agg_model::list::List;
+use agg_model::List;
 
 /// A task whose load was taken, and whether it was marked failed.
 pub struct LoadedTask {

@@ -1,5 +1,5 @@
 // What a load or a result stands for.
-use agg_model::list::List;
+use agg_model::List;
 
 /// The tasks that a load or a result stands for, whether one of them failed, and whether one was skipped. Contracts alone
 /// see it.

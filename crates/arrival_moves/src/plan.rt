@@ -2,7 +2,7 @@
 ghost use Rattle.std.specs.Prelude.{◌≡◌, ◌<◌};
 ghost use Rattle.arrival_moves.specs.Plans.{task_count, search_of};
 
-use agg_model::list::List;
+use agg_model::List;
 
 /// The search of each task, the number of searches, and how many results a batch has at most.
 #[derive(Drop)]

@@ -7,6 +7,6 @@ mod statistics;
 #[cfg(test)]
 mod tests;
 
-pub use agg_model::breaker::{BreakerStats, Totals, Tripped};
+pub use agg_model::{BreakerStats, Totals, Tripped};
 pub use charging::{charge, give_back};
 pub use statistics::{close, stats};

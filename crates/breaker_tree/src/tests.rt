@@ -3,7 +3,7 @@ ghost use Rattle.std.specs.Prelude.{◌≡◌, ◌+◌, ◌≤◌};
 ghost use Rattle.breaker_words.specs.Passes.{IsOf};
 
 use crate::{BreakerStats, Totals, Tripped, charge, close, give_back, stats};
-use agg_model::breaker::{Child, Limits, Which};
+use agg_model::{Child, Limits, Which};
 use breaker_words::{Pass, Trial, Words, join, set_ceiling, split};
 use std::test::Fail;
 use std::thread;

@@ -14,7 +14,7 @@ mod trial;
 mod view;
 mod words;
 
-pub use agg_model::breaker::{Child, Limits, Which};
+pub use agg_model::{Child, Limits, Which};
 pub use breaker::which_of;
 pub use trial::{Step, Trial};
 pub use view::{Account, Accounts, View};

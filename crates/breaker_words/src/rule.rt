@@ -3,7 +3,7 @@ ghost use Rattle.std.specs.Prelude.{ℕ};
 ghost use Rattle.agg_model.specs.declared.breaker.Child.{Child};
 
 use crate::view::View;
-use agg_model::breaker::Limits;
+use agg_model::Limits;
 use atomic_table::{Join, Play, Split, TableRule};
 use std::marker::{Brand, PhantomData};
 

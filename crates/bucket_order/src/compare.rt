@@ -3,10 +3,7 @@ ghost use Rattle.agg_evaluation.specs.KeyOrder.{key_cmp, directed};
 ghost use Rattle.agg_evaluation.specs.Orders.{bucket_cmp, cmp_by, value_cmp, child_value, metric_value};
 ghost use Rattle.bucket_order.specs.Kinds.{kind_of, child_kinds};
 
-use agg_model::aggregation::{Agg, Kind, Order, OrderBy};
-use agg_model::key::Key;
-use agg_model::list::List;
-use agg_model::partial::{Bucket, Metric, Node};
+use agg_model::{Agg, Bucket, Key, Kind, List, Metric, Node, Order, OrderBy};
 use std::cmp::Ordering;
 
 /// The order of keys.

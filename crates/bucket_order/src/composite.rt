@@ -2,9 +2,7 @@ ghost use Rattle.std.specs.Prelude.{◌≡◌, Some, None, option_copied};
 ghost use Rattle.bucket_order.specs.Composites.{any_parts_cmp, part_cmp, key_parts, first_of};
 
 use crate::compare::{compare_keys, directed_by};
-use agg_model::aggregation::CompositeSource;
-use agg_model::key::Key;
-use agg_model::list::List;
+use agg_model::{CompositeSource, Key, List};
 use std::cmp::Ordering;
 
 fn parts_of(key: &Key) -> &[Key]

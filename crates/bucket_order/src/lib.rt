@@ -2,6 +2,10 @@
 //! aggregation' and 'Histogram aggregation' on order).
 #![tactic(auto)]
 
-pub mod compare;
-pub mod composite;
-pub mod sort;
+mod compare;
+mod composite;
+mod sort;
+
+pub use compare::{compare_buckets, compare_keys};
+pub use composite::compare_composites;
+pub use sort::{sort_buckets, sort_by_key, sort_composites};

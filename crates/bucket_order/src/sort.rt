@@ -1,6 +1,6 @@
 ghost use Rattle.std.specs.Prelude.{◌≡◌, OnOk, IsTrue, IsPermutation, length};
 ghost use Rattle.std.specs.List.{list_all};
-ghost use Rattle.agg_evaluation.specs.Sorting.{sorted};
+ghost use Rattle.list_laws.specs.Sorting.{sorted};
 ghost use Rattle.agg_evaluation.specs.Shard.{sorted_by_key};
 ghost use Rattle.agg_evaluation.specs.Orders.{bucket_cmp, bucket_key, composite_cmp};
 ghost use Rattle.bucket_order.specs.Composites.{is_composite_of};
@@ -8,9 +8,7 @@ ghost use Rattle.bucket_order.specs.Kinds.{child_kinds};
 
 use crate::compare::{compare_buckets, compare_keys};
 use crate::composite::compare_composites;
-use agg_model::aggregation::{Agg, CompositeSource, Order};
-use agg_model::list::List;
-use agg_model::partial::Bucket;
+use agg_model::{Agg, Bucket, CompositeSource, List, Order};
 use std::alloc::AllocError;
 
 /// Puts buckets in the order of the list, where `children` are the aggregations below.

@@ -7,8 +7,8 @@ ghost use Rattle.column_query.specs.Numbers.{place_among, without_equal as witho
 
 use crate::content::{Content, content_of_field};
 use crate::values::allows;
-use agg_model::query::{Probe, RangeOp, RangeTest};
-use shard_columns::shard::Shard;
+use agg_model::{Probe, RangeOp, RangeTest};
+use shard_columns::Shard;
 use std::cmp::Ordering;
 
 /// A bound on numbers.

@@ -3,8 +3,8 @@ ghost use Rattle.std.specs.Prelude.{◌≡◌, ◌<◌, length, slice_get, Some}
 ghost use Rattle.agg_model.specs.declared.mapping.FieldKind.TheVariants.{Keyword};
 ghost use Rattle.column_query.specs.Numbers.{content_of, Holds};
 
-use agg_model::mapping::FieldKind;
-use shard_columns::shard::Shard;
+use agg_model::FieldKind;
+use shard_columns::Shard;
 
 /// What the values of a field are.
 #[derive(Clone, Copy)]

@@ -1,13 +1,19 @@
-//! Which rows of a shard a query matches (Elasticsearch Reference 8, 'Query DSL').
+//! Which rows of a shard a query matches (Elasticsearch Reference 8, 'Query DSL'): one row by the query as it stands, or
+//! every root by a query that was prepared once for the shard.
 #![tactic(auto)]
 
 mod bounds;
 mod content;
-pub mod matched;
-pub mod matching;
+mod matched_rows;
+mod matching;
 mod numbers;
-pub mod prepared;
-pub mod preparing;
+mod prepared;
+mod preparing;
 #[cfg(test)]
 mod tests;
 mod values;
+
+pub use matched_rows::{Bits, matched};
+pub use matching::matches;
+pub use prepared::{NumberTest, Prepared, is_match};
+pub use preparing::prepare;

@@ -4,13 +4,11 @@ ghost use Rattle.std.specs.Prelude.{◌≡◌, ◌<◌, ◌+◌, length, map, fi
 ghost use Rattle.std.specs.List.{list_any, list_all};
 ghost use Rattle.std.specs.Str.{bytes_eq};
 ghost use Rattle.agg_evaluation.specs.Matching.{matches as matches_row};
-ghost use Rattle.shard_columns.specs.Layout.{row_of};
+ghost use Rattle.agg_evaluation.specs.Rows.{row_of};
 
 use crate::values::{Wanted, has_wanted};
-use agg_model::list::List;
-use agg_model::query::Query;
-use agg_model::text::Text;
-use shard_columns::shard::Shard;
+use agg_model::{List, Query, Text};
+use shard_columns::Shard;
 
 fn is_among(id: &[u8], ids: &[Text]) -> bool
     ensures { result ≡ list_any (bytes_eq id.now) ids.now }

@@ -1,12 +1,11 @@
 // The numbers that stand for the values of a field.
 ghost use Rattle.std.specs.Prelude.{◌≡◌, ◌<◌, length, slice_get, Some};
-ghost use Rattle.agg_evaluation.specs.Rows.{values_of};
-ghost use Rattle.shard_columns.specs.Layout.{row_of};
+ghost use Rattle.agg_evaluation.specs.Rows.{values_of, row_of};
 ghost use Rattle.column_query.specs.Numbers.{numbers_of, StandsFor};
 
 use crate::content::{Content, content_of_field};
-use agg_model::query::Probe;
-use shard_columns::shard::{Cell, Shard};
+use agg_model::Probe;
+use shard_columns::{Cell, Shard};
 
 /// The number of the value that a row has of a field at this place.
 pub fn number(shard: &Shard, row: u32, field: u32, place: u32) -> i128

@@ -4,15 +4,14 @@ ghost use Rattle.std.specs.Prelude.{◌≡◌, ◌<◌, length, filter, true};
 ghost use Rattle.std.specs.List.{list_any, list_all};
 ghost use Rattle.std.specs.Ordering.{nat_cmp, is_eq};
 ghost use Rattle.std.specs.Cmp.Lexicographic.{slice_cmp};
-ghost use Rattle.shard_columns.specs.Layout.{row_of};
+ghost use Rattle.agg_evaluation.specs.Rows.{row_of};
 ghost use Rattle.column_query.specs.Numbers.{numbers_of};
 ghost use Rattle.column_query.specs.Prepared.{is_among as is_number_among, within_all as within_all_bounds, passes_number, says, reads_below};
 
 use crate::bounds::{Bound, allows_number};
 use crate::numbers::number;
-use agg_model::boxed::Boxed;
-use agg_model::list::List;
-use shard_columns::shard::Shard;
+use agg_model::{Boxed, List};
+use shard_columns::Shard;
 use std::collections::BTreeSet;
 
 /// What a query wants of the number of a value.

@@ -1,16 +1,14 @@
 //! Preparing a query for a shard.
 ghost use Rattle.std.specs.Prelude.{◌≡◌, ◌<◌, length, true, IfOk, OnOk};
 ghost use Rattle.std.specs.List.{list_all};
-ghost use Rattle.column_query.specs.Prepared.{looks_below, AddsNumber, StandForAll, BoundAsAll, HasIds, IsReady, AreReady};
+ghost use Rattle.column_query.specs.Prepared.{AddsNumber, StandForAll, BoundAsAll, HasIds, IsReady, AreReady};
+ghost use Rattle.agg_evaluation.specs.Conditions.{looks_below};
 
 use crate::bounds::{Bound, bound_of};
 use crate::numbers::number_of_probe;
 use crate::prepared::{NumberTest, Prepared};
-use agg_model::boxed::Boxed;
-use agg_model::list::List;
-use agg_model::query::{Probe, Query, RangeTest};
-use agg_model::text::Text;
-use shard_columns::shard::Shard;
+use agg_model::{Boxed, List, Probe, Query, RangeTest, Text};
+use shard_columns::Shard;
 use std::alloc::{AllocError, Global};
 use std::collections::BTreeSet;
 

@@ -1,17 +1,15 @@
 ghost use Rattle.std.specs.Prelude.{◌≡◌, ◌∷◌, ◌<◌, [], IfOk, length, map, true};
 ghost use Rattle.std.specs.List.{list_all};
 ghost use Rattle.column_query.specs.Example.{values_for, flags, numbers, words, item_of, first_root, second_root, third_root, document_of, example_documents, example_kinds};
-ghost use Rattle.column_query.specs.Prepared.{looks_below};
+ghost use Rattle.agg_evaluation.specs.Conditions.{looks_below};
 
-use crate::matched::matched;
+use crate::matched_rows::matched;
 use crate::matching::matches;
-use agg_model::boxed::Boxed;
-use agg_model::list::List;
-use agg_model::mapping::{Field, FieldKind, Mapping, NestedPath};
-use agg_model::query::{Probe, Query, RangeOp, RangeTest};
-use agg_model::row::{Children, Document, FieldValues, Row, Scalar};
-use agg_model::text::Text;
-use shard_columns::shard::Shard;
+use agg_model::{
+    Boxed, Children, Document, Field, FieldKind, FieldValues, List, Mapping, NestedPath, Probe,
+    Query, RangeOp, RangeTest, Row, Scalar, Text,
+};
+use shard_columns::Shard;
 use std::alloc::{AllocError, Global};
 use std::test::Fail;
 

@@ -7,12 +7,9 @@ ghost use Rattle.agg_spec.specs.Final.{final as final_answer};
 ghost use Rattle.agg_spec.specs.RangeCheck.{out_of_range};
 ghost use Rattle.document_terms.specs.SmallSearch.{IsTermsSearch, HaveKeywords};
 
-use agg_model::aggregation::Search;
-use agg_model::answer::Answer;
-use agg_model::list::List;
-use agg_model::row::Document;
-use document_terms::answer::shard_answer_of;
-use final_reduce::finish::{FinalFault, finish};
+use agg_model::{Answer, Document, List, Search};
+use document_terms::shard_answer_of;
+use final_reduce::{FinalFault, finish};
 use std::alloc::{AllocError, Global};
 
 /// The greatest number of buckets of an answer. An answer of this form has at most 10.

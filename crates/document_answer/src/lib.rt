@@ -1,6 +1,9 @@
-//! The answer to a `terms` search of documents with one keyword each, in an index with one shard.
+//! The answer to a `terms` search of documents with one keyword each, in an index with one shard. The crate goes once
+//! scripts are loaded whole.
 #![tactic(auto)]
 
-pub mod answer;
+mod answer;
 #[cfg(test)]
 mod tests;
+
+pub use answer::answer_of;

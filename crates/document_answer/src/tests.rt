@@ -3,12 +3,10 @@ ghost use Rattle.keyword_documents.specs.SmallForm.{keyword_document};
 ghost use Rattle.document_terms.specs.SmallSearch.{HaveKeywords};
 
 use crate::answer::answer_of;
-use agg_model::answer::{Answer, BucketAnswer, NodeAnswer};
-use agg_model::key::Key;
-use agg_model::list::List;
-use agg_model::row::{Document, FieldValues, Row, Scalar};
-use agg_model::text::Text;
-use document_terms::search::terms_search;
+use agg_model::{
+    Answer, BucketAnswer, Document, FieldValues, Key, List, NodeAnswer, Row, Scalar, Text,
+};
+use document_terms::terms_search;
 use std::alloc::{AllocError, Global};
 use std::test::Fail;
 

@@ -18,7 +18,7 @@ use Rattle.agg_model.specs.declared.row.Scalar.TheVariants.{Whole, Word, Flag}
 use Rattle.agg_model.specs.declared.row.FieldValues.{FieldValues}
 use Rattle.agg_reading.specs.declared.parts.Role.{Role}
 use Rattle.agg_reading.specs.declared.parts.Role.TheVariants as role
-use Rattle.agg_reading.specs.Outcome.{Outcome, ◌>>=◌, refuse, or_refuse}
+use Rattle.agg_reading.specs.Reading.{Reading, ◌>>=◌, refuse, or_refuse}
 use Rattle.agg_reading.specs.Json.{is_among}
 use Rattle.agg_reading.specs.Fields.{field_from, nested_from}
 use Rattle.agg_reading.specs.Scalars.{whole, word, fits_kind}
@@ -26,7 +26,7 @@ use Rattle.agg_reading.specs.Rows.{with_value, count_in, empty_draft}
 use Rattle.agg_reading.specs.Document.{State, leads_deeper, nested_role, inner_role, field_role, role_of, number_value, word_value, is_ignored, document_flag, scalar_at, with_scalar, leaf_at, around, object_by, chosen, value_at, items_at, members_at}
 use Rattle.document_rows.specs.Drafts.{is_typed}
 use Rattle.document_rows.specs.Roles.{kind_in, IsRoleIn}
-use Rattle.document_rows.specs.Scalars.{is_of_kind}
+use Rattle.agg_model.specs.FieldKinds.{is_of_kind}
 use Rattle.document_rows.proofs.Places.{kind_found, nested_found}
 
 -- the role of a path is one of the mapping's
@@ -59,7 +59,7 @@ role_known m context path = field_known m context path (field_from 0 m.fields pa
 
 -- what a value gives is of its field's kind
 
-abbrev OfKind : FieldKind → Outcome (Option Scalar) → Type 0
+abbrev OfKind : FieldKind → Reading (Option Scalar) → Type 0
 OfKind kind (Ok (Some v)) = is_of_kind kind v ≡ true
 OfKind kind (Ok None) = ⊤
 OfKind kind (Err e) = ⊤
@@ -110,15 +110,15 @@ module _ (m : Mapping) where
   abbrev IsTyped : State → Type 0
   IsTyped s = is_typed m.fields s.0.values ≡ true
 
-  abbrev OkTyped : Outcome State → Type 0
+  abbrev OkTyped : Reading State → Type 0
   OkTyped (Ok s) = IsTyped s
   OkTyped (Err e) = ⊤
 
-  bind_typed : (o : Outcome State) (f : State → Outcome State) → OkTyped o → ((t : State) → IsTyped t → OkTyped (f t)) → OkTyped (o >>= f)
+  bind_typed : (o : Reading State) (f : State → Reading State) → OkTyped o → ((t : State) → IsTyped t → OkTyped (f t)) → OkTyped (o >>= f)
   bind_typed (Ok t) f h g = g t h
   bind_typed (Err e) f h g = tt
 
-  scalar_typed : (field : ℕ) (path : List ℕ) (s : State) (o : Outcome (Option Scalar)) → OfKind (kind_in m.fields field) o → IsTyped s → OkTyped (o >>= with_scalar field path s)
+  scalar_typed : (field : ℕ) (path : List ℕ) (s : State) (o : Reading (Option Scalar)) → OfKind (kind_in m.fields field) o → IsTyped s → OkTyped (o >>= with_scalar field path s)
   unfolding with_scalar
   scalar_typed field path s (Ok None) k h = h
   scalar_typed field path s (Ok (Some v)) k h =
@@ -136,19 +136,19 @@ module _ (m : Mapping) where
   leaf_typed (role.Nested p) path s d known h = tt
   leaf_typed role.Unmapped path s d known h = h
 
-  around_typed : (p : ℕ) (s : State) (o : Outcome State) → IsTyped s → OkTyped (o >>= around p s)
+  around_typed : (p : ℕ) (s : State) (o : Reading State) → IsTyped s → OkTyped (o >>= around p s)
   unfolding around
   around_typed p s (Ok inner) h = h
   around_typed p s (Err e) h = tt
 
-  object_typed : (r : Role) (path : List ℕ) (s : State) (inner : Outcome State) (nested : ℕ → Outcome State) → IsTyped s → OkTyped inner → OkTyped (object_by r path s inner nested)
+  object_typed : (r : Role) (path : List ℕ) (s : State) (inner : Reading State) (nested : ℕ → Reading State) → IsTyped s → OkTyped inner → OkTyped (object_by r path s inner nested)
   object_typed (role.Leaf field kind above) path s inner nested h g = tt
   object_typed role.Plain path s inner nested h g = g
   object_typed (role.Nested p) path s inner nested h g =
       elim (nat_le 10000 s.1) as (λ b. OkTyped (cond b (refuse 24 path) (nested (p + 1) >>= around p s))) [ true ↦ tt | false ↦ around_typed p s (nested (p + 1)) h ]
   object_typed role.Unmapped path s inner nested h g = h
 
-  chosen_typed : (r : Role) (path : List ℕ) (s : State) (mapped : Outcome State) → IsTyped s → OkTyped mapped → OkTyped (chosen m r path s mapped)
+  chosen_typed : (r : Role) (path : List ℕ) (s : State) (mapped : Reading State) → IsTyped s → OkTyped mapped → OkTyped (chosen m r path s mapped)
   chosen_typed (role.Leaf field kind above) path s mapped h g = g
   chosen_typed role.Plain path s mapped h g = g
   chosen_typed (role.Nested p) path s mapped h g = g

@@ -2,27 +2,26 @@
 
 ghost use Rattle.serde_json.specs.View.{view, members_view};
 ghost use Rattle.agg_reading.specs.Document.{document_value_at, document_at};
-ghost use Rattle.agg_mapping.specs.Paths.{IsOrdered};
-ghost use Rattle.document_values.specs.Faults.{Gives};
+ghost use Rattle.document_rows.specs.Faults.{Gives};
 ghost use Rattle.document_rows.specs.States.{root_at};
 
 use crate::draft::RowDraft;
+use crate::fault::ItemFault;
+use crate::refusal::refuse;
 use crate::walk::{Walked, members};
-use agg_model::mapping::Mapping;
-use agg_model::row::Row;
-use document_values::fault::ItemFault;
-use document_values::refusal::refuse;
-use json_walk::bytes::reading;
+use agg_mapping::OrderedMapping;
+use agg_model::item_refusal::SOURCE_NOT_OBJECT;
+use agg_model::{Mapping, Row};
+use json_walk::reading;
 use serde_json::{Map, Value};
 use std::alloc::Global;
 
 /// The root row that the members of an object give.
 fn row_of_members(
     alloc: Global,
-    mapping: &Mapping,
+    mapping: &OrderedMapping<'_>,
     found: &Map<String, Value>,
 ) -> Result<Row, ItemFault>
-    requires { IsOrdered mapping.now }
     ensures { Gives (λ r. r) result (root_at mapping.now (members_view found.now.entries)) }
 {
     let begun = Walked {
@@ -34,15 +33,14 @@ fn row_of_members(
     Ok(ended.row.finish(alloc)?)
 }
 
-/// The root row that a value gives: 20 where it is no object.
+/// The root row that a value gives: `SOURCE_NOT_OBJECT` where it is none.
 #[tactic(auto, unfolding(agg_reading::specs::Document::document_value_at, agg_reading::specs::Json::object_at))]
-fn row_of(alloc: Global, mapping: &Mapping, value: &Value) -> Result<Row, ItemFault>
-    requires { IsOrdered mapping.now }
+fn row_of(alloc: Global, mapping: &OrderedMapping<'_>, value: &Value) -> Result<Row, ItemFault>
     ensures { Gives (λ r. r) result (document_value_at mapping.now (view value.now)) }
 {
     match value {
         Value::Object(found) => row_of_members(alloc, mapping, found),
-        _ => refuse(alloc, 20, ""),
+        _ => refuse(alloc, SOURCE_NOT_OBJECT, ""),
     }
 }
 
@@ -50,20 +48,23 @@ fn row_of(alloc: Global, mapping: &Mapping, value: &Value) -> Result<Row, ItemFa
 /// are walked in byte order of their names; null and, unless the mapping is strict, an unmapped member stand for nothing,
 /// and a list for its elements.
 ///
-/// The first refusal of the walk has the path of the member, its names joined by dots: 21 a value of the wrong type, 22 a
-/// number out of its type's range, 23 a keyword above 32,766 bytes, 24 the 10,001st nested object, 25 the 1,025th value of
-/// a field in a row, 27 an unmapped member where the mapping is strict. 20, with no path, is a source that is no JSON
+/// The first refusal of the walk has the path of the member, its names joined by dots: `WRONG_FIELD_TYPE`,
+/// `NUMBER_OUT_OF_RANGE`, `KEYWORD_TOO_LONG`, `TOO_MANY_NESTED_OBJECTS`, `TOO_MANY_FIELD_VALUES` in a row, and
+/// `STRICT_MAPPING` for an unmapped member. `SOURCE_NOT_OBJECT`, with no path, is a source that is no JSON
 /// object (RFC 8259) or nests deeper than 127. Want of memory may come in the place of any answer.
 ///
 /// It takes time in proportion to the bytes of the source, and for each member the comparison of its path, with the names
 /// around it, to as many paths as the logarithm of the size of the mapping.
 #[tactic(auto, unfolding(agg_reading::specs::Document::document_at))]
-pub fn root_row_of(alloc: Global, mapping: &Mapping, source: &[u8]) -> Result<Row, ItemFault>
-    requires { IsOrdered mapping.now }
+pub fn root_row_of(
+    alloc: Global,
+    mapping: &OrderedMapping<'_>,
+    source: &[u8],
+) -> Result<Row, ItemFault>
     ensures row { Gives (λ r. r) result (document_at mapping.now source.now) }
 {
     match reading(alloc, source)? {
         Some(value) => row_of(alloc, mapping, &value),
-        None => refuse(alloc, 20, ""),
+        None => refuse(alloc, SOURCE_NOT_OBJECT, ""),
     }
 }

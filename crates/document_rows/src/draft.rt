@@ -9,8 +9,7 @@ ghost use Rattle.agg_reading.specs.Rows.{finished_field};
 ghost use Rattle.document_rows.specs.Drafts.{with_item, field_values, child_rows, is_typed};
 
 use crate::values::in_order;
-use agg_model::list::List;
-use agg_model::row::{Children, FieldValues, Row, Scalar};
+use agg_model::{Children, FieldValues, List, Row, Scalar};
 use std::alloc::{AllocError, Global};
 use std::collections::BTreeMap;
 use std::marker::Model;

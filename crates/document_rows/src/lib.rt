@@ -1,10 +1,18 @@
-//! The walk of one document's JSON source into its root row.
+//! The walk of one document's JSON source into its root row, the value that it gives each field, and the first refusal
+//! with its number and path.
 #![tactic(auto)]
 
-pub mod document;
+mod document;
 mod draft;
+mod fault;
+mod field_value;
+mod refusal;
 mod roles;
 #[cfg(test)]
 mod tests;
 mod values;
 mod walk;
+
+pub use document::root_row_of;
+pub use fault::ItemFault;
+pub use refusal::refuse;

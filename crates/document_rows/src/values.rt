@@ -4,8 +4,7 @@ ghost use Rattle.std.specs.Prelude.{◌≡◌, IfOk};
 ghost use Rattle.agg_reading.specs.Rows.{finished_values};
 ghost use Rattle.document_rows.specs.Scalars.{rank, scalar_order, same_word, IsOneKind};
 
-use agg_model::list::List;
-use agg_model::row::Scalar;
+use agg_model::{List, Scalar};
 use std::alloc::AllocError;
 use std::cmp::Ordering;
 

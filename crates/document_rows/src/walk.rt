@@ -7,28 +7,25 @@ ghost use Rattle.serde_json.specs.Data.{object};
 ghost use Rattle.serde_json.specs.View.{view, items_view, members_view};
 ghost use Rattle.agg_model.specs.declared.mapping.Field.{Field};
 ghost use Rattle.agg_reading.specs.Document.{with_scalar, leaf_at, around, value_at, items_at, members_at, member_at};
-ghost use Rattle.agg_mapping.specs.Paths.{IsOrdered};
-ghost use Rattle.document_values.specs.Faults.{Gives};
+ghost use Rattle.document_rows.specs.Faults.{Gives};
 ghost use Rattle.document_rows.specs.Roles.{IsRoleIn};
 ghost use Rattle.document_rows.specs.Drafts.{is_typed};
 ghost use Rattle.document_rows.specs.States.{state_of, nested_at};
 
 use crate::draft::RowDraft;
+use crate::fault::ItemFault;
+use crate::field_value::scalar;
+use crate::refusal::refuse;
 use crate::roles::role_of;
-use agg_model::mapping::Mapping;
-use agg_model::row::Scalar;
-use agg_reading::parts::Role;
-use document_values::fault::ItemFault;
-use document_values::refusal::refuse;
-use document_values::values::scalar;
+use agg_mapping::OrderedMapping;
+use agg_model::Scalar;
+use agg_model::item_refusal::{
+    STRICT_MAPPING, TOO_MANY_FIELD_VALUES, TOO_MANY_NESTED_OBJECTS, WRONG_FIELD_TYPE,
+};
+use agg_model::limits::{MAX_FIELD_VALUES, MAX_NESTED_OBJECTS};
+use agg_reading::Role;
 use serde_json::{Map, Value};
 use std::alloc::{AllocError, Global};
-
-/// A row has at most so many values of a field.
-const MAX_VALUES: usize = 1_024;
-
-/// A document has at most so many nested objects.
-const MAX_NESTED: u32 = 10_000;
 
 /// Where the walk stands.
 #[derive(Drop)]
@@ -42,7 +39,7 @@ pub(crate) struct Walked {
 }
 
 /// One more value of a field, unless `ignore_above` left it out; the value past the last that a row may have is
-/// refused with 25.
+/// refused with `TOO_MANY_FIELD_VALUES`.
 #[tactic(auto, unfolding(agg_reading::specs::Document::with_scalar))]
 fn with_scalar(
     alloc: Global,
@@ -56,8 +53,8 @@ fn with_scalar(
     let Some(value) = value else {
         return Ok(walked);
     };
-    if walked.row.count(field) >= MAX_VALUES {
-        return refuse(alloc, 25, walked.path.as_str());
+    if walked.row.count(field) >= MAX_FIELD_VALUES {
+        return refuse(alloc, TOO_MANY_FIELD_VALUES, walked.path.as_str());
     }
     let Walked { row, met, path } = walked;
     Ok(Walked {
@@ -67,7 +64,7 @@ fn with_scalar(
     })
 }
 
-/// A value that is neither null nor a list nor an object: 21 where the path is no field.
+/// A value that is neither null nor a list nor an object: `WRONG_FIELD_TYPE` where the path is no field.
 #[tactic(auto, unfolding(agg_reading::specs::Document::leaf_at))]
 fn leaf(alloc: Global, role: Role, walked: Walked, value: &Value) -> Result<Walked, ItemFault>
     ensures value { Gives state_of result (leaf_at role (string_bytes walked.path) (state_of walked) (view value.now)) }
@@ -82,7 +79,7 @@ fn leaf(alloc: Global, role: Role, walked: Walked, value: &Value) -> Result<Walk
             let found = scalar(alloc, kind, ignore_above, walked.path.as_str(), value)?;
             with_scalar(alloc, field, walked, found)
         }
-        Role::Plain | Role::Nested(_) => refuse(alloc, 21, walked.path.as_str()),
+        Role::Plain | Role::Nested(_) => refuse(alloc, WRONG_FIELD_TYPE, walked.path.as_str()),
         Role::Unmapped => Ok(walked),
     }
 }
@@ -131,13 +128,12 @@ fn around(alloc: Global, place: u32, row: RowDraft, ended: Walked) -> Result<Wal
 #[cycle(walk)]
 fn value(
     alloc: Global,
-    mapping: &Mapping,
+    mapping: &OrderedMapping<'_>,
     role: Role,
     context: u32,
     walked: Walked,
     value: &Value,
 ) -> Result<Walked, ItemFault>
-    requires ordered { IsOrdered mapping.now }
     requires role { IsRoleIn mapping.now role }
     ensures value { Gives state_of result (value_at mapping.now role context (string_bytes walked.path) (state_of walked) (view value.now)) }
     ensures path { IfOk result (λ w. string_bytes w.path ≡ string_bytes walked.path) }
@@ -154,13 +150,12 @@ fn value(
 #[cycle(walk)]
 fn items(
     alloc: Global,
-    mapping: &Mapping,
+    mapping: &OrderedMapping<'_>,
     role: Role,
     context: u32,
     before: Walked,
     items: &Vec<Value>,
 ) -> Result<Walked, ItemFault>
-    requires ordered { IsOrdered mapping.now }
     requires role { IsRoleIn mapping.now role }
     ensures value { Gives state_of result (items_at mapping.now role context (string_bytes before.path) (state_of before) (items_view items.now.items)) }
     ensures path { IfOk result (λ w. string_bytes w.path ≡ string_bytes before.path) }
@@ -172,23 +167,22 @@ fn items(
     Ok(walked)
 }
 
-/// An object by the role of its path: 21 where the path is a field.
+/// An object by the role of its path: `WRONG_FIELD_TYPE` where the path is a field.
 #[cycle(walk)]
 fn object(
     alloc: Global,
-    mapping: &Mapping,
+    mapping: &OrderedMapping<'_>,
     role: Role,
     context: u32,
     walked: Walked,
     members: &Map<String, Value>,
 ) -> Result<Walked, ItemFault>
-    requires ordered { IsOrdered mapping.now }
     requires role { IsRoleIn mapping.now role }
     ensures value { Gives state_of result (value_at mapping.now role context (string_bytes walked.path) (state_of walked) (object (members_view members.now.entries))) }
     ensures path { IfOk result (λ w. string_bytes w.path ≡ string_bytes walked.path) }
 {
     match role {
-        Role::Leaf { .. } => refuse(alloc, 21, walked.path.as_str()),
+        Role::Leaf { .. } => refuse(alloc, WRONG_FIELD_TYPE, walked.path.as_str()),
         Role::Plain => inner(alloc, &*mapping, context, walked, members),
         Role::Nested(place) => nested(alloc, &*mapping, place, walked, members),
         Role::Unmapped => Ok(walked),
@@ -199,12 +193,11 @@ fn object(
 #[cycle(walk)]
 fn inner(
     alloc: Global,
-    mapping: &Mapping,
+    mapping: &OrderedMapping<'_>,
     context: u32,
     walked: Walked,
     found: &Map<String, Value>,
 ) -> Result<Walked, ItemFault>
-    requires { IsOrdered mapping.now }
     ensures value { Gives state_of result (members_at mapping.now context (string_bytes walked.path ++ 46 ∷ []) (state_of walked) (members_view found.now.entries)) }
     ensures path { IfOk result (λ w. string_bytes w.path ≡ string_bytes walked.path) }
 {
@@ -213,22 +206,22 @@ fn inner(
     Ok(back(walked, end))
 }
 
-/// An object that is a row of its own beneath the row that is walked: 24 where the document has too many.
+/// An object that is a row of its own beneath the row that is walked: `TOO_MANY_NESTED_OBJECTS` where the document has
+/// too many.
 #[cycle(walk)]
 fn nested(
     alloc: Global,
-    mapping: &Mapping,
+    mapping: &OrderedMapping<'_>,
     place: u32,
     walked: Walked,
     members: &Map<String, Value>,
 ) -> Result<Walked, ItemFault>
-    requires ordered { IsOrdered mapping.now }
-    requires place { place < length mapping.now.nested }
+    requires { place < length mapping.now.nested }
     ensures value { Gives state_of result (nested_at mapping.now place (string_bytes walked.path) (state_of walked) (members_view members.now.entries)) }
     ensures path { IfOk result (λ w. string_bytes w.path ≡ string_bytes walked.path) }
 {
-    if walked.met >= MAX_NESTED {
-        return refuse(alloc, 24, walked.path.as_str());
+    if walked.met >= MAX_NESTED_OBJECTS {
+        return refuse(alloc, TOO_MANY_NESTED_OBJECTS, walked.path.as_str());
     }
     let Walked { row, met, path } = walked;
     let begun = Walked {
@@ -236,27 +229,27 @@ fn nested(
         met: met + 1,
         path,
     };
-    let ended = inner(alloc, &*mapping, place + 1, begun, members)?;
+    let context = mapping.context_of(place);
+    let ended = inner(alloc, &*mapping, context, begun, members)?;
     around(alloc, place, row, ended)
 }
 
-/// A member by its path: an unmapped one is passed over, or refused with 27 where the mapping is strict.
+/// A member by its path: an unmapped one is passed over, or refused with `STRICT_MAPPING` where the mapping is strict.
 #[cycle(walk)]
 fn member(
     alloc: Global,
-    mapping: &Mapping,
+    mapping: &OrderedMapping<'_>,
     context: u32,
     walked: Walked,
     found: &Value,
 ) -> Result<Walked, ItemFault>
-    requires { IsOrdered mapping.now }
     ensures value { Gives state_of result (member_at mapping.now context (string_bytes walked.path) (state_of walked) (view found.now)) }
     ensures path { IfOk result (λ w. string_bytes w.path ≡ string_bytes walked.path) }
 {
     match role_of(&*mapping, context, walked.path.as_bytes()) {
         Role::Unmapped => {
-            if mapping.strict {
-                return refuse(alloc, 27, walked.path.as_str());
+            if mapping.is_strict() {
+                return refuse(alloc, STRICT_MAPPING, walked.path.as_str());
             }
             Ok(walked)
         }
@@ -268,12 +261,11 @@ fn member(
 #[cycle(walk)]
 pub(crate) fn members(
     alloc: Global,
-    mapping: &Mapping,
+    mapping: &OrderedMapping<'_>,
     context: u32,
     before: Walked,
     members: &Map<String, Value>,
 ) -> Result<Walked, ItemFault>
-    requires { IsOrdered mapping.now }
     ensures value { Gives state_of result (members_at mapping.now context (string_bytes before.path) (state_of before) (members_view members.now.entries)) }
     ensures path { IfOk result (λ w. string_bytes w.path ≡ string_bytes before.path) }
 {

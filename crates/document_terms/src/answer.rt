@@ -9,12 +9,9 @@ ghost use Rattle.document_terms.specs.SmallSearch.{IsTermsSearch, HaveKeywords};
 
 use crate::count::term_counts;
 use crate::search::KEYWORD_FIELD;
-use agg_model::aggregation::{Agg, Search};
-use agg_model::list::List;
-use agg_model::partial::{Node, Partial};
-use agg_model::row::Document;
+use agg_model::{Agg, Document, List, Node, Partial, Search};
 use std::alloc::{AllocError, Global};
-use terms_agg::trim::trim;
+use terms_agg::trim;
 
 /// A node for each aggregation, each of the documents' keywords.
 fn nodes_of(

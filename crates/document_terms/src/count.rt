@@ -7,11 +7,7 @@ ghost use Rattle.agg_evaluation.specs.Orders.{bucket_count};
 ghost use Rattle.terms_agg.specs.Trim.{node_buckets};
 ghost use Rattle.document_terms.specs.Terms.{as_word, word_of, words_of, term_node, counted_bucket};
 
-use agg_model::key::Key;
-use agg_model::list::List;
-use agg_model::partial::{Bucket, Node};
-use agg_model::row::{Document, FieldValues, Row, Scalar};
-use agg_model::text::Text;
+use agg_model::{Bucket, Document, FieldValues, Key, List, Node, Row, Scalar, Text};
 use std::alloc::{AllocError, Global};
 use std::collections::BTreeMap;
 

@@ -2,9 +2,13 @@
 //! (Elasticsearch Reference 8, 'Terms aggregation').
 #![tactic(auto)]
 
-pub mod answer;
-pub mod count;
+mod answer;
+mod count;
 pub mod laws;
-pub mod search;
+mod search;
 #[cfg(test)]
 mod tests;
+
+pub use answer::shard_answer_of;
+pub use count::term_counts;
+pub use search::{KEYWORD_FIELD, terms_search};

@@ -2,10 +2,7 @@
 ghost use Rattle.std.specs.Prelude.{◌≡◌, IfOk};
 ghost use Rattle.document_terms.specs.SmallSearch.{terms_kind, terms_search};
 
-use agg_model::aggregation::{Agg, Kind, Order, OrderBy, Search};
-use agg_model::list::List;
-use agg_model::query::Query;
-use agg_model::text::Text;
+use agg_model::{Agg, Kind, List, Order, OrderBy, Query, Search, Text};
 use std::alloc::{AllocError, Global};
 
 /// The place of the field `t` in the mapping.

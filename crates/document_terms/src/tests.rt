@@ -5,11 +5,7 @@ ghost use Rattle.document_terms.specs.SmallSearch.{HaveKeywords};
 use crate::answer::shard_answer_of;
 use crate::count::term_counts;
 use crate::search::terms_search;
-use agg_model::key::Key;
-use agg_model::list::List;
-use agg_model::partial::{Bucket, Node};
-use agg_model::row::{Document, FieldValues, Row, Scalar};
-use agg_model::text::Text;
+use agg_model::{Bucket, Document, FieldValues, Key, List, Node, Row, Scalar, Text};
 use std::alloc::{AllocError, Global};
 use std::test::Fail;
 

@@ -4,8 +4,8 @@ use Rattle.agg_model.specs.declared.answer.Answer.{Answer}
 use Rattle.agg_model.specs.declared.aggregation.Search.{Search}
 use Rattle.agg_spec.specs.BucketCount.{total_buckets}
 use Rattle.agg_spec.specs.RangeCheck.{out_of_range}
-use Rattle.final_reduce.specs.declared.finish.FinalFault.{FinalFault}
-use Rattle.final_reduce.specs.declared.finish.FinalFault.TheVariants as fault
+use Rattle.final_reduce.specs.declared.finishing.FinalFault.{FinalFault}
+use Rattle.final_reduce.specs.declared.finishing.FinalFault.TheVariants as fault
 
 -- the answer has no more buckets than the maximum, and each number is in range
 abbrev pub IsWithinLimits : Search → ℕ → Answer → Type 0

@@ -1,14 +1,12 @@
 // The composite keys that an answer returns.
 ghost use Rattle.std.specs.Prelude.{◌≡◌, IfOk, IsTrue, take, length};
 ghost use Rattle.std.specs.List.{list_all};
-ghost use Rattle.agg_evaluation.specs.Sorting.{sorted};
+ghost use Rattle.list_laws.specs.Sorting.{sorted};
 ghost use Rattle.agg_evaluation.specs.Orders.{bucket_key, composite_cmp};
 ghost use Rattle.bucket_order.specs.Composites.{is_composite_of};
 
-use agg_model::aggregation::CompositeSource;
-use agg_model::list::List;
-use agg_model::partial::Bucket;
-use bucket_order::sort::sort_composites;
+use agg_model::{Bucket, CompositeSource, List};
+use bucket_order::sort_composites;
 use std::alloc::AllocError;
 
 pub(crate) fn first_composites(

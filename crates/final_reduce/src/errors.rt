@@ -2,8 +2,7 @@
 ghost use Rattle.std.specs.Prelude.{◌≡◌, ◌<◌, ◌^◌};
 ghost use Rattle.agg_spec.specs.CountErrors.{precision_of, count_error as error_of_count};
 
-use agg_model::aggregation::{Order, OrderBy};
-use agg_model::list::List;
+use agg_model::{List, Order, OrderBy};
 
 /// The error of a count in this order. The shards' errors add up to `error`, those of the shards that returned the
 /// term to `covered`, and `full` shards returned as many terms as they were asked for.

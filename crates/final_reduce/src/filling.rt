@@ -3,7 +3,7 @@ ghost use Rattle.std.specs.Prelude.{◌≡◌, ◌<◌, IfOk, OnOk, IsTrue, map}
 ghost use Rattle.std.specs.List.{list_all};
 ghost use Rattle.agg_model.specs.declared.key.Key.TheVariants.{Whole};
 ghost use Rattle.agg_evaluation.specs.KeyOrder.{key_eq};
-ghost use Rattle.agg_evaluation.specs.Sorting.{sorted};
+ghost use Rattle.list_laws.specs.Sorting.{sorted};
 ghost use Rattle.agg_evaluation.specs.Orders.{bucket_cmp, bucket_key};
 ghost use Rattle.agg_evaluation.specs.Trees.{is_ascending};
 ghost use Rattle.agg_spec.specs.Filling.{bucket_at, filled, filled_keys};
@@ -14,11 +14,8 @@ ghost use Rattle.final_reduce.specs.Steps.{key_numbers, left_by, taken};
 
 use crate::spans::{Spacing, filled_span};
 use crate::terms::keep_frequent;
-use agg_model::aggregation::{Agg, Order};
-use agg_model::key::Key;
-use agg_model::list::List;
-use agg_model::partial::Bucket;
-use bucket_order::sort::sort_buckets;
+use agg_model::{Agg, Bucket, Key, List, Order};
+use bucket_order::sort_buckets;
 use partial_result::empty_nodes;
 use std::alloc::{AllocError, Global};
 use std::collections::VecDeque;

@@ -3,17 +3,13 @@ ghost use Rattle.std.specs.List.{list_all};
 ghost use Rattle.agg_model.specs.declared.aggregation.Agg.{out-Agg};
 ghost use Rattle.agg_model.specs.declared.key.Key.TheVariants.{Whole};
 ghost use Rattle.agg_model.specs.declared.partial.Node.TheVariants.{Keyed};
-ghost use Rattle.final_reduce.specs.Finishable.{can_finish, has_interval, is_histogram_key};
+ghost use Rattle.final_reduce.specs.Finishable.{can_finish, is_histogram_key};
+ghost use Rattle.agg_evaluation.specs.Conditions.{has_interval};
 ghost use Rattle.final_reduce.specs.SampleGaps.{IsHistogram, counted_bucket, no_bounds, rises};
 
-use crate::finish::{FinalFault, finish};
+use crate::finishing::{FinalFault, finish};
 use crate::tests::{Sample, of_one, one};
-use agg_model::aggregation::{Agg, Bounds, Kind};
-use agg_model::answer::{Answer, BucketAnswer};
-use agg_model::key::Key;
-use agg_model::list::List;
-use agg_model::partial::{Bucket, Node};
-use agg_model::text::Text;
+use agg_model::{Agg, Answer, Bounds, Bucket, BucketAnswer, Key, Kind, List, Node, Text};
 use std::alloc::{AllocError, Global};
 use std::test::Fail;
 

@@ -1,7 +1,7 @@
 // Buckets of a whole, lent to be counted.
 ghost use Rattle.std.specs.Prelude.{◌≡◌, IfOk, OnOk, IsTrue, map, take, length};
 ghost use Rattle.std.specs.List.{list_all};
-ghost use Rattle.agg_evaluation.specs.Sorting.{sorted};
+ghost use Rattle.list_laws.specs.Sorting.{sorted};
 ghost use Rattle.agg_evaluation.specs.Orders.{bucket_cmp, bucket_key, composite_cmp};
 ghost use Rattle.agg_model.specs.declared.aggregation.Agg.{out-Agg};
 ghost use Rattle.agg_spec.specs.Filling.{frequent};
@@ -9,11 +9,8 @@ ghost use Rattle.bucket_order.specs.Composites.{is_composite_of};
 ghost use Rattle.bucket_order.specs.Kinds.{child_kinds, kind_of};
 ghost use Rattle.final_reduce.specs.Planned.{returned_at, has_composite_keys};
 
-use agg_model::aggregation::{Agg, CompositeSource, Kind, Order};
-use agg_model::list::List;
-use agg_model::partial::Bucket;
-use bucket_order::compare::compare_buckets;
-use bucket_order::composite::compare_composites;
+use agg_model::{Agg, Bucket, CompositeSource, Kind, List, Order};
+use bucket_order::{compare_buckets, compare_composites};
 use std::alloc::{AllocError, Global};
 
 fn lend_frequent(

@@ -7,7 +7,7 @@ mod composite;
 mod count;
 mod errors;
 mod filling;
-pub mod finish;
+mod finishing;
 #[cfg(test)]
 mod gap_tests;
 mod lent;
@@ -18,3 +18,5 @@ mod spans;
 mod terms;
 #[cfg(test)]
 mod tests;
+
+pub use finishing::{FinalFault, finish};

@@ -2,8 +2,7 @@
 ghost use Rattle.std.specs.Prelude.{◌≡◌, IfSome, option_to_list};
 ghost use Rattle.agg_evaluation.specs.Whole.{parts};
 
-use agg_model::list::List;
-use agg_model::partial::{Bucket, Metric, Node};
+use agg_model::{Bucket, List, Metric, Node};
 use std::alloc::Global;
 
 #[derive(Drop)]

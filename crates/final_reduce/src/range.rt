@@ -5,10 +5,7 @@ ghost use Rattle.agg_spec.specs.RangeCheck.{is_in_range as in_range, key_in_rang
 ghost use Rattle.agg_model.specs.declared.aggregation.Agg.{out-Agg};
 ghost use Rattle.final_reduce.specs.Paths.{path_bytes, checked_inside};
 
-use agg_model::aggregation::{Agg, Kind};
-use agg_model::answer::{BucketAnswer, NodeAnswer};
-use agg_model::key::Key;
-use agg_model::list::List;
+use agg_model::{Agg, BucketAnswer, Key, Kind, List, NodeAnswer};
 use std::alloc::{AllocError, Global};
 
 fn is_in_range(number: i128) -> bool

@@ -10,9 +10,7 @@ ghost use Rattle.agg_spec.specs.GapCount.{step_count as count_of_steps, key_from
 ghost use Rattle.final_reduce.specs.Finishable.{is_histogram_key};
 ghost use Rattle.final_reduce.specs.Steps.{IsSpan, key_numbers, first_within as first_within_bounds, last_within as last_within_bounds};
 
-use agg_model::aggregation::Bounds;
-use agg_model::key::Key;
-use agg_model::partial::Bucket;
+use agg_model::{Bounds, Bucket, Key};
 
 /// Where the keys of a histogram lie.
 #[derive(Clone, Copy)]

@@ -1,15 +1,13 @@
 // The terms that an answer returns.
 ghost use Rattle.std.specs.Prelude.{◌≡◌, ◌<◌, ◌≤◌, ◌^◌, IfOk, map, take, drop, sum_by};
-ghost use Rattle.agg_evaluation.specs.Sorting.{sorted};
+ghost use Rattle.list_laws.specs.Sorting.{sorted};
 ghost use Rattle.agg_evaluation.specs.Orders.{bucket_cmp, bucket_count};
 ghost use Rattle.agg_spec.specs.Filling.{frequent};
 ghost use Rattle.bucket_order.specs.Kinds.{child_kinds};
 ghost use Rattle.final_reduce.specs.Terms.{ordered_terms};
 
-use agg_model::aggregation::{Agg, Order};
-use agg_model::list::List;
-use agg_model::partial::Bucket;
-use bucket_order::sort::sort_buckets;
+use agg_model::{Agg, Bucket, List, Order};
+use bucket_order::sort_buckets;
 use std::alloc::{AllocError, Global};
 
 /// The terms that are returned, and the number of documents of those beyond them.

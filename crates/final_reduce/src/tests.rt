@@ -2,17 +2,14 @@ ghost use Rattle.std.specs.Prelude.{◌≡◌, ◌+◌, ◌∷◌, [], IfOk, IsT
 ghost use Rattle.agg_model.specs.declared.key.Key.TheVariants.{Word};
 ghost use Rattle.agg_model.specs.declared.aggregation.Agg.{out-Agg};
 ghost use Rattle.agg_model.specs.declared.partial.Node.TheVariants.{Keyed};
-ghost use Rattle.final_reduce.specs.Finishable.{can_finish, has_interval, has_intervals, is_finishable};
+ghost use Rattle.final_reduce.specs.Finishable.{can_finish, is_finishable};
+ghost use Rattle.agg_evaluation.specs.Conditions.{has_interval, has_intervals};
 ghost use Rattle.final_reduce.specs.SampleTerms.{IsTermsAlone, returned_bucket};
 
-use crate::finish::finish;
-use agg_model::aggregation::{Agg, Kind, Order, OrderBy, Search};
-use agg_model::answer::NodeAnswer;
-use agg_model::key::Key;
-use agg_model::list::List;
-use agg_model::partial::{Bucket, Node, Partial};
-use agg_model::query::Query;
-use agg_model::text::Text;
+use crate::finishing::finish;
+use agg_model::{
+    Agg, Bucket, Key, Kind, List, Node, NodeAnswer, Order, OrderBy, Partial, Query, Search, Text,
+};
 use std::alloc::{AllocError, Global};
 use std::test::Fail;
 

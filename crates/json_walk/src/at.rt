@@ -5,8 +5,8 @@ ghost use Rattle.std.specs.List.{flat_map};
 ghost use Rattle.std.specs.Str.{chars};
 ghost use Rattle.agg_reading.specs.Pointer.{escaped};
 
-use agg_model::text::Text;
-use agg_reading::fault::RequestFault;
+use agg_model::Text;
+use agg_reading::RequestFault;
 use std::alloc::{AllocError, Global};
 
 /// Where a value stands in a JSON value: a path of names and places from the start (RFC 6901).
@@ -37,7 +37,7 @@ fn push_name(out: &mut String, name: &str) -> Result<(), AllocError>
 impl At<'_> {
     ghost use Rattle.json_walk.specs.Places.{pointer};
     ghost use Rattle.agg_reading.specs.Pointer.{escaped};
-    ghost use Rattle.agg_reading.specs.Outcome.{Gives, refuse};
+    ghost use Rattle.agg_reading.specs.Reading.{Gives, refuse};
 
     /// Writes the pointer.
     fn write(&self, out: &mut String) -> Result<(), AllocError>

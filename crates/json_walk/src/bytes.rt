@@ -2,10 +2,10 @@
 
 ghost use Rattle.std.specs.Prelude.{◌≡◌, IfOk, option_map};
 ghost use Rattle.serde_json.specs.View.{view};
-ghost use Rattle.agg_reading.specs.Outcome.{Gives};
+ghost use Rattle.agg_reading.specs.Reading.{Gives};
 ghost use Rattle.agg_reading.specs.Json.{reading, json_at};
 
-use agg_reading::fault::RequestFault;
+use agg_reading::RequestFault;
 use serde_json::Value;
 use std::alloc::{AllocError, Global};
 

@@ -5,11 +5,20 @@
 //! Its one clause says that it gives what a definition of `agg_reading` gives, unless memory ran out.
 #![tactic(auto)]
 
-pub mod at;
-pub mod bytes;
-pub mod members;
-pub mod numbers;
-pub mod ranges;
-pub mod scalars;
+mod at;
+mod bytes;
+mod members;
+mod numbers;
+mod ranges;
+mod scalars;
 #[cfg(test)]
 mod tests;
+
+pub use at::At;
+pub use bytes::{json, reading};
+pub use members::{
+    check_names, is_one_of, list, member, object, required, sole_besides, sole_member, text,
+};
+pub use numbers::{choice, signed, signed_in, truth, truth_in, whole_in};
+pub use ranges::{fits_kind, is_longer, stored};
+pub use scalars::{decimal_of, flag, probe_of, whole, word};

@@ -4,11 +4,12 @@ ghost use Rattle.std.specs.Prelude.{◌≡◌, option_map, map, [], None, Some};
 ghost use Rattle.serde_json.specs.Find.{get_member};
 ghost use Rattle.serde_json.specs.View.{view, members_view, items_view};
 ghost use Rattle.json_walk.specs.Places.{pointer};
-ghost use Rattle.agg_reading.specs.Outcome.{Gives};
+ghost use Rattle.agg_reading.specs.Reading.{Gives};
 ghost use Rattle.agg_reading.specs.Json.{object_at, list_at, text_at, required, sole, sole_at, sole_besides, known, is_among};
 
 use crate::at::At;
-use agg_reading::fault::RequestFault;
+use agg_model::body_refusal::MISSING_MEMBER;
+use agg_reading::RequestFault;
 use serde_json::{Map, Value};
 use std::alloc::Global;
 
@@ -67,7 +68,7 @@ pub fn member<'v>(members: &'v Map<String, Value>, name: &str) -> Option<&'v Val
     members.get(name)
 }
 
-/// The member of this name; the object is refused with 102 where it is absent.
+/// The member of this name; the object is refused with `MISSING_MEMBER` where it is absent.
 #[tactic(auto, unfolding(agg_reading::specs::Json::required))]
 pub fn required<'v>(
     alloc: Global,
@@ -79,7 +80,7 @@ pub fn required<'v>(
 {
     match member(members, name) {
         Some(found) => Ok(found),
-        None => at.refuse(alloc, 102),
+        None => at.refuse(alloc, MISSING_MEMBER),
     }
 }
 

@@ -3,9 +3,7 @@
 ghost use Rattle.std.specs.Prelude.{◌≡◌};
 ghost use Rattle.agg_reading.specs.Scalars.{fits_kind, stored, is_longer};
 
-use agg_model::mapping::FieldKind;
-use agg_model::query::Probe;
-use agg_model::row::Scalar;
+use agg_model::{FieldKind, Probe, Scalar};
 
 /// Whether a whole number lies in the range of a field of this kind: 64, 32, 16 or 8 bits, signed.
 pub fn fits_kind(kind: FieldKind, number: i128) -> bool

@@ -6,9 +6,8 @@ ghost use Rattle.std.specs.Str.{all_ascii_digits};
 ghost use Rattle.serde_json.specs.View.{view};
 ghost use Rattle.agg_reading.specs.Scalars.{digits_of, is_decimal, decimal_of, whole, word, flag, flag_of, probe_of};
 
-use agg_model::mapping::FieldKind;
-use agg_model::query::Probe;
-use agg_model::text::Text;
+use agg_model::limits::MAX_DIGITS;
+use agg_model::{FieldKind, Probe, Text};
 use serde_json::{Number, Value};
 use std::alloc::{AllocError, Global};
 
@@ -36,15 +35,15 @@ fn digits_of(text: &str) -> &[u8]
     }
 }
 
-/// Whether a text is an optional `-` and 1 to 38 digits.
+/// Whether a text is an optional `-` and 1 to `MAX_DIGITS` digits.
 fn is_decimal(text: &str) -> bool
     ensures { result ≡ is_decimal text.now }
 {
     let digits = digits_of(text);
-    0 < digits.len() && digits.len() <= 38 && are_digits(digits)
+    0 < digits.len() && digits.len() <= MAX_DIGITS && are_digits(digits)
 }
 
-/// The number that a decimal text writes; none where the text is not an optional `-` and 1 to 38 digits.
+/// The number that a decimal text writes; none where the text is not an optional `-` and 1 to `MAX_DIGITS` digits.
 #[tactic(auto, unfolding(agg_reading::specs::Scalars::decimal_of))]
 pub fn decimal_of(text: &str) -> Option<i128>
     ensures { result ≡ decimal_of text.now }

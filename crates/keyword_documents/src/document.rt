@@ -5,11 +5,7 @@ ghost use Rattle.agg_model.specs.declared.bulk.ItemRefusal.{ItemRefusal};
 ghost use Rattle.keyword_documents.specs.SmallForm.{keyword_of, keyword_in, keyword_row, keyword_document};
 ghost use Rattle.keyword_documents.specs.declared.document.ItemFault.TheVariants.{Refused, Memory};
 
-use agg_model::bulk::ItemRefusal;
-use agg_model::copying::Copying;
-use agg_model::list::List;
-use agg_model::row::{Document, FieldValues, Row, Scalar};
-use agg_model::text::Text;
+use agg_model::{Copying, Document, FieldValues, ItemRefusal, List, Row, Scalar, Text};
 use serde_json::{Map, Value};
 use std::alloc::{AllocError, Global};
 

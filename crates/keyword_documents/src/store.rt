@@ -5,9 +5,7 @@ ghost use Rattle.keyword_documents.specs.SmallForm.{keyword_of, keyword_document
 ghost use Rattle.keyword_documents.specs.declared.document.ItemFault.TheVariants.{Refused, Memory};
 
 use crate::document::{ItemFault, document_of};
-use agg_model::bulk::{Action, Applied};
-use agg_model::list::List;
-use agg_model::row::Document;
+use agg_model::{Action, Applied, Document, List};
 use std::alloc::Global;
 use std::marker::Model;
 

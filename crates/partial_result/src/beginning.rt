@@ -5,12 +5,7 @@ ghost use Rattle.std.specs.Option.{option_map_or};
 ghost use Rattle.agg_evaluation.specs.Whole.{empty_node, whole};
 ghost use Rattle.partial_result.specs.Beginning.{empty_buckets_of};
 
-use agg_model::aggregation::{Agg, Kind, Search};
-use agg_model::key::Key;
-use agg_model::list::List;
-use agg_model::partial::{Bucket, Metric, Node, Partial};
-use agg_model::query::Query;
-use agg_model::text::Text;
+use agg_model::{Agg, Bucket, Key, Kind, List, Metric, Node, Partial, Query, Search, Text};
 use std::alloc::{AllocError, Global};
 
 /// The partial result of no shard: a node for each aggregation at the top, and in it the buckets that exist from the

@@ -3,9 +3,7 @@ ghost use Rattle.std.specs.Prelude.{◌≡◌, ◌^◌, ◌<◌, map, sum_by, le
 ghost use Rattle.agg_evaluation.specs.Cost.{key_bytes, node_cost, cost as cost_of};
 ghost use Rattle.partial_result.specs.Costs.{cost_of_bucket as bucket_cost_of};
 
-use agg_model::key::Key;
-use agg_model::list::List;
-use agg_model::partial::{Bucket, Node, Partial};
+use agg_model::{Bucket, Key, List, Node, Partial};
 
 /// What a node costs beside its buckets, in bytes.
 const NODE_BYTES: u64 = 512;

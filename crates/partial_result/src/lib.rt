@@ -1,4 +1,5 @@
-//! Partial results: the empty one, the union of two, and their cost.
+//! Partial results: the empty one, the union of two, and their cost (Elasticsearch Reference 8, 'Aggregations': partial
+//! reduce).
 #![tactic(auto)]
 
 mod beginning;

@@ -6,9 +6,7 @@ ghost use Rattle.agg_evaluation.specs.Whole.{whole};
 ghost use Rattle.agg_evaluation.specs.Trees.{is_result_of, numbers_fit};
 ghost use Rattle.partial_result.specs.Merged.{merged, merged_bucket, merged_metric, merged_nodes, either_or, other_bucket, united, IsPassed};
 
-use agg_model::key::Key;
-use agg_model::list::List;
-use agg_model::partial::{Bucket, Metric, Node, Partial};
+use agg_model::{Bucket, Key, List, Metric, Node, Partial};
 use std::alloc::{AllocError, Global};
 use std::cmp::Ordering;
 use std::collections::VecDeque;

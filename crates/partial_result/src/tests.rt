@@ -3,12 +3,7 @@ ghost use Rattle.std.specs.Prelude.{◌≡◌, ◌<◌, ◌^◌, IfOk, length};
 ghost use Rattle.agg_evaluation.specs.Cost.{cost as cost_of};
 
 use crate::{cost, empty, merge};
-use agg_model::aggregation::{Agg, Kind, Search};
-use agg_model::key::Key;
-use agg_model::list::List;
-use agg_model::partial::{Bucket, Node, Partial};
-use agg_model::query::Query;
-use agg_model::text::Text;
+use agg_model::{Agg, Bucket, Key, Kind, List, Node, Partial, Query, Search, Text};
 use std::alloc::{AllocError, Global};
 use std::test::Fail;
 

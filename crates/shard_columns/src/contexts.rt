@@ -4,7 +4,7 @@ ghost use Rattle.shard_columns.specs.Layout.{context_of};
 ghost use Rattle.shard_columns.specs.Contexts.{ContextsBelow, AreNumbered};
 
 use crate::layout::{Entry, Origin};
-use agg_model::list::List;
+use agg_model::List;
 use std::alloc::{AllocError, Global};
 
 /// The context of a row: 0 at a root, i + 1 at the i-th nested path.

@@ -2,9 +2,7 @@ ghost use Rattle.std.specs.Prelude.{◌<◌, ◌≤◌, length};
 ghost use Rattle.shard_columns.specs.Index.{AreBuilt};
 
 use crate::shard::Shard;
-use agg_model::list::List;
-use agg_model::mapping::Mapping;
-use agg_model::text::Text;
+use agg_model::{List, Mapping, Text};
 
 /// An index: its name, its mapping, and from 1 to 1,024 shards, each built with that mapping.
 #[derive(Drop)]

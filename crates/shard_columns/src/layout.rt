@@ -4,8 +4,7 @@ ghost use Rattle.agg_evaluation.specs.Rows.{rows_of};
 ghost use Rattle.shard_columns.specs.Layout.{flat_rows, place_at, context_of, children_of, AddsRow, AddsChildren, ids_of, rows_of_documents};
 ghost use Rattle.shard_columns.specs.Ends.{row_ends, children_ends, root_ends, each};
 
-use agg_model::list::List;
-use agg_model::row::{Children, Document, FieldValues, Row};
+use agg_model::{Children, Document, FieldValues, List, Row};
 use std::alloc::{AllocError, Global};
 
 /// Where a row comes from.

@@ -1,12 +1,16 @@
-//! Documents of one shard as columns: rows numbered in document order, values by row, words as ordinals.
+//! Documents of one shard as columns: rows numbered in document order, values by row, words as places in dictionaries.
+//! A `Shard` never changes once it is built, and lends its values.
 #![tactic(auto)]
 
 mod contexts;
-pub mod index;
+mod index;
 mod layout;
 mod search;
-pub mod shard;
+mod shard;
 #[cfg(test)]
 mod tests;
 mod values;
 mod words;
+
+pub use index::Index;
+pub use shard::{Cell, Shard};

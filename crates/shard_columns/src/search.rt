@@ -6,7 +6,7 @@ ghost use Rattle.std.specs.Cmp.Lexicographic.{slice_cmp};
 ghost use Rattle.shard_columns.specs.Values.{cut, IsPart};
 
 use crate::values::{Held, Span};
-use agg_model::text::Text;
+use agg_model::Text;
 
 /// The part of ascending numbers that are at least `from` and below `to`.
 pub fn span_between(numbers: &[usize], from: usize, to: usize) -> Span

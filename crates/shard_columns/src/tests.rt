@@ -3,10 +3,9 @@ ghost use Rattle.agg_model.specs.declared.mapping.FieldKind.TheVariants.{Keyword
 ghost use Rattle.shard_columns.specs.Example.{item_of, example_root};
 
 use crate::shard::{Cell, Shard};
-use agg_model::list::List;
-use agg_model::mapping::{Field, FieldKind, Mapping, NestedPath};
-use agg_model::row::{Children, Document, FieldValues, Row, Scalar};
-use agg_model::text::Text;
+use agg_model::{
+    Children, Document, Field, FieldKind, FieldValues, List, Mapping, NestedPath, Row, Scalar, Text,
+};
 use std::alloc::{AllocError, Global};
 use std::test::Fail;
 

@@ -3,9 +3,7 @@ ghost use Rattle.std.specs.Prelude.{◌≡◌, ◌++◌, ◌∷◌, ◌<◌, [],
 ghost use Rattle.shard_columns.specs.Values.{IsAscending, AllAscend, HasWords, HasAllWords, AddsValues, AddsFields, AddsRowValues, WithinReach, IsWithin, IsPart, FieldsAscend, cut, held_in};
 
 use crate::search::find_field;
-use agg_model::list::List;
-use agg_model::row::{FieldValues, Scalar};
-use agg_model::text::Text;
+use agg_model::{FieldValues, List, Scalar, Text};
 use std::alloc::AllocError;
 
 /// A value as it is stored: a word is its place among the words of its field.

@@ -5,10 +5,7 @@ ghost use Rattle.shard_columns.specs.Values.{IsAscending, AllAmong, words_in, wo
 ghost use Rattle.shard_columns.specs.Words.{lent, lent_by_field, Notes, AllFieldsBelow, NotesRows, SameWords, AllSame, AreEmpty, AreDictionaries};
 
 use crate::layout::Laid;
-use agg_model::copying::Copying;
-use agg_model::list::List;
-use agg_model::row::{FieldValues, Scalar};
-use agg_model::text::Text;
+use agg_model::{Copying, FieldValues, List, Scalar, Text};
 use std::alloc::{AllocError, Global};
 
 fn note_value<'a>(words: &mut Vec<&'a Text>, value: &'a Scalar) -> Result<(), AllocError>

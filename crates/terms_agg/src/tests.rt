@@ -2,12 +2,8 @@ ghost use Rattle.std.specs.Prelude.{◌≡◌, ◌<◌, ◌^◌, IfOk, sum_by};
 ghost use Rattle.agg_evaluation.specs.Orders.{bucket_count};
 ghost use Rattle.terms_agg.specs.Trim.{node_buckets};
 
-use crate::trim::trim;
-use agg_model::aggregation::{Agg, Kind, Order, OrderBy};
-use agg_model::key::Key;
-use agg_model::list::List;
-use agg_model::partial::{Bucket, Node};
-use agg_model::text::Text;
+use crate::trimming::trim;
+use agg_model::{Agg, Bucket, Key, Kind, List, Node, Order, OrderBy, Text};
 use std::alloc::{AllocError, Global};
 use std::test::Fail;
 

@@ -2,11 +2,9 @@
 ghost use Rattle.std.specs.Prelude.{◌≡◌, ◌≤◌, None, length};
 
 use super::{INDEX, NO_FAULT, answered, joined};
-use crate::run::run;
-use agg_base::memory_sink::MemorySink;
-use agg_base::source::{Failed, Source};
-use agg_model::bytes::Bytes;
-use agg_model::list::List;
+use crate::running::run;
+use agg_base::{Failed, MemorySink, Source};
+use agg_model::{Bytes, List};
 use std::alloc::{AllocError, Global};
 use std::test::Fail;
 

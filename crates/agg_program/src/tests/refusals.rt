@@ -1,7 +1,7 @@
 //! What is not built is refused at its line.
 
 use super::{INDEX, NO_FAULT, answered, is_front, joined};
-use agg_model::bytes::Bytes;
+use agg_model::Bytes;
 use std::alloc::{AllocError, Global};
 use std::process::Abort;
 use std::test::Fail;

@@ -1,6 +1,6 @@
 use Rattle.std.proofs.lemmas.Result.{err_from_is_err_and}
 use Rattle.agg_reading.specs.IndexLine.{agreed_all}
-use Rattle.agg_mapping.proofs.Steps.{fails_bind}
+use Rattle.agg_reading.proofs.Steps.{fails_bind}
 use Rattle.agg_mapping.proofs.index_line.agreed_all.Goals as goal
 
 pub returns-in_err-two : goal.returns-in_err-two

@@ -1,7 +1,7 @@
 use Rattle.std.proofs.Common.{rules}
 use Rattle.std.proofs.lemmas.Result.{err_from_is_err_and}
 use Rattle.agg_reading.specs.IndexLine.{settings_at}
-use Rattle.agg_mapping.proofs.Steps.{fails_bind}
+use Rattle.agg_reading.proofs.Steps.{fails_bind}
 use Rattle.agg_mapping.proofs.index_line.settings.Goals as goal
 
 pub returns-in_err-plain : goal.returns-in_err-plain

@@ -1,7 +1,7 @@
 use Rattle.std.proofs.Common.{rules}
 use Rattle.std.proofs.lemmas.Result.{err_from_is_err_and}
 use Rattle.agg_reading.specs.Properties.{inner_at}
-use Rattle.agg_mapping.proofs.Steps.{fails_bind}
+use Rattle.agg_reading.proofs.Steps.{fails_bind}
 use Rattle.agg_mapping.proofs.properties.+property.Goals as goal
 
 pub inner-returns-in_err-check_names : goal.inner-returns-in_err-check_names

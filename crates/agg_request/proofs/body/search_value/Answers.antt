@@ -1,7 +1,7 @@
 use Rattle.std.proofs.Common.{sym, ◌∙◌}
 use Rattle.std.proofs.lemmas.Result.{err_from_is_err_and}
 use Rattle.agg_reading.specs.Request.{search_value_at}
-use Rattle.agg_mapping.proofs.Steps.{fails_bind}
+use Rattle.agg_reading.proofs.Steps.{fails_bind}
 use Rattle.agg_request.proofs.body.search_value.Goals as goal
 
 pub returns-in_err-check_names : goal.returns-in_err-check_names

@@ -3,8 +3,8 @@ use Rattle.std.specs.Option.{is_some}
 use Rattle.agg_model.specs.declared.row.Document.{Document}
 use Rattle.agg_model.specs.declared.bulk.Applied.TheVariants.{Created, Updated}
 use Rattle.agg_reading.specs.Store.{Store, is_create, live_documents, put_row, store_weight, with_document}
-use Rattle.document_values.specs.Faults.{Fails}
-use Rattle.document_values.specs.declared.fault.ItemFault.{ItemFault}
+use Rattle.document_rows.specs.Faults.{Fails}
+use Rattle.document_rows.specs.declared.fault.ItemFault.{ItemFault}
 use Rattle.agg_documents.proofs.Entries.{count-weight}
 use Rattle.agg_documents.proofs.Putting.{replaced-within, put-weight, put-live, put-new, put-full, put-done}
 use Rattle.agg_documents.proofs.store.Store.put.Goals as goal

@@ -1,6 +1,6 @@
 use Rattle.std.proofs.Common.{◌≡◌, ◌-◌, suc, arith}
 use Rattle.std.proofs.lemmas.Result.{err_from_is_err_and}
-use Rattle.agg_mapping.proofs.Steps.{fails_bind}
+use Rattle.agg_reading.proofs.Steps.{fails_bind}
 use Rattle.agg_reading.specs.Query.{bool_at}
 use Rattle.agg_query.proofs.Levels.{stopped, begun}
 use Rattle.agg_query.proofs.query.Reader.+read.Goals as goal

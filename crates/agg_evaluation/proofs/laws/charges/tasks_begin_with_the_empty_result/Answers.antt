@@ -1,5 +1,0 @@
-use Rattle.agg_evaluation.proofs.BeginLaws.{built-begins}
-use Rattle.agg_evaluation.proofs.laws.charges.tasks_begin_with_the_empty_result.Goals as goal
-
-pub returns : goal.returns
-returns c = built-begins

@@ -1,9 +1,0 @@
-use Rattle.agg_evaluation.proofs.KeyLists.{holds}
-use Rattle.agg_evaluation.proofs.TaskLaws.{twice-peak, twice-cost}
-use Rattle.agg_evaluation.proofs.laws.charges.tasks_stay_below_their_ceilings.Goals as goal
-
-pub returns-clause-peak : goal.returns-clause-peak
-returns-clause-peak c = λ kinds search all bound placed e. twice-peak kinds search all bound (holds _ placed) e
-
-pub returns-clause-answer : goal.returns-clause-answer
-returns-clause-answer c = λ kinds search all bound placed e. twice-cost kinds search all bound (holds _ placed) e

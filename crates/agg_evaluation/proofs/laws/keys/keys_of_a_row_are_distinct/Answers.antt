@@ -1,6 +1,0 @@
-use Rattle.agg_evaluation.proofs.DistinctKeys.{ascending-keys}
-use Rattle.agg_evaluation.proofs.KeyLists.{true_is}
-use Rattle.agg_evaluation.proofs.laws.keys.keys_of_a_row_are_distinct.Goals as goal
-
-pub returns : goal.returns
-returns c = λ all kind row. true_is _ (ascending-keys all kind row)

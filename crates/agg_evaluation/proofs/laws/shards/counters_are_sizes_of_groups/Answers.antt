@@ -1,5 +1,0 @@
-use Rattle.agg_evaluation.proofs.CounterLaws.{counters-groups}
-use Rattle.agg_evaluation.proofs.laws.shards.counters_are_sizes_of_groups.Goals as goal
-
-pub returns : goal.returns
-returns c = counters-groups

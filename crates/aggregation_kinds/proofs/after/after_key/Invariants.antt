@@ -1,6 +1,0 @@
-use Rattle.std.proofs.Common.{◌≡◌, ◌++◌, drop}
-use Rattle.aggregation_kinds.specs.Pages.{parts_of}
-use Rattle.aggregation_kinds.proofs.after.after_key.Given as goal
-
-abbrev pub invariant-loop-source : goal.invariant-loop-source
-invariant-loop-source l = l.keys ++ parts_of l.after.parts (drop l.source-index l.sources) ≡ parts_of l.after.parts l.sources

@@ -1,0 +1,105 @@
+//! The values that a document gives a field. A refusal has the path of the member.
+
+ghost use Rattle.std.specs.Prelude.{◌≡◌};
+ghost use Rattle.serde_json.specs.View.{view};
+ghost use Rattle.agg_reading.specs.Scalars.{whole, word};
+ghost use Rattle.agg_reading.specs.Document.{number_value, word_value, is_ignored, document_flag, scalar_at};
+ghost use Rattle.document_rows.specs.Faults.{Gives};
+
+use crate::fault::ItemFault;
+use crate::refusal::refuse;
+use agg_model::item_refusal::{KEYWORD_TOO_LONG, NUMBER_OUT_OF_RANGE, WRONG_FIELD_TYPE};
+use agg_model::limits::MAX_KEYWORD;
+use agg_model::{FieldKind, Scalar};
+use json_walk::{fits_kind, flag, is_longer, whole, word};
+use serde_json::Value;
+use std::alloc::Global;
+
+/// The value of a whole-number field: `WRONG_FIELD_TYPE` where the value is no whole number or decimal text,
+/// `NUMBER_OUT_OF_RANGE` where it lies outside the range of the kind.
+fn number(
+    alloc: Global,
+    kind: FieldKind,
+    path: &str,
+    value: &Value,
+) -> Result<Option<Scalar>, ItemFault>
+    ensures { Gives (λ x. x) result (number_value kind path.now (whole (view value.now))) }
+{
+    let Some(number) = whole(value) else {
+        return refuse(alloc, WRONG_FIELD_TYPE, path);
+    };
+    if !fits_kind(kind, number) {
+        return refuse(alloc, NUMBER_OUT_OF_RANGE, path);
+    }
+    Ok(Some(Scalar::Whole(number as i64)))
+}
+
+/// Whether a keyword has more characters than `ignore_above`.
+fn is_ignored(above: Option<u32>, word: &str) -> bool
+    ensures { result ≡ is_ignored above word.now }
+{
+    match above {
+        Some(most) => is_longer(word, most),
+        None => false,
+    }
+}
+
+/// The value of a keyword field: none where it is longer than `ignore_above`; `WRONG_FIELD_TYPE` where the value is no
+/// text, whole number or boolean, `KEYWORD_TOO_LONG` where it has too many bytes.
+fn keyword(
+    alloc: Global,
+    above: Option<u32>,
+    path: &str,
+    value: &Value,
+) -> Result<Option<Scalar>, ItemFault>
+    ensures { Gives (λ x. x) result (word_value above path.now (word (view value.now))) }
+{
+    let Some(word) = word(alloc, value)? else {
+        return refuse(alloc, WRONG_FIELD_TYPE, path);
+    };
+    if is_ignored(above, word.as_str()) {
+        return Ok(None);
+    }
+    if word.len() > MAX_KEYWORD {
+        return refuse(alloc, KEYWORD_TOO_LONG, path);
+    }
+    Ok(Some(Scalar::Word(word)))
+}
+
+/// The boolean of a value; the empty text counts as false.
+fn document_flag(value: &Value) -> Option<bool>
+    ensures { result ≡ document_flag (view value.now) }
+{
+    match value {
+        Value::String(text) if text.is_empty() => Some(false),
+        _ => flag(value),
+    }
+}
+
+/// The value of a field of this kind; none where `ignore_above` leaves it out. Refused are a value of the wrong type
+/// with `WRONG_FIELD_TYPE`, a number out of range with `NUMBER_OUT_OF_RANGE`, and a keyword above `MAX_KEYWORD` bytes
+/// with `KEYWORD_TOO_LONG`.
+#[tactic(auto, unfolding(agg_reading::specs::Document::scalar_at))]
+pub fn scalar(
+    alloc: Global,
+    kind: FieldKind,
+    above: Option<u32>,
+    path: &str,
+    value: &Value,
+) -> Result<Option<Scalar>, ItemFault>
+    ensures { Gives (λ x. x) result (scalar_at kind above path.now (view value.now)) }
+{
+    match kind {
+        FieldKind::Keyword => keyword(alloc, above, path, value),
+        FieldKind::Boolean => match document_flag(value) {
+            Some(flag) => Ok(Some(Scalar::Flag(flag))),
+            None => refuse(alloc, WRONG_FIELD_TYPE, path),
+        },
+        FieldKind::Long | FieldKind::Integer | FieldKind::Short | FieldKind::Byte => {
+            number(alloc, kind, path, value)
+        }
+    }
+}
+
+#[cfg(test)]
+mod tests;
