@@ -154,13 +154,17 @@ module _ {A R : Type 0} (load : A → Label) (outcome : R → Label) (p : Plan) 
         w,
         gives,
         tt,
-        (r.0, record {
-          words = set_word s.words 0 ∙ r.1.words;
-          desks = desks_now s b id w r.1 ∙ set_same b.desks id v (desk_there s b id d r.1 here);
-          loads = λ i z e. back_load s.homes i j c z not_home (r.1.loads i z e);
-          results = λ i z e. back_outcome s.homes (task_count p + i) j c z not_home (r.1.results i z e);
-          batches = λ i z e. back_outcome s.homes (task_count p + task_count p + i) j c z not_home (r.1.batches i z e);
-        }, out_given s.homes s.views id j c d w [] r.2 here refl refl),
+        (
+          r.0,
+          record {
+            words = set_word s.words 0 ∙ r.1.words;
+            desks = desks_now s b id w r.1 ∙ set_same b.desks id v (desk_there s b id d r.1 here);
+            loads = λ i z e. back_load s.homes i j c z not_home (r.1.loads i z e);
+            results = λ i z e. back_outcome s.homes (task_count p + i) j c z not_home (r.1.results i z e);
+            batches = λ i z e. back_outcome s.homes (task_count p + task_count p + i) j c z not_home (r.1.batches i z e);
+          },
+          out_given s.homes s.views id j c d w [] r.2 here refl refl,
+        ),
         refl,
       )
     where

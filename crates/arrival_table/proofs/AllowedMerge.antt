@@ -21,7 +21,7 @@ use Rattle.arrival_moves.specs.Moves.{ArrivalState, take_result, put_merged, run
 use Rattle.arrival_moves.specs.Plans.{task_count, tasks_of, place_of, IsPlan}
 use Rattle.arrival_moves.specs.Slots.{Slot, fresh, reached, holds, emptied}
 use Rattle.arrival_table.specs.Outs.{knows, now_has_out}
-use Rattle.arrival_table.specs.Steps.{IsReached, IsOutcomeAt, TakesResult, ReachesBatch, PutsMerged, result_slot, batch_slot}
+use Rattle.arrival_table.specs.Steps.{IsReached, IsOutcomeAt, TakesResult, ReachesBatch, PutsMerged, batch_slot}
 use Rattle.arrival_moves.proofs.Alone.{due_there}
 use Rattle.arrival_moves.proofs.Batches.{held_real, fresh_batch}
 use Rattle.arrival_moves.proofs.Cases.{found_is, find_again, exchanged_again}

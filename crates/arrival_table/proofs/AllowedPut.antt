@@ -1,9 +1,9 @@
 -- The two steps that put a result keep the rule, since each is a move.
-use Rattle.std.proofs.Common.{◌≡◌, ◌≢◌, ℕ, ◌+◌, ◌<◌, ◌≤◌, true, false, not, cond, ⊎_elim, List, [], ◌∷◌, length, set, sym, refl, ap, ◌∙◌, subst, arith}
+use Rattle.std.proofs.Common.{◌≡◌, ◌≢◌, ℕ, ◌+◌, ◌≤◌, true, false, not, cond, ⊎_elim, List, [], ◌∷◌, set, sym, refl, ap, ◌∙◌, subst, arith}
 use Rattle.std.proofs.lemmas.Bool.{or_left, false≢true}
 use mathlib.Core.Option.{Option, none, some}
 use lib.ListN.{get_elem?}
-use Rattle.atomic_table.specs.Table.{State, Me, step, takes, gives, Allows}
+use Rattle.atomic_table.specs.Table.{Me, step, takes, gives, Allows}
 use Rattle.arrival_moves.specs.declared.item.Item.{Item}
 use Rattle.arrival_moves.specs.declared.item.Item.TheVariants.{Claimed, Loaded, Arrived, Put, Batch, Closed}
 use Rattle.arrival_moves.specs.declared.label.Label.{Label}
@@ -18,9 +18,9 @@ use Rattle.arrival_moves.specs.Hands.{find_item}
 use Rattle.arrival_moves.specs.Items.{is_arrived, is_at_slot}
 use Rattle.arrival_moves.specs.Moves.{ArrivalState, put, run}
 use Rattle.arrival_moves.specs.Plans.{task_count, place_of, IsPlan}
-use Rattle.arrival_moves.specs.Slots.{Slot, fresh, reached, holds}
-use Rattle.arrival_table.specs.Outs.{OutOnce, knows, now_has_out}
-use Rattle.arrival_table.specs.Steps.{IsReached, IsStateOf, IsLoadAt, IsOutcomeAt, ReachesResult, PutsResult, result_slot}
+use Rattle.arrival_moves.specs.Slots.{fresh, reached, holds}
+use Rattle.arrival_table.specs.Outs.{knows, now_has_out}
+use Rattle.arrival_table.specs.Steps.{IsReached, IsOutcomeAt, ReachesResult, PutsResult, result_slot}
 use Rattle.arrival_moves.proofs.Cases.{found_is, find_again, exchanged_again}
 use Rattle.arrival_moves.proofs.Lists.{at_set, set_else, set_here}
 use Rattle.arrival_moves.proofs.Places.{place_within}

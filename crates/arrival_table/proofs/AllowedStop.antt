@@ -1,5 +1,5 @@
 -- A stop, a look at a stop word and a look that changes nothing keep the rule.
-use Rattle.std.proofs.Common.{◌≡◌, ℕ, zero, suc, ◌+◌, ◌^◌, ◌<◌, ◌≤◌, bit_or, List, [], ◌∷◌, ◌++◌, length, get_or, set, sym, refl, ap, ◌∙◌, subst, arith}
+use Rattle.std.proofs.Common.{◌≡◌, ℕ, zero, suc, ◌+◌, ◌≤◌, bit_or, ◌∷◌, ◌++◌, length, get_or, set, sym, refl, ap, ◌∙◌, subst, arith}
 use mathlib.Core.Option.{some, none}
 use lib.ListN.{get_elem?}
 use Rattle.atomic_table.specs.Table.{Me, step, keeps, Allows}
@@ -20,7 +20,6 @@ use Rattle.arrival_table.specs.Steps.{IsReached, Stops, ReadsStop, Looks}
 use Rattle.arrival_moves.proofs.Runs.{kept_run, move_item_is, move_desk_is}
 use Rattle.arrival_moves.proofs.Sums.{sum_by_has}
 use Rattle.arrival_table.proofs.Allowed.{again, desk_there, desks_now}
-use Rattle.arrival_moves.proofs.Stops.{NotesKept}
 use Rattle.arrival_table.proofs.Lists.{set_word, get_right, set_right}
 use Rattle.arrival_table.proofs.Outs.{out_stays}
 
@@ -83,13 +82,17 @@ module _ {A R : Type 0} (load : A → Label) (outcome : R → Label) (p : Plan) 
         me.0,
         keeps,
         tt,
-        (r.0, record {
-          words = set_word s.words 0 ∙ r.1.words;
-          desks = desks_now load outcome p good s b id me.0 r.1 ∙ set_again b.desks id v there;
-          loads = r.1.loads;
-          results = r.1.results;
-          batches = r.1.batches;
-        }, out_stays s.homes s.views id me.0 me.0 r.2 here refl),
+        (
+          r.0,
+          record {
+            words = set_word s.words 0 ∙ r.1.words;
+            desks = desks_now load outcome p good s b id me.0 r.1 ∙ set_again b.desks id v there;
+            loads = r.1.loads;
+            results = r.1.results;
+            batches = r.1.batches;
+          },
+          out_stays s.homes s.views id me.0 me.0 r.2 here refl,
+        ),
         (refl, omega arith),
       )
 

@@ -1,5 +1,5 @@
 -- What a desk shows of itself is what the table knows of it.
-use Rattle.std.proofs.Common.{◌≡◌, ℕ, ◌+◌, ◌≤◌, Bool, List, [], ◌∷◌, sym, ap, ◌∙◌, subst}
+use Rattle.std.proofs.Common.{◌≡◌, ℕ, ◌+◌, ◌≤◌, Bool, [], ◌∷◌, sym, ap, ◌∙◌}
 use Rattle.atomic_table.specs.Table.{Me, rest}
 use Rattle.arrival_moves.specs.declared.view.View.{View}
 use Rattle.arrival_table.specs.declared.cell.Cell.{Cell}

@@ -1,8 +1,8 @@
 -- For a caller whose desk has at most one thing in hand: each call's clause gives what the next one asks, from the claim of
 -- a task to its batch's merged result, after which the hand is empty again.
-use Rattle.std.proofs.Common.{◌≡◌, ◌≢◌, ℕ, suc, ◌+◌, ◌*◌, ◌/◌, ◌<◌, Bool, true, false, cond, List, [], ◌∷◌, ◌++◌, refl, sym, ap, ◌∙◌, subst}
+use Rattle.std.proofs.Common.{◌≡◌, ◌≢◌, ℕ, suc, ◌*◌, ◌/◌, ◌<◌, Bool, true, false, cond, List, [], ◌∷◌, ◌++◌, refl, ap, ◌∙◌}
 use Rattle.std.proofs.lemmas.Bool.{and_from, or_left, eq-eqb, lt-ltb, ne_eqb}
-use mathlib.Core.Option.{Option, some}
+use mathlib.Core.Option.{some}
 use Rattle.arrival_moves.specs.declared.item.Item.{Item}
 use Rattle.arrival_moves.specs.declared.item.Item.TheVariants.{Claimed, Loaded, Arrived, Put, Batch}
 use Rattle.arrival_moves.specs.declared.label.Label.{Label}
@@ -54,7 +54,6 @@ pub arrived_hand : (k q t : ℕ) (failed : Bool) (v : View) → v.hand ≡ Loade
     → (after_arrive v k (found_item (is_loaded k) v) q t).hand ≡ Arrived (record { task = k; failed = failed; search = q; ticket = t; at_slot = false }) ∷ []
 arrived_hand k q t failed v e = let x : Item = Loaded (record { task = k; failed = failed }) in let yes = eq-eqb k k refl in
     ap (λ y. (after_arrive v k y q t).hand) (is_item (is_loaded k) x yes v e) ∙ exchanges (is_loaded k) x yes v (Arrived (record { task = k; failed = failed; search = q; ticket = t; at_slot = false }) ∷ []) e
-
 
 module _ (k q t : ℕ) (failed : Bool) (v : View) (e : v.hand ≡ Arrived (record { task = k; failed = failed; search = q; ticket = t; at_slot = false }) ∷ []) where
   mine : is_arrived q t (Arrived (record { task = k; failed = failed; search = q; ticket = t; at_slot = false })) ≡ true

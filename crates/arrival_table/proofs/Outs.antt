@@ -1,12 +1,8 @@
 -- A slot that is taken is out once more, and one that is given back once less; and the views of all desks.
-use Rattle.std.proofs.Common.{◌≡◌, ◌≢◌, ℕ, zero, suc, ◌+◌, ◌≤◌, ⊎_elim, eqb, List, [], ◌∷◌, ◌++◌, map, set, sym, refl, ap, ◌∙◌, subst, arith}
+use Rattle.std.proofs.Common.{◌≡◌, ◌≢◌, ℕ, zero, suc, ◌+◌, ◌≤◌, ⊎_elim, eqb, List, [], ◌∷◌, ◌++◌, map, set, sym, refl, ap, ◌∙◌, arith}
 use mathlib.Core.Option.{Option, none, some, some-injective, some-ne-none}
-use mathlib.Core.Logic.{dite}
-use native.Mathlib.Decide.{ℕ_discrete}
 use lib.ListN.{get_elem?}
-use Rattle.std.specs.List.{sum_by}
 use Rattle.std.proofs.lemmas.List.Sums.{sum_by-cons, sum_by-append}
-use Rattle.arrival_moves.specs.declared.view.View.{View}
 use Rattle.arrival_table.specs.declared.known.Known.{Known}
 use Rattle.arrival_moves.specs.Lists.{one_if, times}
 use Rattle.arrival_table.specs.Outs.{outs, is_away, OutOnce}

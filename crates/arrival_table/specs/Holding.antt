@@ -2,7 +2,7 @@
 use Rattle.std.specs.Prelude.{◌≡◌, ℕ, Bool, false, List, []}
 use mathlib.Core.Option.{Option, none, some}
 use Rattle.arrival_moves.specs.declared.item.Item.{Item}
-use Rattle.arrival_moves.specs.declared.item.Item.TheVariants.{Claimed, Loaded, Arrived, Put, Batch, Closed}
+use Rattle.arrival_moves.specs.declared.item.Item.TheVariants.{Claimed, Arrived, Batch}
 use Rattle.arrival_moves.specs.declared.label.Label.{Label}
 use Rattle.arrival_moves.specs.declared.view.View.{View}
 use Rattle.arrival_moves.specs.Hands.{find_item, HasItem}

@@ -1,12 +1,11 @@
 -- The rule that the table keeps between any two atomic steps, and what each step tells its desk.
-use Rattle.std.specs.Prelude.{◌≡◌, ℕ, ◌+◌, ◌/◌, ◌<◌, ◌≤◌, List, [], ◌∷◌, ◌++◌, map, length, IsTrue, false}
+use Rattle.std.specs.Prelude.{◌≡◌, ℕ, ◌+◌, ◌/◌, ◌<◌, ◌≤◌, List, [], ◌∷◌, ◌++◌, map, length}
 use mathlib.Core.Option.{Option, some}
 use lib.ListN.{get_elem?}
 use Rattle.atomic_table.specs.Table.{State, Me, Step}
 use Rattle.arrival_moves.specs.declared.item.Item.{Item}
 use Rattle.arrival_moves.specs.declared.label.Label.{Label}
 use Rattle.arrival_moves.specs.declared.plan.Plan.{Plan}
-use Rattle.arrival_moves.specs.declared.view.View.{View}
 use Rattle.arrival_table.specs.declared.cell.Cell.{Cell}
 use Rattle.arrival_table.specs.declared.cell.Cell.TheVariants.{Vacant, Load, Outcome}
 use Rattle.arrival_table.specs.declared.known.Known.{Known}

@@ -61,9 +61,7 @@ impl<A: Labelled, R: Labelled> Arrivals<A, R> {
             .table
             .shared
             .exchange(&mut desk.seat, task as usize, Cell::Vacant);
-        self.table
-            .shared
-            .load::<GiveBack<A, R>>(&mut desk.seat, 0);
+        self.table.shared.load::<GiveBack<A, R>>(&mut desk.seat, 0);
         match taken {
             Cell::Load(load) => load,
             Cell::Vacant => unreachable!(),

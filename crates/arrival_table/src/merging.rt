@@ -34,9 +34,7 @@ impl<A: Labelled, R: Labelled> Arrivals<A, R> {
             .table
             .shared
             .exchange(&mut desk.seat, slot, Cell::Vacant);
-        self.table
-            .shared
-            .load::<GiveBack<A, R>>(&mut desk.seat, 0);
+        self.table.shared.load::<GiveBack<A, R>>(&mut desk.seat, 0);
         match taken {
             Cell::Outcome(result) => result,
             Cell::Load(_load) => unreachable!(),

@@ -119,9 +119,7 @@ impl Places {
         ensures { result ≡ batch_size self.now search batch }
     {
         let size = self.plan.batch as u64;
-        let rest = self
-            .tasks_of(search)
-            .saturating_sub(batch as u64 * size);
+        let rest = self.tasks_of(search).saturating_sub(batch as u64 * size);
         size.min(rest)
     }
 }

@@ -1,6 +1,4 @@
-use Rattle.std.proofs.Common.{rules, ◌≡◌, ℕ, ◌+◌, ◌≤◌, ◌<◌, suc, length, take, set, [], ◌∷◌, ◌++◌, List, sym, ap, ◌∙◌, subst, refl, arith}
-use mathlib.Core.Option.{some}
-use lib.ListN.{get_elem?}
+use Rattle.std.proofs.Common.{rules, ◌≡◌, ℕ, ◌+◌, ◌≤◌, suc, length, take, set, [], ◌∷◌, ◌++◌, List, sym, ap, ◌∙◌, subst, refl, arith}
 use Rattle.arrival_table.specs.declared.cell.Cell.{Cell}
 use Rattle.arrival_table.specs.declared.cell.Cell.TheVariants.{Load}
 use Rattle.arrival_table.specs.declared.opening.Task.{Task}

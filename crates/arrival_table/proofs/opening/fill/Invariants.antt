@@ -1,7 +1,4 @@
-use Rattle.std.proofs.Common.{◌≡◌, ℕ, ◌+◌, ◌≤◌, ◌<◌, length, take}
-use mathlib.Core.Option.{some}
-use lib.ListN.{get_elem?}
-use Rattle.arrival_table.specs.declared.opening.Task.{Task}
+use Rattle.std.proofs.Common.{◌≡◌, ◌≤◌, length, take}
 use Rattle.arrival_table.specs.Opening.{IsFilled}
 use Rattle.arrival_table.proofs.opening.fill.Given as goal
 

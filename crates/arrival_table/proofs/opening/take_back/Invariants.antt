@@ -1,4 +1,4 @@
-use Rattle.std.proofs.Common.{◌≡◌, ℕ, ◌+◌, ◌≤◌, List, length, map, take}
+use Rattle.std.proofs.Common.{◌≡◌, ◌+◌, ◌≤◌, List, length, map, take}
 use Rattle.arrival_moves.specs.Plans.{task_count}
 use Rattle.arrival_table.specs.declared.opening.Task.{Task}
 use Rattle.arrival_table.specs.Opening.{IsFilled}

@@ -1,4 +1,4 @@
-use Rattle.std.proofs.Common.{◌≡◌, ◌≤◌, length, ltb, take}
+use Rattle.std.proofs.Common.{◌≡◌, ◌≤◌, ltb, take}
 use Rattle.std.specs.List.{sum_by}
 use Rattle.arrival_moves.specs.Lists.{one_if}
 use Rattle.arrival_table.proofs.places.tasks_before.Given as goal

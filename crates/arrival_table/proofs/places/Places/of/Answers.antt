@@ -1,5 +1,5 @@
-use Rattle.std.proofs.Common.{rules, ◌≡◌, ℕ, ◌+◌, ◌<◌, length, [], ◌∷◌, ◌++◌, List, sym, ap, ◌∙◌, subst, refl, arith, zero, suc}
-use mathlib.Core.Option.{some, some-ne-none}
+use Rattle.std.proofs.Common.{rules, ◌≡◌, ℕ, ◌+◌, ◌<◌, length, [], ◌∷◌, ◌++◌, List, ap, ◌∙◌, refl, arith, zero, suc}
+use mathlib.Core.Option.{some}
 use lib.ListN.{get_elem?}
 use Rattle.arrival_moves.specs.Plans.{first_of}
 use Rattle.arrival_table.proofs.places.Places.of.Goals as goal

@@ -1,6 +1,6 @@
 use Rattle.std.proofs.Common.{rules, arith, ◌+◌, ◌<◌, ◌≤◌, ◌≡◌, length, sym, ap, subst, ◌∙◌}
 use Rattle.arrival_moves.specs.declared.plan.Plan.{Plan}
-use Rattle.arrival_moves.specs.Plans.{IsPlan, task_count, place_of, tasks_of, first_of}
+use Rattle.arrival_moves.specs.Plans.{task_count, place_of, tasks_of, first_of}
 use Rattle.arrival_moves.proofs.Places.{place_within}
 use Rattle.arrival_table.proofs.Starts.{search_valid, or_some}
 use Rattle.arrival_table.proofs.places.Places.place_of.Goals as goal

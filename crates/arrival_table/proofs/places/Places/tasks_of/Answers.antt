@@ -1,4 +1,4 @@
-use Rattle.std.proofs.Common.{rules, arith}
+use Rattle.std.proofs.Common.{arith}
 use Rattle.arrival_table.proofs.Starts.{next_start}
 use Rattle.arrival_table.proofs.places.Places.tasks_of.Goals as goal
 

@@ -1,5 +1,4 @@
-use Rattle.std.proofs.Common.{rules, arith, suc, ◌+◌, ◌*◌, ◌/◌, ◌%◌, ◌<◌, ◌≤◌, ℕ, sym, ap, subst, ◌∙◌, ◌≡◌, ◌≢◌}
-use Rattle.std.specs.Prelude.{IfNone}
+use Rattle.std.proofs.Common.{rules, arith, suc, ◌+◌, ◌/◌, ◌<◌, ℕ, sym, ap, subst, ◌∙◌, ◌≡◌}
 use Rattle.arrival_moves.specs.declared.plan.Plan.{Plan}
 use Rattle.arrival_moves.specs.Plans.{place_of, task_count, tasks_of, batch_size}
 use Rattle.arrival_table.proofs.AllowedCount.{allows_count_at}
@@ -27,7 +26,7 @@ pub returns-clause-early : goal.returns-clause-early
 returns-clause-early g c = let p : Plan = c.args.self.now.plan in let b : c.batch.result ≡ c.self.inside.places.batch = c.batch.ensures.value in let is : c.self.inside.places ≡ p = search rules in
     let size : c.batch_size.result ≡ batch_size p c.args.search (c.args.ticket / p.batch) = c.batch_size.ensures ∙ (λ i. batch_size (is i) c.args.search (c.args.ticket / (b ∙ (λ j. (is j).batch)) i)) in
     elim c.if-found-batch_size.branch [
-      then-found-batch_size w ↦ search rules
-    | else-found-batch_size w ↦ let no : (c.fetch_add-found.result + 1 ≡ batch_size p c.args.search (c.args.ticket / p.batch)) → ⊥ = λ e. w.if-found-batch_size.false (e ∙ sym size) in
-        rw w.result-is (c.fetch_add-found.result + 1, no, search rules)
+      | then-found-batch_size w ↦ search rules
+      | else-found-batch_size w ↦ let no : (c.fetch_add-found.result + 1 ≡ batch_size p c.args.search (c.args.ticket / p.batch)) → ⊥ = λ e. w.if-found-batch_size.false (e ∙ sym size) in
+          rw w.result-is (c.fetch_add-found.result + 1, no, search rules)
     ]

@@ -1,20 +1,10 @@
-use Rattle.std.proofs.Common.{rules, arith, true, false, suc, ◌+◌, ◌/◌, ◌<◌, ◌≤◌, ℕ, sym, ap, subst, ◌∙◌, ◌≡◌, ◌∷◌, [], refl}
-use mathlib.Core.Option.{some, some-injective}
-use Rattle.std.specs.Prelude.{IsTrue}
-use Rattle.atomic_table.specs.Table.{Me, rest}
-use Rattle.arrival_moves.specs.declared.item.Item.{Item}
-use Rattle.arrival_moves.specs.declared.label.Label.{Label}
-use Rattle.arrival_moves.specs.declared.plan.Plan.{Plan}
-use Rattle.arrival_moves.specs.declared.view.View.{View}
+use Rattle.std.proofs.Common.{rules, arith, sym, ap, ◌∙◌, ◌≡◌}
+use Rattle.atomic_table.specs.Table.{Me}
 use Rattle.arrival_table.specs.declared.cell.Cell.{Cell}
-use Rattle.arrival_table.specs.declared.cell.Cell.TheVariants.{Vacant, Outcome}
 use Rattle.arrival_table.specs.declared.known.Known.{Known}
-use Rattle.arrival_table.specs.Models.{DeskModel, with_view}
 use Rattle.arrival_table.specs.Outs.{knows}
-use Rattle.arrival_moves.proofs.Cases.{found_is}
 use Rattle.arrival_table.proofs.AllowedShare.{joins_at}
 use Rattle.arrival_table.proofs.AllowedStop.{allows_look_at}
-use Rattle.arrival_table.proofs.Desks.{exchanged_out, taken_last, shows}
 use Rattle.arrival_table.proofs.table.Arrivals.join.Goals as goal
 
 pub join_seat-requires : goal.join_seat-requires

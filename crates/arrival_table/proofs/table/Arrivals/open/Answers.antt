@@ -1,4 +1,4 @@
-use Rattle.std.proofs.Common.{rules, ◌≡◌, ◌+◌, ℕ, List, replicate, length, map, sym, ap, ◌∙◌, subst, refl, arith}
+use Rattle.std.proofs.Common.{rules, ◌≡◌, ◌+◌, ℕ, List, replicate, length, sym, ap, ◌∙◌, subst}
 use Rattle.arrival_moves.specs.declared.plan.Plan.{Plan}
 use Rattle.arrival_moves.specs.Plans.{IsPlan, task_count}
 use Rattle.arrival_table.specs.declared.opening.Task.{Task}
@@ -17,8 +17,8 @@ new-requires g c = let ts = c.args.tasks in let s = c.args.searches in let is : 
     let n : c.task_count-count.result ≡ length ts = c.task_count-count.ensures.value ∙ (ap task_count of ∙ mapped_length (λ (t : Task g.row.A.Denot). t.search) ts) in
     let w : c.in-Ok-zero_words.words.items ≡ replicate (1 + s + c.task_count-count.result + s) 0 = search rules in
     opened_state_at g.A.Labelled.label g.R.Labelled.label ts s c.args.batch c.places.inside.plan c.as_slice-2.result.now c.fill.new.slots.items is
-        (c.as_slice-2.ensures.value ∙ (w ∙ ap (λ (k : ℕ). let z : ℕ = 0 in replicate (1 + s + k + s) z) n))
-        (subst (λ xs. IsFilled 0 xs c.fill.new.slots.items) c.into_vec-rest.ensures c.fill.ensures.slots) c.requires.labels
+    (c.as_slice-2.ensures.value ∙ (w ∙ ap (λ (k : ℕ). let z : ℕ = 0 in replicate (1 + s + k + s) z) n))
+    (subst (λ xs. IsFilled 0 xs c.fill.new.slots.items) c.into_vec-rest.ensures c.fill.ensures.slots) c.requires.labels
 
 pub returns-in-Err-clause-err : goal.returns-in-Err-clause-err
 returns-in-Err-clause-err g c = let ts = c.args.tasks in let is : c.places.inside.plan ≡ plan_of ts c.args.searches c.args.batch = search rules in let e : c.in-Err.field-0.slots.items ≡ c.fill.new.slots.items = search rules in

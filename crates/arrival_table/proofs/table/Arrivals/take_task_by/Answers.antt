@@ -1,13 +1,9 @@
-use Rattle.std.proofs.Common.{rules, arith, ℕ, sym, ap, ◌∙◌, ◌≡◌, ◌∷◌, [], refl}
-use Rattle.atomic_table.specs.Table.{Me}
+use Rattle.std.proofs.Common.{rules, arith}
 use Rattle.arrival_moves.specs.declared.view.View.{View}
-use Rattle.arrival_table.specs.declared.cell.Cell.{Cell}
 use Rattle.arrival_table.specs.declared.cell.Cell.TheVariants.{Vacant, Load}
-use Rattle.arrival_table.specs.declared.known.Known.{Known}
 use Rattle.arrival_moves.specs.AfterMove.{after_take_task}
-use Rattle.arrival_table.specs.Outs.{knows, now_has_out}
 use Rattle.arrival_table.proofs.Allowed.{allows_take_at, allows_give_back_at}
-use Rattle.arrival_table.proofs.Desks.{shows, exchanged_out, taken_last}
+use Rattle.arrival_table.proofs.Desks.{exchanged_out, taken_last}
 use Rattle.arrival_table.proofs.table.Arrivals.take_task_by.Goals as goal
 
 pub load-requires : goal.load-requires
