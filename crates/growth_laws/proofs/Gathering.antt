@@ -1,5 +1,5 @@
 -- More rows, group by group, make of the buckets of some rows those of these rows and more.
-use Rattle.std.specs.Prelude.{◌≡◌, refl, ◌+◌, Bool, true, false, cond, ◌||◌, ◌++◌, T, List, [], ◌∷◌, flat_map, length, map}
+use Rattle.std.specs.Prelude.{◌≡◌, refl, Bool, true, false, cond, ◌||◌, ◌++◌, T, List, [], ◌∷◌, flat_map, length, map}
 use Rattle.std.specs.declared.cmp.Ordering.TheVariants.{Less, Equal, Greater}
 use Rattle.std.specs.Ordering.{is_eq, is_lt, match_ordering}
 use Rattle.std.proofs.Common.{sym, ◌∙◌, ap, subst, length-append}
