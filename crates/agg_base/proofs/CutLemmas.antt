@@ -1,9 +1,14 @@
 -- The first line of a list, and the lines of one that begins with bytes that are no newline.
 use Rattle.std.proofs.Common.{◌≡◌, ◌≢◌, ◌<◌, ◌≤◌, ◌==◌, ℕ, zero, suc, true, false, List, [], ◌∷◌, ◌++◌, Option, Some, None, refl, sym, ap, ◌∙◌, length, take, drop, slice_index, arith}
-use Rattle.std.specs.Prelude.{unwrap_or}
+use Rattle.std.specs.Prelude.{◌+◌, map, unwrap_or}
 use Rattle.std.proofs.lemmas.Bool.{eqb-true, cond_both, cond-false, false≢true, and_parts, and_from, not-true, not_from_false}
 use Rattle.memchr.specs.Find.{IsFirstByte, is_byte}
-use Rattle.agg_base.specs.Cut.{newline, IsPlain, in_front, lines_of, first_line, whole_line}
+use Rattle.agg_model.specs.Lines.{newline, Line, with_byte, lines}
+use Rattle.agg_base.specs.Cut.{IsPlain, lines_of, first_line, whole_line}
+
+-- a line of this text and size
+abbrev pub line_of : List ℕ → ℕ → Line
+line_of text size = record { text = text; size = size }
 
 none_len : (hay : List ℕ) → ((k : ℕ) → k < length hay → slice_index hay k == newline ≡ true → ⊥) → length (first_line hay) ≡ length hay
 none_len [] h = refl
@@ -73,15 +78,33 @@ pub plain-append : (xs ys : List ℕ) → IsPlain xs → IsPlain ys → IsPlain 
 plain-append [] ys px py = py
 plain-append (x ∷ xs) ys px py = and_from _ _ (and_parts _ _ px).0 (plain-append xs ys (other_bytes x xs px) py)
 
--- the lines of what begins with a whole line, and of a last line
+-- the lines of what begins with a whole line
+pub lines-line : (line rest : List ℕ) → IsPlain line → lines (line ++ newline ∷ rest) ≡ line_of line (length line + 1) ∷ lines rest
+unfolding lines
+lines-line [] rest plain = refl
+lines-line (s ∷ ss) rest plain =
+    cond-false (s == newline) _ _ (first_byte s ss plain)
+    ∙ ap (with_byte s) (lines-line ss rest (other_bytes s ss plain))
+    ∙ ap (λ (n : ℕ). line_of (s ∷ ss) n ∷ lines rest) (omega arith)
+
+-- the one line of what has no newline
+pub lines-last : (line : List ℕ) → IsPlain line → line ≢ [] → lines line ≡ line_of line (length line) ∷ []
+unfolding lines
+lines-last [] plain some = absurd (some refl)
+lines-last (s ∷ []) plain some = cond-false (s == newline) _ _ (first_byte s [] plain)
+lines-last (s ∷ t ∷ ss) plain some =
+    cond-false (s == newline) _ _ (first_byte s (t ∷ ss) plain)
+    ∙ ap (with_byte s) (lines-last (t ∷ ss) (other_bytes s (t ∷ ss) plain) (λ e. absurd cc))
+    ∙ ap (λ (n : ℕ). line_of (s ∷ t ∷ ss) n ∷ []) (omega arith)
+
+-- nothing has no line
+pub lines_of-nil : lines_of [] ≡ []
+unfolding lines
+lines_of-nil = refl
+
+-- their texts alone
 pub lines_of-line : (line rest : List ℕ) → IsPlain line → lines_of (line ++ newline ∷ rest) ≡ line ∷ lines_of rest
-lines_of-line [] rest plain = refl
-lines_of-line (s ∷ ss) rest plain =
-    cond-false (s == newline) _ _ (first_byte s ss plain) ∙ ap (in_front s) (lines_of-line ss rest (other_bytes s ss plain))
+lines_of-line line rest plain = ap (map (λ (l : Line). l.text)) (lines-line line rest plain)
 
 pub lines_of-last : (line : List ℕ) → IsPlain line → line ≢ [] → lines_of line ≡ line ∷ []
-lines_of-last [] plain some = absurd (some refl)
-lines_of-last (s ∷ []) plain some = cond-false (s == newline) _ _ (first_byte s [] plain)
-lines_of-last (s ∷ t ∷ ss) plain some =
-    cond-false (s == newline) _ _ (first_byte s (t ∷ ss) plain)
-    ∙ ap (in_front s) (lines_of-last (t ∷ ss) (other_bytes s (t ∷ ss) plain) (λ e. absurd cc))
+lines_of-last line plain some = ap (map (λ (l : Line). l.text)) (lines-last line plain some)

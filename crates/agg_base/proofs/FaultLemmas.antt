@@ -1,10 +1,11 @@
 -- What the limits refuse, and the next line of what begins with bytes that are no newline.
 use Rattle.std.proofs.Common.{◌≡◌, ◌⊎◌, ◌<◌, ◌≤◌, ◌+◌, min, ℕ, suc, Bool, true, false, List, [], ◌∷◌, ◌++◌, Option, Some, None, Result, Ok, Err, refl, sym, ap, subst, ◌∙◌, append_assoc, add-zero, ltb, length, drop, length-append, take-append-drop, inl, inr, ⊎_elim, arith}
 use Rattle.std.proofs.lemmas.Bool.{cond-true, cond-false, lt-ltb, le-ltb, ltb-true, cases_lt}
-use Rattle.agg_base.specs.Cut.{newline, IsPlain, Answers, first_line, whole_line, next_of, fault_of, or_fault, as_result, whole_of}
+use Rattle.agg_model.specs.Lines.{newline}
+use Rattle.agg_base.specs.Cut.{IsPlain, Answers, first_line, whole_line, next_of, fault_of, or_fault, as_result, whole_of}
 use Rattle.agg_base.specs.declared.lines.LineFault.{LineFault}
 use Rattle.agg_base.specs.declared.lines.LineFault.TheVariants.{Read, LineTooLong, InputTooLong, Memory}
-use Rattle.agg_base.specs.declared.limits.TheConstants.{MAX_LINE, MAX_INPUT}
+use Rattle.agg_model.specs.declared.limits.TheConstants.{MAX_LINE, MAX_INPUT}
 use Rattle.agg_base.proofs.CutLemmas.{first_line-append, whole_line-append, take-first_line, plain_first_line, plain-append, drop-first_line}
 
 module _ (before bytes whole : ℕ) where

@@ -1,10 +1,11 @@
 -- What it means that a gathered line is handed out, over plain lists.
 use Rattle.std.proofs.Common.{◌≡◌, ◌<◌, ◌≤◌, ◌+◌, ℕ, List, [], ◌∷◌, ◌++◌, Option, Some, None, Ok, refl, sym, ap, subst, ◌∙◌, append_assoc, append-nil, add-zero, length, IfSome, option_map, arith}
 use Rattle.std.specs.Io.KnownBytes.{prepend_known, IsAtEnd}
-use Rattle.agg_base.specs.Cut.{newline, IsPlain, Answers, lines_of, next_of, fault_of, or_fault}
-use Rattle.agg_base.specs.declared.limits.TheConstants.{MAX_LINE, MAX_INPUT}
+use Rattle.agg_model.specs.Lines.{newline}
+use Rattle.agg_base.specs.Cut.{IsPlain, Answers, lines_of, next_of, fault_of, or_fault}
+use Rattle.agg_model.specs.declared.limits.TheConstants.{MAX_LINE, MAX_INPUT}
 use Rattle.agg_base.specs.declared.lines.LineFault.{LineFault}
-use Rattle.agg_base.proofs.CutLemmas.{lines_of-line, lines_of-last}
+use Rattle.agg_base.proofs.CutLemmas.{lines_of-line, lines_of-last, lines_of-nil}
 use Rattle.agg_base.proofs.FaultLemmas.{fault_of-none, next_of-append}
 use Rattle.agg_base.proofs.StepLemmas.{prepend-nil}
 
@@ -62,7 +63,7 @@ module _ (before n : ℕ) (line handed : List ℕ) (plain : IsPlain line) (same 
       ap Some (
       ap (λ (t : List ℕ). lines_of (line ++ t)) end ∙ ap lines_of (append-nil line)
       ∙ lines_of-last line plain (λ e. let l = ap length e in omega arith)
-      ∙ ap (λ (t : List ℕ). t ∷ []) (sym same) ∙ ap (λ (t : List ℕ). handed ∷ lines_of t) (sym end))
+      ∙ ap (λ (t : List ℕ). t ∷ []) (sym same) ∙ ap (λ (ts : List (List ℕ)). handed ∷ ts) (sym lines_of-nil) ∙ ap (λ (t : List ℕ). handed ∷ lines_of t) (sym end))
 
   pub last_lines : (old mid new : Option (List ℕ)) (left_over : List ℕ) (now : Option (List ℕ)) → prepend_known line mid ≡ old → IsAtEnd mid → 0 < n → left_over ≡ [] → now ≡ mid → new ≡ prepend_known left_over now →
       option_map lines_of old ≡ option_map (λ rest. handed ∷ lines_of rest) new

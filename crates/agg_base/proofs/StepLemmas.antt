@@ -4,7 +4,8 @@ use Rattle.std.specs.Prelude.{slice_range}
 use Rattle.std.specs.Io.KnownBytes.{prepend_known}
 use Rattle.std.proofs.lemmas.List.{take_all, drop-take, drop-drop, take-append-drop}
 use Rattle.std.proofs.lemmas.List.Edits.{length-between, between_none}
-use Rattle.agg_base.specs.Cut.{newline, Answers, first_line, next_of}
+use Rattle.agg_model.specs.Lines.{newline}
+use Rattle.agg_base.specs.Cut.{Answers, first_line, next_of}
 use Rattle.agg_base.specs.declared.lines.LineFault.{LineFault}
 use Rattle.agg_base.proofs.CutLemmas.{take-first_line, drop-first_line}
 

@@ -1,30 +1,19 @@
--- The lines of an input (POSIX.1-2017 Base Definitions 3.206 'Line', where the last line needs no newline), and which of
--- them are too long.
-use Rattle.std.specs.Prelude.{◌≡◌, ◌≢◌, ◌⊎◌, ◌==◌, ◌+◌, not, Bool, true, nat_lt, min, if◌then◌else◌, ℕ, List, [], ◌∷◌, ◌++◌, length, Option, Some, None, Result, Ok, Err}
+-- What a reader of lines hands out of an input that is read piece by piece, and the faults of a line.
+use Rattle.std.specs.Prelude.{◌≡◌, ◌≢◌, ◌⊎◌, ◌==◌, ◌+◌, not, Bool, true, if◌then◌else◌, ℕ, List, [], ◌∷◌, ◌++◌, length, map, Option, Some, None, Result, Ok, Err}
 use Rattle.std.specs.List.{list_all}
 use Rattle.std.specs.Io.KnownBytes.{prepend_known, IsAtEnd}
 use Rattle.std.specs.Io.BufRead.{take_through}
 use Rattle.agg_base.specs.declared.lines.LineFault.{LineFault}
 use Rattle.agg_base.specs.declared.lines.LineFault.TheVariants.{Read, LineTooLong, InputTooLong, Memory}
-use Rattle.agg_base.specs.declared.limits.TheConstants.{MAX_LINE, MAX_INPUT}
-
--- `\n`
-abbrev pub newline : ℕ
-newline = 10
+use Rattle.agg_model.specs.Lines.{newline, lines, is_beyond_input, is_too_long}
 
 -- no byte is a newline
 abbrev pub IsPlain : List ℕ → Type 0
 IsPlain bytes = list_all (λ b. not (b == newline)) bytes ≡ true
 
--- one more byte in front of the first line
-abbrev pub in_front : ℕ → List (List ℕ) → List (List ℕ)
-in_front b [] = (b ∷ []) ∷ []
-in_front b (line ∷ lines) = (b ∷ line) ∷ lines
-
--- the input cut at each newline; an empty rest gives no line
+-- the texts of the lines of an input; an empty rest gives no line
 abbrev pub lines_of : List ℕ → List (List ℕ)
-lines_of [] = []
-lines_of (b ∷ bs) = if b == newline then [] ∷ lines_of bs else in_front b (lines_of bs)
+lines_of bytes = map (λ l. l.text) (lines bytes)
 
 -- the bytes before the first newline, or all
 abbrev pub first_line : List ℕ → List ℕ
@@ -36,11 +25,10 @@ abbrev pub whole_line : List ℕ → List ℕ
 whole_line = take_through newline
 
 -- the fault of a line of `bytes` bytes, `whole` with its newline where it has one, before which stand `before` bytes of
--- the input: byte MAX_INPUT + 1 of the input lies in it, at or before its own byte MAX_LINE + 1; or it is too long itself
+-- the input; the end of the whole input comes first
 abbrev pub fault_of : ℕ → ℕ → ℕ → Option LineFault
 fault_of before bytes whole =
-    if nat_lt MAX_INPUT (before + min whole (MAX_LINE + 1)) then Some InputTooLong
-    else (if nat_lt MAX_LINE bytes then Some LineTooLong else None)
+    if is_beyond_input before whole then Some InputTooLong else (if is_too_long bytes then Some LineTooLong else None)
 
 -- the length of a line with its newline, where it has one
 abbrev pub whole_of : ℕ → Bool → ℕ

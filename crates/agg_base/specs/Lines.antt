@@ -2,7 +2,8 @@
 use Rattle.std.specs.Prelude.{◌≡◌, ◌<◌, ◌≤◌, ℕ, ◌+◌, ◌-◌, List, [], ◌∷◌, ◌++◌, Option, Some, None, slice_range, vec_len}
 use Rattle.std.specs.Borrow.{GName}
 use Rattle.std.specs.Io.KnownBytes.{prepend_known, IsAtEnd}
-use Rattle.agg_base.specs.Cut.{newline, fault_of}
+use Rattle.agg_model.specs.Lines.{newline}
+use Rattle.agg_base.specs.Cut.{fault_of}
 use Rattle.agg_base.specs.declared.lines.LineEnd.{LineEnd}
 use Rattle.agg_base.specs.declared.lines.LineEnd.TheVariants.{Newline, Input}
 use Rattle.agg_base.specs.declared.lines.LineFault.{LineFault}

@@ -68,11 +68,11 @@ module _ (kinds : List FieldKind) (all : List PlacedRow) where
   -- a bound on the bytes of a key
   abbrev pub key_bound : Kind → ℕ
   key_bound k = elim (options_of k) [
-      Options.Terms t ↦ field_bytes t.field t.missing
+    | Options.Terms t ↦ field_bytes t.field t.missing
     | Options.Histogram h ↦ 8
     | Options.Composite sources size after ↦ sum (map part_bytes sources)
     | _ ↦ 0
-    ]
+  ]
 
   -- the rows that an aggregation counts of those that reach it
   abbrev pub counted_from : Kind → List Reached → List Reached

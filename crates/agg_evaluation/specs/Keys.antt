@@ -92,7 +92,7 @@ composite_keys sources row = distinct_keys (map Many (combinations (map (source_
 -- Metrics have no buckets.
 abbrev pub keys : List PlacedRow → Kind → PlacedRow → List Key
 keys all k row = elim (options_of k) [
-    Options.Terms t ↦ term_keys t.field t.include t.exclude t.missing row
+  | Options.Terms t ↦ term_keys t.field t.include t.exclude t.missing row
   | Options.Histogram h ↦ histogram_keys h.field h.interval h.offset h.hard h.missing row
   | Options.Filters names filters other ↦ filter_keys (λ q. matches all q row) filters other
   | Options.Filter query ↦ single_key (matches all query row)
@@ -100,4 +100,4 @@ keys all k row = elim (options_of k) [
   | Options.Composite sources size after ↦ composite_keys sources row
   | Options.Metric m ↦ []
   | _ ↦ single_key true
-  ]
+]

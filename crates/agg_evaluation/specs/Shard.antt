@@ -99,14 +99,14 @@ module _ (trims : Bool) (all roots : List PlacedRow) where
   -- the node of the rows that the aggregation counts
   abbrev pub node_of : List Collector → Kind → List PlacedRow → Node
   node_of children k counted = elim (options_of k) [
-      Options.Terms t ↦
+    | Options.Terms t ↦
         (let buckets = map (bucket_of k children counted) (all_keys all k counted) in
         if trims then trimmed_node (map (λ c. c.kind) children) t.shard_size t.order (total_key_count all k counted) buckets else Keyed buckets 0 0 0)
     | Options.Histogram h ↦ Keyed (map (bucket_of k children counted) (all_keys all k counted)) 0 0 0
     | Options.Composite sources size after ↦ Keyed (map (bucket_of k children counted) (page sources size after (all_keys all k counted))) 0 0 0
     | Options.Metric m ↦ Number (kept_metric k (flat_map (values_or m.field m.missing) counted))
     | _ ↦ Fixed (map (bucket_of k children counted) (fixed_keys k))
-    ]
+  ]
 
   abbrev pub collector_of : Agg-F Collector → Collector
   collector_of a = record { kind = a.kind; collect = λ rows. node_of a.children a.kind (under all roots a.kind rows) }

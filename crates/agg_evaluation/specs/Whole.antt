@@ -28,12 +28,12 @@ pub data Shape : Type 0 where
 
 abbrev pub shape_of : Kind → Shape
 shape_of k = elim (options_of k) [
-    Options.Terms t ↦ by_key
+  | Options.Terms t ↦ by_key
   | Options.Histogram h ↦ by_key
   | Options.Composite sources size after ↦ by_key
   | Options.Metric m ↦ a_number
   | _ ↦ from_start
-  ]
+]
 
 -- a node's parts, where the parts that it has not are empty
 pub record Parts : Type 0 where

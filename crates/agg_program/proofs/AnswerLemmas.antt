@@ -3,7 +3,8 @@ use Rattle.std.proofs.Common.{◌≡◌, ◌≢◌, ◌⊎◌, ◌<◌, ◌+◌,
 use Rattle.std.specs.Prelude.{IfSome, ⊤}
 use Rattle.std.specs.Io.KnownBytes.{append_known}
 use Rattle.agg_model.specs.declared.row.Document.{Document}
-use Rattle.agg_reading.specs.Lines.{Line, Place}
+use Rattle.agg_model.specs.Lines.{Line}
+use Rattle.agg_reading.specs.Lines.{Place}
 use Rattle.agg_program.specs.SmallForm.{not_built_at}
 use Rattle.agg_program.specs.Answers.{search_line}
 use Rattle.agg_program.specs.Output.{Output, refused, finished, pairs, body, with_line, Ends, Continues}

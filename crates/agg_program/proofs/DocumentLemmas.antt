@@ -10,7 +10,8 @@ use Rattle.keyword_documents.specs.SmallForm.{keyword_document, keyword_of}
 use Rattle.document_terms.specs.SmallSearch.{HaveKeywords}
 use Rattle.agg_program.specs.Documents.{document_id, documents_of, documents, sources, with_keyword, IsNumbered}
 use Rattle.agg_program.specs.Reading.{Takes, Indexes}
-use Rattle.agg_reading.specs.Lines.{Line, Place, Script, past}
+use Rattle.agg_model.specs.Lines.{Line}
+use Rattle.agg_reading.specs.Lines.{Place, Script, past}
 use Rattle.agg_reading.specs.Reading.{◌>>◌}
 
 abbrev numbered : ℕ × List ℕ → Document

@@ -4,28 +4,22 @@ use Rattle.std.specs.Prelude.{IfSome, IfNone, option_map, nat_lt, nat_le, ⊤}
 use Rattle.std.specs.Io.KnownBytes.{prepend_known, IsAtEnd}
 use Rattle.std.proofs.lemmas.Bool.{cond-true, cond-false, cond_both, lt-ltb, le-ltb, le-leb, lt-leb, ltb-true, leb-true, cases_lt, cases_Bool, and_parts, and_from, and_left, and_right, not-true, ne_eqb}
 use Rattle.std.specs.Str.{bytes_eq}
-use Rattle.agg_base.specs.Cut.{newline, IsPlain, Answers, IsLine, first_line, whole_line, next_of, fault_of, or_fault}
+use Rattle.agg_base.specs.Cut.{IsPlain, Answers, IsLine, first_line, whole_line, next_of, fault_of, or_fault}
 use Rattle.agg_base.specs.declared.lines.LineFault.{LineFault}
 use Rattle.agg_base.specs.declared.lines.LineFault.TheVariants.{Read, LineTooLong, InputTooLong, Memory}
-use Rattle.agg_base.specs.declared.limits.TheConstants.{MAX_LINE, MAX_INPUT}
-use Rattle.agg_reading.specs.Lines.{Line, Place, lines, with_byte, line_fault, is_beyond, past, max_line, max_input}
+use Rattle.agg_model.specs.declared.limits.TheConstants.{MAX_LINE, MAX_INPUT}
+use Rattle.agg_model.specs.Lines.{newline, Line, lines, with_byte}
+use Rattle.agg_model.specs.declared.script_refusal.TheConstants.{INPUT_TOO_LONG, LINE_TOO_LONG}
+use Rattle.agg_base.proofs.CutLemmas.{line_of, lines-line, lines-last}
+use Rattle.agg_reading.specs.Lines.{Place, line_fault, past}
 use Rattle.agg_program.specs.SmallForm.{within, not_built, unless_fault}
 use Rattle.agg_program.specs.Reading.{Reads, stop_of}
 use Rattle.agg_program.specs.declared.stop.Stop.{Stop}
 use Rattle.agg_program.specs.declared.stop.Stop.TheVariants.{NotBuilt}
 use Rattle.agg_program.specs.declared.stop.Stop.TheVariants as stop
 
-abbrev line_of : List ℕ → ℕ → Line
-line_of text size = record { text = text; size = size }
-
 abbrev place_at : ℕ → ℕ → Place
 place_at number read = record { number = number; read = read }
-
-first_byte : (s : ℕ) (ss : List ℕ) → IsPlain (s ∷ ss) → s == newline ≡ false
-first_byte s ss plain = not-true _ (and_parts _ _ plain).0
-
-other_bytes : (s : ℕ) (ss : List ℕ) → IsPlain (s ∷ ss) → IsPlain ss
-other_bytes s ss plain = (and_parts _ _ plain).1
 
 -- the first line of what has a byte
 pub lines-first : (b : ℕ) (bs : List ℕ) → (ls : List Line) × (lines (b ∷ bs) ≡ line_of (first_line (b ∷ bs)) (length (whole_line (b ∷ bs))) ∷ ls)
@@ -61,36 +55,8 @@ lines-first b (c ∷ cs) =
           ∙ ap (λ (t : List ℕ). line_of (b ∷ first_line (c ∷ cs)) (length t)) (cond-false (b == newline) (b ∷ []) (b ∷ whole_line (c ∷ cs)) no))),
     ))
 
--- the lines of what begins with a whole line, and of a last line
-pub lines-line : (line rest : List ℕ) → IsPlain line → lines (line ++ newline ∷ rest) ≡ line_of line (length line + 1) ∷ lines rest
-unfolding lines
-lines-line [] rest plain = refl
-lines-line (s ∷ ss) rest plain =
-    cond-false (s == newline) _ _ (first_byte s ss plain)
-    ∙ ap (with_byte s) (lines-line ss rest (other_bytes s ss plain))
-    ∙ ap (λ (n : ℕ). line_of (s ∷ ss) n ∷ lines rest) (omega arith)
-
-pub lines-last : (line : List ℕ) → IsPlain line → line ≢ [] → lines line ≡ line_of line (length line) ∷ []
-unfolding lines
-lines-last [] plain some = absurd (some refl)
-lines-last (s ∷ []) plain some = cond-false (s == newline) _ _ (first_byte s [] plain)
-lines-last (s ∷ t ∷ ss) plain some =
-    cond-false (s == newline) _ _ (first_byte s (t ∷ ss) plain)
-    ∙ ap (with_byte s) (lines-last (t ∷ ss) (other_bytes s (t ∷ ss) plain) (λ e. absurd cc))
-    ∙ ap (λ (n : ℕ). line_of (s ∷ t ∷ ss) n ∷ []) (omega arith)
-
--- the two readings of the limits agree
-module _ (number before : ℕ) (text : List ℕ) (size : ℕ) (inside : before ≤ MAX_INPUT) where
-  beyond : MAX_INPUT < before + min size (MAX_LINE + 1) → is_beyond (place_at number before) (line_of text size) ≡ true
-  beyond lt = and_from _ _ (and_from _ _ (le-leb _ _ inside) (lt-ltb _ _ (omega arith))) (le-leb _ _ (omega arith))
-
-  not_beyond : before + min size (MAX_LINE + 1) ≤ MAX_INPUT → is_beyond (place_at number before) (line_of text size) ≡ false
-  not_beyond le =
-      ⊎_elim
-      (λ lt. and_right (nat_le before max_input && nat_lt max_input (before + size)) _ (lt-leb (max_input - before) max_line (omega arith)))
-      (λ ge. and_left _ (nat_le (max_input - before) max_line) (and_right (nat_le before max_input) _ (le-ltb max_input (before + size) ge)))
-      (cases_lt max_input (before + size))
-
+-- a line is refused by the script exactly where its reader refuses it
+module _ (number before : ℕ) (text : List ℕ) (size : ℕ) where
   pub fits : fault_of before (length text) size ≡ None → line_fault (place_at number before) (line_of text size) ≡ None
   unfolding line_fault
   fits none =
@@ -98,7 +64,7 @@ module _ (number before : ℕ) (text : List ℕ) (size : ℕ) (inside : before �
       (λ lt. let e = sym (cond-true _ (Some InputTooLong) _ (lt-ltb _ _ lt)) ∙ none in absurd cc)
       (λ le. ⊎_elim
       (λ long. let e = sym (cond-false _ (Some InputTooLong) _ (le-ltb _ _ le) ∙ cond-true _ (Some LineTooLong) None (lt-ltb _ _ long)) ∙ none in absurd cc)
-      (λ short. cond-false _ (Some 37) _ (not_beyond le) ∙ cond-false _ (Some 30) None (le-ltb _ _ short))
+      (λ short. cond-false _ (Some INPUT_TOO_LONG) _ (le-ltb _ _ le) ∙ cond-false _ (Some LINE_TOO_LONG) None (le-ltb _ _ short))
       (cases_lt MAX_LINE (length text)))
       (cases_lt MAX_INPUT (before + min size (MAX_LINE + 1)))
 
@@ -106,9 +72,9 @@ module _ (number before : ℕ) (text : List ℕ) (size : ℕ) (inside : before �
   unfolding line_fault
   faulty fault is =
       ⊎_elim
-      (λ lt. (37, cond-true _ (Some 37) _ (beyond lt)))
+      (λ lt. (INPUT_TOO_LONG, cond-true _ (Some INPUT_TOO_LONG) _ (lt-ltb _ _ lt)))
       (λ le. ⊎_elim
-      (λ long. (30, cond-false _ (Some 37) _ (not_beyond le) ∙ cond-true _ (Some 30) None (lt-ltb _ _ long)))
+      (λ long. (LINE_TOO_LONG, cond-false _ (Some INPUT_TOO_LONG) _ (le-ltb _ _ le) ∙ cond-true _ (Some LINE_TOO_LONG) None (lt-ltb _ _ long)))
       (λ short. let e = sym (cond-false _ (Some InputTooLong) _ (le-ltb _ _ le) ∙ cond-false _ (Some LineTooLong) None (le-ltb _ _ short)) ∙ is in absurd cc)
       (cases_lt MAX_LINE (length text)))
       (cases_lt MAX_INPUT (before + min size (MAX_LINE + 1)))
@@ -150,7 +116,7 @@ some_is x y e = cc
 
 within_limits : (number before : ℕ) (text : List ℕ) (size : ℕ) → before ≤ MAX_INPUT → fault_of before (length text) size ≡ None → within (place_at number before) (line_of text size) ≡ Ok tt
 unfolding within
-within_limits number before text size inside none = ap (unless_fault (number + 1)) (fits number before text size inside none)
+within_limits number before text size inside none = ap (unless_fault (number + 1)) (fits number before text size none)
 
 module _ (number before : ℕ) (text : List ℕ) (inside : before ≤ MAX_INPUT) (plain : IsPlain text) where
   -- a line that a newline ends
@@ -225,7 +191,7 @@ reads_err number before None fault line after left inside here is = tt
 reads_err number before (Some []) fault line after left inside here is = absurd cc
 reads_err number before (Some (b ∷ bs)) fault line after left inside here is =
     let first = lines-first b bs in
-    let found = faulty number before (first_line (b ∷ bs)) (length (whole_line (b ∷ bs))) inside fault (or_fault-err _ _ fault is) in
+    let found = faulty number before (first_line (b ∷ bs)) (length (whole_line (b ∷ bs))) fault (or_fault-err _ _ fault is) in
     (line_of (first_line (b ∷ bs)) (length (whole_line (b ∷ bs))), first.0, first.1, ap (unless_fault (number + 1)) found.1 ∙ ap (λ (n : ℕ). not_built {A = ⊤} n) (sym here))
 
 pub no_bytes : (bytes : List ℕ) → (length bytes == 0) ≡ bytes_eq bytes []

@@ -2,7 +2,8 @@
 use Rattle.std.proofs.Common.{◌≡◌, ◌++◌, ◌∷◌, [], ℕ, Bool, true, false, List, Option, Some, None, Result, Ok, Err, refl, sym, ap, subst, ◌∙◌, length}
 use Rattle.std.specs.Prelude.{IfSome, if◌then◌else◌, ⊤}
 use Rattle.agg_model.specs.declared.row.Document.{Document}
-use Rattle.agg_reading.specs.Lines.{Line, Place, Script}
+use Rattle.agg_model.specs.Lines.{Line}
+use Rattle.agg_reading.specs.Lines.{Place, Script}
 use Rattle.agg_program.specs.SmallForm.{not_built}
 use Rattle.agg_program.specs.Documents.{Taken, documents, sources, documents_of}
 use Rattle.agg_program.specs.Reading.{Follows, Indexes, Loads}

@@ -4,7 +4,8 @@ use Rattle.std.specs.Prelude.{IfSome, ⊤}
 use Rattle.std.proofs.Math.Seq.{take-append-add}
 use Rattle.std.specs.Io.KnownBytes.{append_known}
 use Rattle.agg_model.specs.declared.row.Document.{Document}
-use Rattle.agg_reading.specs.Lines.{Line, Place, Script}
+use Rattle.agg_model.specs.Lines.{Line}
+use Rattle.agg_reading.specs.Lines.{Place, Script}
 use Rattle.agg_program.specs.SmallForm.{not_built_at, not_built}
 use Rattle.agg_program.specs.Documents.{Taken, loaded}
 use Rattle.agg_program.specs.Answers.{loaded_line}

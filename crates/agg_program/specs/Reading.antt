@@ -1,6 +1,7 @@
 -- What reading one line answers of the rest of a script.
 use Rattle.std.specs.Prelude.{◌≡◌, ◌⊎◌, ℕ, List, [], ◌∷◌, ◌++◌, Option, Some, None, Result, Ok, Err, option_map, ⊤}
-use Rattle.agg_reading.specs.Lines.{Line, Place, Script, lines, past}
+use Rattle.agg_model.specs.Lines.{Line, lines}
+use Rattle.agg_reading.specs.Lines.{Place, Script, past}
 use Rattle.agg_base.specs.Lines.{unread, position, handed}
 use Rattle.agg_base.specs.declared.lines.LineFault.{LineFault}
 use Rattle.agg_base.specs.declared.lines.LineFault.TheVariants as fault

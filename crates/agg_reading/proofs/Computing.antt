@@ -33,7 +33,7 @@ unfolding
     Rattle.agg_reading.specs.Routing.shard_of Rattle.agg_reading.specs.Store.live_at Rattle.agg_reading.specs.Store.with_document
     Rattle.agg_reading.specs.Store.live_documents Rattle.agg_reading.specs.Store.store_weight Rattle.agg_reading.specs.Store.put_row
     Rattle.agg_reading.specs.Store.deleted Rattle.agg_reading.specs.Store.applied Rattle.agg_reading.specs.Store.shards_of
-    Rattle.agg_reading.specs.Lines.lines Rattle.agg_reading.specs.Lines.is_empty_line Rattle.agg_reading.specs.Lines.line_fault
+    Rattle.agg_model.specs.Lines.lines Rattle.agg_reading.specs.Lines.is_empty_line Rattle.agg_reading.specs.Lines.line_fault
     Rattle.agg_reading.specs.Lines.checked Rattle.agg_reading.specs.Script.with_action Rattle.agg_reading.specs.Script.heading_of
     Rattle.agg_reading.specs.Script.bulk Rattle.agg_reading.specs.Script.loaded Rattle.agg_reading.specs.Script.header_at
     Rattle.agg_reading.specs.Script.pairs Rattle.agg_reading.specs.Leaves.value_at Rattle.agg_reading.specs.Leaves.field_in

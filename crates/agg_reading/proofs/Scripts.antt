@@ -10,7 +10,8 @@ use Rattle.agg_model.specs.declared.bulk.Item.{Item}
 use Rattle.agg_model.specs.declared.bulk.ItemEnd.TheVariants.{Applied, Refused}
 use Rattle.agg_reading.specs.Reading.{◌>>=◌}
 use Rattle.agg_reading.specs.declared.parts.IndexLine.{IndexLine}
-use Rattle.agg_reading.specs.Lines.{lines, start, line_fault, Script, refuse_script}
+use Rattle.agg_model.specs.Lines.{lines}
+use Rattle.agg_reading.specs.Lines.{start, line_fault, Script, refuse_script}
 use Rattle.agg_reading.specs.Store.{live_documents}
 use Rattle.agg_reading.specs.Script.{Loaded, Bodies, loaded, pairs, heading_of}
 use Rattle.agg_reading.proofs.Computing.{computing}

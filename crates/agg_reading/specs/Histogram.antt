@@ -81,17 +81,20 @@ histogram_in (place, field) at ms = do
   (least, missing, offset, order) ← histogram_counts_in field.kind at ms
   interval ← or_refuse MISSING_MEMBER at said
   histogram_rules at interval offset extended hard
-  Ok (histogram_kind (record {
-    field = place;
-    interval = interval;
-    offset = offset;
-    min_doc_count = least;
-    extended = extended;
-    hard = hard;
-    keyed = keyed;
-    order = [];
-    missing = missing;
-  }), order)
+  Ok (
+    histogram_kind (record {
+      field = place;
+      interval = interval;
+      offset = offset;
+      min_doc_count = least;
+      extended = extended;
+      hard = hard;
+      keyed = keyed;
+      order = [];
+      missing = missing;
+    }),
+    order,
+  )
 
 unfoldable pub histogram_at : Mapping → List ℕ → Data → Reading (Kind × List NamedOrder)
 histogram_at m at d = do

@@ -86,7 +86,7 @@ resolved children done (o ∷ os) = do
 
 unfoldable pub with_order : List Order → Kind → Kind
 with_order order k = elim (options_of k) [
-    Options.Terms t ↦ terms_kind (record t { order = order })
+  | Options.Terms t ↦ terms_kind (record t { order = order })
   | Options.Histogram h ↦ histogram_kind (record h { order = order })
   | _ ↦ k
-  ]
+]

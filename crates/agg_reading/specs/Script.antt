@@ -19,7 +19,8 @@ use Rattle.agg_reading.specs.declared.parts.IndexLine.{IndexLine}
 use Rattle.agg_reading.specs.IndexLine.{index_line_at}
 use Rattle.agg_reading.specs.Action.{Heading, action_at}
 use Rattle.agg_reading.specs.Store.{Store, applied}
-use Rattle.agg_reading.specs.Lines.{Line, Place, start, past, is_empty_line, ScriptRefusal, Script, refuse_script, checked}
+use Rattle.agg_model.specs.Lines.{Line}
+use Rattle.agg_reading.specs.Lines.{Place, start, past, is_empty_line, ScriptRefusal, Script, refuse_script, checked}
 
 -- The refusal of a line, with its number. The readings of lines answer no other fault.
 abbrev pub refusal_at : ℕ → RequestFault → ScriptRefusal

@@ -62,17 +62,20 @@ terms_in (place, field) at ms = do
   (exclude, include) ← term_lists_in field.kind at ms
   (least, missing, order) ← term_counts_in field.kind at ms
   (size, shard_size, show) ← term_sizes_in at ms
-  Ok (terms_kind (record {
-    field = place;
-    size = size;
-    shard_size = shard_size;
-    min_doc_count = least;
-    order = [];
-    include = include;
-    exclude = unwrap_or exclude [];
-    missing = missing;
-    show_error = show;
-  }), order)
+  Ok (
+    terms_kind (record {
+      field = place;
+      size = size;
+      shard_size = shard_size;
+      min_doc_count = least;
+      order = [];
+      include = include;
+      exclude = unwrap_or exclude [];
+      missing = missing;
+      show_error = show;
+    }),
+    order,
+  )
 
 unfoldable pub terms_at : Mapping → List ℕ → Data → Reading (Kind × List NamedOrder)
 terms_at m at d = do

@@ -10,11 +10,11 @@ use Rattle.agg_spec.specs.Json.{Member, object_of}
 -- the members that a bucket has of its kind
 abbrev pub own_members : Kind → BucketAnswer → List Member
 own_members k b = elim (options_of k) [
-    Options.Terms t ↦ term_members (out-BucketAnswer b).key ++ error_members t.show_error (out-BucketAnswer b).error
+  | Options.Terms t ↦ term_members (out-BucketAnswer b).key ++ error_members t.show_error (out-BucketAnswer b).error
   | Options.Histogram h ↦ term_members (out-BucketAnswer b).key
   | Options.Composite sources size after ↦ (codes "key", composite_value sources (out-BucketAnswer b).key) ∷ []
   | _ ↦ []
-  ]
+]
 
 abbrev pub bucket_tree : Kind → List Printer → BucketAnswer → Data
 bucket_tree kind children b = object_of (bucket_members children (own_members kind b) b)

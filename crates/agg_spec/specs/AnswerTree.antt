@@ -109,7 +109,7 @@ metric_tree _ m = object_of ((codes "value", count m.count) ∷ [])
 
 abbrev pub tree_at : List Printer → Kind → NodeAnswer-F BucketAnswer NodeAnswer → Data
 tree_at children k n = elim (options_of k) [
-    Options.Terms t ↦ object_of (
+  | Options.Terms t ↦ object_of (
       (codes "buckets", array_of (map (term_bucket children t.show_error) n.buckets))
       ∷ (codes "doc_count_error_upper_bound", whole_number n.error)
       ∷ (codes "sum_other_doc_count", count n.other) ∷ [])
@@ -119,7 +119,7 @@ tree_at children k n = elim (options_of k) [
       object_of (after_key sources n.buckets ++ (codes "buckets", array_of (map (composite_bucket sources children) n.buckets)) ∷ [])
   | Options.Metric m ↦ metric_tree k n.metric
   | _ ↦ object_of (flat_map (bucket_members children []) n.buckets)
-  ]
+]
 
 abbrev pub printer : Agg → Printer
 printer = fold_agg (λ a n. tree_at a.children a.kind (out-NodeAnswer n))

@@ -69,7 +69,7 @@ empty_bucket children key = record { key = key; count = 0; covered = 0; children
 
 abbrev pub finish_at : List ℕ → List Finisher → Kind → Parts → NodeAnswer
 finish_at name children k p = elim (options_of k) [
-    Options.Terms t ↦ terms_answer name children t.size t.min_doc_count t.order p
+  | Options.Terms t ↦ terms_answer name children t.size t.min_doc_count t.order p
   | Options.Histogram h ↦
       buckets_answer name (map (finish_bucket children None) (sorted (bucket_cmp (map (λ c. c.kind) children) h.order)
       (filled (empty_bucket children) h.interval h.offset h.min_doc_count h.extended h.hard p.buckets)))
@@ -77,7 +77,7 @@ finish_at name children k p = elim (options_of k) [
       buckets_answer name (map (finish_bucket children None) (take size (sorted (λ a b. composite_cmp sources (bucket_key a) (bucket_key b)) p.buckets)))
   | Options.Metric m ↦ metric_answer name p.metrics
   | _ ↦ buckets_answer name (map (finish_bucket children None) p.buckets)
-  ]
+]
 
 abbrev pub finisher_of : Agg-F Finisher → Finisher
 finisher_of a = record {

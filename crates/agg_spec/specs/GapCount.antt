@@ -62,7 +62,7 @@ below_empty children = plan_each children (map (λ c. c.whole []) children)
 
 abbrev pub plan_at : List Plan → Kind → Parts → ℕ
 plan_at children k p = elim (options_of k) [
-    Options.Terms t ↦ with_children children (take t.size (sorted (bucket_cmp (map (λ c. c.kind) children) t.order) (frequent t.min_doc_count p.buckets)))
+  | Options.Terms t ↦ with_children children (take t.size (sorted (bucket_cmp (map (λ c. c.kind) children) t.order) (frequent t.min_doc_count p.buckets)))
   | Options.Histogram h ↦
       if h.min_doc_count == 0 then
       (let filled = filled_count h.interval h.offset h.extended h.hard (filter_map (λ b. number_of_key (bucket_key b)) p.buckets) in
@@ -70,7 +70,7 @@ plan_at children k p = elim (options_of k) [
       else with_children children (frequent h.min_doc_count p.buckets)
   | Options.Composite sources size after ↦ with_children children (take size (sorted (λ a b. composite_cmp sources (bucket_key a) (bucket_key b)) p.buckets))
   | _ ↦ member_count k p.buckets + sum (map (λ b. plan_each children b.children) p.buckets)
-  ]
+]
 
 abbrev pub plan_of : Agg-F Plan → Plan
 plan_of a = record {

@@ -6,7 +6,8 @@ use Rattle.agg_model.specs.declared.breaker.Totals.{Totals}
 use Rattle.agg_model.specs.declared.settings.Settings.{Settings}
 use Rattle.agg_model.specs.declared.settings.Usage.{Usage}
 use Rattle.agg_model.specs.declared.outcome.Outcome.{Outcome}
-use Rattle.agg_reading.specs.Lines.{Line, lines, ScriptRefusal}
+use Rattle.agg_model.specs.Lines.{Line, lines}
+use Rattle.agg_reading.specs.Lines.{ScriptRefusal}
 use Rattle.agg_reading.specs.Script.{Loaded, loaded}
 use Rattle.agg_spec.specs.Outcome.{Request}
 use Rattle.agg_spec.specs.Generator.{generated}

@@ -94,4 +94,4 @@ module _ (p : Plan) (good : IsPlan p) (s : ArrivalState) (f : IsKept p s) where
       let a = f.batches.due q t y.0 range y.1 in let b = one_if_le (leb (batch_size p q (t / p.batch)) (get_or s.counts (place_of p q (t / p.batch)) 0)) in
       -- its batch is counted, so it was drawn and is no longer in hand
       let once = f.results.once q t y.0 range y.1 in let full = all_put q t range (batch_held i q (t / p.batch) v e (x, g)).1 in let drawn = lt_one t (get_or s.tickets q 0) full.1 in let away = full.0 in
-      let l = full_slot y.0 (omega arith) (omega arith) in let there = y.1 ∙ ap some l.1 in let lab = f.labels.results q t l.0 range there in (l.0, there, lab.0, lab.1)
+      let l = full_slot s.results (place_of p q t) y.0 y.1 (omega arith) (omega arith) in let lab = f.labels.results q t l.0 range l.1 in (l.0, l.1, lab.0, lab.1)

@@ -89,11 +89,11 @@ due_no : (f : Item → ℕ) (p : Plan) (q b n : ℕ) → n ≢ batch_size p q b 
 due_no f p q b n h = ap (sum_by f) (cond-false _ _ _ (ne_eqb n (batch_size p q b) h))
 
 -- a number that is reached counts 1
-le_one : (a b : ℕ) → a ≤ b → one_if (leb a b) ≡ 1
+pub le_one : (a b : ℕ) → a ≤ b → one_if (leb a b) ≡ 1
 le_one a b h = ap one_if (le-leb a b h)
 
 -- and one that is not counts 0
-le_none : (a b : ℕ) → b < a → one_if (leb a b) ≡ 0
+pub le_none : (a b : ℕ) → b < a → one_if (leb a b) ≡ 0
 le_none a b h = ap one_if (lt-leb a b h)
 
 -- of a batch whose desk is at its slot

@@ -1,5 +1,5 @@
 -- A batch's count word is the number of its tickets that were counted, and an uncounted ticket is in one desk's hand.
-use Rattle.std.proofs.Common.{◌≡◌, ℕ, zero, suc, ◌+◌, ◌-◌, ◌*◌, ◌/◌, ◌%◌, ◌<◌, ◌≤◌, min, true, false, ◌&&◌, eqb, ltb, get_or, List, [], ◌∷◌, length, set, sym, refl, ap, subst, arith, get_or-set_same, get_or-set_other, mul-le-mul_right, suc-mul, div-add-mod', mod-lt}
+use Rattle.std.proofs.Common.{◌≡◌, ℕ, zero, suc, ◌+◌, ◌-◌, ◌*◌, ◌/◌, ◌%◌, ◌<◌, ◌≤◌, min, true, false, ◌&&◌, eqb, ltb, get_or, List, [], ◌∷◌, length, set, sym, refl, ap, subst, arith, get_or-set_same, get_or-set_other, suc-mul, div-add-mod', mod-lt}
 use Rattle.std.proofs.lemmas.Bool.{eq-eqb}
 use mathlib.Core.Option.{some}
 use mathlib.Core.Logic.{dite}

@@ -24,8 +24,10 @@ pub mod Batches
 pub mod Everywhere
 pub mod TasksOnce
 pub mod Stops
+pub mod CountedTickets
 pub mod Fair
 pub mod Closing
 pub mod Alone
+pub mod Growth
 mod MergeExamples
 mod StopExamples

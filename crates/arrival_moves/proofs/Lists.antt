@@ -32,3 +32,9 @@ module _ {A : Type 0} where
   at_snoc [] a b (suc j) e = absurd (some-ne-none b (sym e))
   at_snoc (x ∷ xs) a b zero e = inl e
   at_snoc (x ∷ xs) a b (suc j) e = at_snoc xs a b j e
+
+  -- an element stands below the length
+  pub there_below : (l : List A) (j : ℕ) (a : A) → get_elem? l j ≡ some a → j < length l
+  there_below [] j a e = absurd (some-ne-none a (sym e))
+  there_below (x ∷ xs) zero a e = omega arith
+  there_below (x ∷ xs) (suc j) a e = let r = there_below xs j a e in omega arith

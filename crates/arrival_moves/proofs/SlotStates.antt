@@ -57,11 +57,11 @@ put_or_reached (holds l) = omega arith
 put_or_reached emptied = omega arith
 
 -- what was put and not emptied is full
-pub full_slot : (y : Slot) → was_put y ≡ 1 → was_emptied y ≡ 0 → (l : Label) × (y ≡ holds l)
-full_slot fresh h k = absurd (omega arith)
-full_slot reached h k = absurd (omega arith)
-full_slot (holds l) h k = (l, refl)
-full_slot emptied h k = absurd (omega arith)
+pub full_slot : (xs : List Slot) (j : ℕ) (y : Slot) → get_elem? xs j ≡ some y → was_put y ≡ 1 → was_emptied y ≡ 0 → (l : Label) × (get_elem? xs j ≡ some (holds l))
+full_slot xs j fresh e h k = absurd (omega arith)
+full_slot xs j reached e h k = absurd (omega arith)
+full_slot xs j (holds l) e h k = (l, e)
+full_slot xs j emptied e h k = absurd (omega arith)
 
 -- so is a slot whose number is not 0
 pub full_of : (f : Label → ℕ) (y : Slot) → 1 ≤ in_slot f y → (l : Label) × (y ≡ holds l) × (1 ≤ f l)

@@ -1,6 +1,6 @@
 -- What holds of the table of arrivals after every list of moves: its words and slots are there, and five clauses on
 -- claims, tasks, tickets, batches and stop words.
-use Rattle.std.specs.Prelude.{◌≡◌, ◌⊎◌, ℕ, ◌+◌, ◌*◌, ◌/◌, ◌<◌, ◌≤◌, ◌&&◌, ◌==◌, nat_lt, nat_le, IsTrue, if◌then◌else◌, List, [], length, slice_index}
+use Rattle.std.specs.Prelude.{◌≡◌, ◌⊎◌, ℕ, ◌+◌, ◌-◌, ◌*◌, ◌/◌, ◌<◌, ◌≤◌, ◌&&◌, ◌==◌, nat_lt, nat_le, IsTrue, if◌then◌else◌, List, [], length, slice_index}
 use Rattle.std.specs.List.{sum_by}
 use mathlib.Core.Option.{some}
 use lib.ListN.{get_elem?}
@@ -10,11 +10,11 @@ use Rattle.arrival_moves.specs.declared.view.View.{View}
 use Rattle.arrival_moves.specs.declared.item.HeldBatch.{HeldBatch}
 use Rattle.arrival_moves.specs.declared.item.ClosedBatch.{ClosedBatch}
 use Rattle.arrival_moves.specs.declared.item.Item.TheVariants.{Batch, Closed}
-use Rattle.arrival_moves.specs.Lists.{one_if, contains}
+use Rattle.arrival_moves.specs.Lists.{one_if, contains, numbers_from}
 use Rattle.arrival_moves.specs.Labels.{task_times, task_label}
 use Rattle.arrival_moves.specs.Slots.{Slot, holds, in_slots, was_put}
-use Rattle.arrival_moves.specs.Plans.{task_count, search_of, tasks_of, place_of, tickets_in, batch_size, drawn_of}
-use Rattle.arrival_moves.specs.Items.{in_item, claimed_at, waiting_of, arrived_at, put_at, uncounted_in, batch_at, due_at}
+use Rattle.arrival_moves.specs.Plans.{task_count, search_of, tasks_of, place_of, batch_size, drawn_of}
+use Rattle.arrival_moves.specs.Items.{in_item, claimed_at, waiting_of, arrived_at, put_at, batch_at, due_at}
 use Rattle.arrival_moves.specs.Hands.{in_hands}
 use Rattle.arrival_moves.specs.Moves.{ArrivalState}
 
@@ -69,6 +69,10 @@ pub record HoldsBatch (p : Plan) (x : HeldBatch) : Type 0 where
   pub size : length x.taken.tasks + length x.due ≡ batch_size p x.search x.batch
   pub search : IsOfSearch p x.search x.taken
 
+-- 1 where the ticket t of q was counted: it was drawn, and no desk has it with its task or its put result
+abbrev pub is_counted : ArrivalState → ℕ → ℕ → ℕ
+is_counted s q t = one_if (nat_lt t (slice_index s.tickets q)) - (in_hands (arrived_at q t) s.desks + in_hands (put_at q t) s.desks)
+
 -- of a merged result that was taken out
 pub record HoldsMerged (p : Plan) (x : ClosedBatch) : Type 0 where
   pub real : x.batch * p.batch < tasks_of p x.search
@@ -83,15 +87,17 @@ pub record BatchesFit (p : Plan) (s : ArrivalState) : Type 0 where
   pub taken : (i j : ℕ) (v : View) (x : HeldBatch) → get_elem? s.desks i ≡ some v → get_elem? v.hand j ≡ some (Batch x) → HoldsBatch p x
   -- a merged result stands for as many tasks as its batch has tickets, all of its search
   pub merged : (q b : ℕ) (l : Label) → b * p.batch < tasks_of p q → get_elem? s.batches (place_of p q b) ≡ some (holds l) → (length l.tasks ≡ batch_size p q b) × IsOfSearch p q l
-  -- so does one that was taken out
+  -- and lies in the slot of a batch that its search has
+  pub placed : (r : ℕ) (l : Label) → get_elem? s.batches r ≡ some (holds l) → (q : ℕ) × (b : ℕ) × (b * p.batch < tasks_of p q) × (r ≡ place_of p q b)
+  -- so does one that was taken out stand for its batch
   pub closed : (i j : ℕ) (v : View) (x : ClosedBatch) → get_elem? s.desks i ≡ some v → get_elem? v.hand j ≡ some (Closed x) → HoldsMerged p x
-  -- a batch's count word is the number of its tickets that were counted: those that were drawn and are in no hand
+  -- a batch's count word is the number of its tickets that were counted
   pub counts : (q b : ℕ) → b * p.batch < tasks_of p q
-      → slice_index s.counts (place_of p q b) + in_hands (uncounted_in p q b) s.desks ≡ tickets_in p b (slice_index s.tickets q)
-  -- a ticket that was drawn and not yet counted is in one desk's hand
+      → slice_index s.counts (place_of p q b) ≡ sum_by (is_counted s q) (numbers_from (b * p.batch) (batch_size p q b))
+  -- a ticket in hand was drawn, and one desk has it; so one that was drawn and not yet counted is in one desk's hand
   pub uncounted : (q t : ℕ) → in_hands (arrived_at q t) s.desks + in_hands (put_at q t) s.desks ≤ one_if (nat_lt t (slice_index s.tickets q))
   -- a counted ticket's slot holds its result until a desk whose count was the last has taken it
-  pub counted : (q t : ℕ) → t < slice_index s.tickets q → in_hands (arrived_at q t) s.desks + in_hands (put_at q t) s.desks ≡ 0
+  pub counted : (q t : ℕ) → 1 ≤ is_counted s q t
       → (slice_index s.counts (place_of p q (t / p.batch)) < batch_size p q (t / p.batch)) ⊎ (1 ≤ in_hands (due_at q t) s.desks)
       → (l : Label) × (get_elem? s.results (place_of p q t) ≡ some (holds l))
   -- a batch whose last count was made is in one desk's hand until its merged result was put
@@ -111,6 +117,8 @@ skipped_tasks p q l = if l.skipped then of_search p q l.tasks else 0
 
 -- stop words
 pub record StopsFit (p : Plan) (s : ArrivalState) : Type 0 where
+  -- a stop word is 0 or 1
+  pub word : (q : ℕ) → slice_index s.stops q ≤ 1
   -- where a search's stop word is 1, a task of it in hand is marked failed, or the label of a result of it says failed
   pub failed : (q : ℕ) → slice_index s.stops q ≡ 1 → 1 ≤ everywhere (failed_tasks p q) s
   -- where a desk noted the search as stopped, or the label of a result of it says skipped, its stop word is 1

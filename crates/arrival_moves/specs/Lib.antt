@@ -1,6 +1,7 @@
 pub mod AfterMove
 pub mod Closing
 pub mod Fairness
+pub mod Growth
 pub mod Guards
 pub mod Hands
 pub mod Holding

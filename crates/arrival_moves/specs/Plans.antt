@@ -1,6 +1,6 @@
 -- The tasks of the searches, their batches, and where the words and slots of a search stand.
 -- Elasticsearch Reference 8, 'Search API', `batched_reduce_size`: results of shards are merged in batches.
-use Rattle.std.specs.Prelude.{ℕ, ◌<◌, ◌≤◌, ◌+◌, ◌-◌, ◌*◌, min, nat_lt, length, take, slice_index}
+use Rattle.std.specs.Prelude.{◌≡◌, ℕ, ◌<◌, ◌≤◌, ◌+◌, ◌-◌, ◌*◌, min, nat_lt, length, take, slice_index}
 use Rattle.std.specs.List.{sum_by}
 use Rattle.arrival_moves.specs.declared.plan.Plan.{Plan}
 use Rattle.arrival_moves.specs.Lists.{one_if, times}
@@ -41,3 +41,9 @@ pub record IsPlan (p : Plan) : Type 0 where
   pub batch : 2 ≤ p.batch
   pub few : task_count p ≤ 65536
   pub tasks : (k : ℕ) → k < task_count p → search_of p k < p.searches
+
+-- the places of the searches' tickets are the numbers below the number of tasks, each once
+pub record IsLaidOut (p : Plan) : Type 0 where
+  pub within : (q t : ℕ) → t < tasks_of p q → place_of p q t < task_count p
+  pub apart : (q t r u : ℕ) → t < tasks_of p q → u < tasks_of p r → place_of p q t ≡ place_of p r u → (q ≡ r) × (t ≡ u)
+  pub all : (n : ℕ) → n < task_count p → (q : ℕ) × (t : ℕ) × (t < tasks_of p q) × (n ≡ place_of p q t)

@@ -1,16 +1,28 @@
 //! What holds of the table of arrivals after every list of moves, whoever makes each. Each law is the contract of a
 //! function that does nothing.
-ghost use Rattle.std.specs.Prelude.{List};
+ghost use Rattle.std.specs.Prelude.{List, ◌++◌};
 ghost use Rattle.arrival_moves.specs.declared.plan.Plan.{Plan};
-ghost use Rattle.arrival_moves.specs.Plans.{IsPlan};
+ghost use Rattle.arrival_moves.specs.Plans.{IsPlan, IsLaidOut};
 ghost use Rattle.arrival_moves.specs.Moves.{Move, run};
 ghost use Rattle.arrival_moves.specs.Fairness.{IsFair};
+ghost use Rattle.arrival_moves.specs.Growth.{HasGrown, RaisesClaims};
 ghost use Rattle.arrival_moves.specs.Holding.{IsHeldAlone, HasDueResults};
 ghost use Rattle.arrival_moves.specs.Closing.{HasDeskAtEnd, IsAllMerged};
+
+/// The results of all tickets have places of their own, and there are no others.
+pub fn places()
+    ensures { (p : Plan) → IsPlan p → IsLaidOut p }
+{}
 
 /// Every list of moves leaves a fair state: claims, tasks, tickets, batches and stop words are as they should be.
 pub fn fairness()
     ensures { (p : Plan) (ms : List Move) → IsPlan p → IsFair p (run p ms) }
+{}
+
+/// No word ever falls, and each claim raises the claim word by one: what it found, no later claim finds.
+pub fn words_grow()
+    ensures grow { (p : Plan) (ms ns : List Move) → IsPlan p → HasGrown (run p ms) (run p (ms ++ ns)) }
+    ensures claim { (p : Plan) (ms : List Move) → IsPlan p → RaisesClaims p (run p ms) }
 {}
 
 /// What one desk has in hand, no other has: a task, a ticket, a batch. The next claim finds nobody's task.

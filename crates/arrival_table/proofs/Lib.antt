@@ -9,3 +9,6 @@ pub mod AllowedCount
 pub mod AllowedMerge
 pub mod AllowedStop
 pub mod AllowedShare
+pub mod Filled
+pub mod Opened
+pub mod OneItem

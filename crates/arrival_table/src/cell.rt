@@ -7,6 +7,7 @@ pub trait Labelled {
 }
 
 /// A slot's value: the load of a task, or a result.
+#[derive(Drop)]
 pub(crate) enum Cell<A, R> {
     Vacant,
     Load(A),

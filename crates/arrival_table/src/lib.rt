@@ -7,7 +7,9 @@ mod claims;
 mod desk;
 mod given;
 mod known;
+pub mod laws;
 mod merging;
+mod opening;
 mod places;
 mod results;
 mod rule;
@@ -17,4 +19,5 @@ mod table;
 
 pub use cell::Labelled;
 pub use desk::Desk;
-pub use table::Arrivals;
+pub use opening::{OpenRefused, Task};
+pub use table::{Arrivals, Merged};

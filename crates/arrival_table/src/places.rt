@@ -1,11 +1,14 @@
 // Where the words and slots of each search stand.
-ghost use Rattle.std.specs.Prelude.{◌≡◌, ℕ, ◌+◌, ◌≤◌, ◌<◌, length};
+ghost use Rattle.std.specs.Prelude.{◌≡◌, ℕ, ◌+◌, ◌≤◌, ◌<◌, length, nat_lt, IfOk};
+ghost use Rattle.std.specs.List.{sum_by};
 ghost use mathlib.Core.Option.{some};
 ghost use lib.ListN.{get_elem?};
 ghost use Rattle.arrival_moves.specs.declared.plan.Plan.{Plan as PlanValue};
+ghost use Rattle.arrival_moves.specs.Lists.{one_if};
 ghost use Rattle.arrival_moves.specs.Plans.{task_count, search_of, tasks_of, first_of, place_of, batch_size, IsPlan};
 
 use arrival_moves::Plan;
+use std::alloc::{AllocError, Global};
 use std::marker::Model;
 
 /// The plan, with the number of tasks of the searches before each search and before none.
@@ -23,7 +26,33 @@ impl Model for Places {
     ghost invariant = { λ s. IsPlan s.plan × (length s.starts.items ≡ s.plan.searches + 1) × ((q : ℕ) → q ≤ s.plan.searches → get_elem? s.starts.items q ≡ some (first_of s.plan q)) };
 }
 
+/// How many of the tasks are of searches before this one.
+fn tasks_before(tasks: &[u32], search: u64) -> u64
+    requires few { length tasks.now ≤ 65536 }
+    ensures { result ≡ sum_by (λ x. one_if (nat_lt x search)) tasks.now }
+{
+    let mut count = 0;
+    for task in tasks {
+        if (*task as u64) < search {
+            count += 1;
+        }
+    }
+    count
+}
+
 impl Places {
+    /// The places of a plan.
+    pub(crate) fn of(alloc: Global, plan: Plan) -> Result<Places, AllocError>
+        requires plan { IsPlan plan }
+        ensures { IfOk result (λ s. s ≡ plan) }
+    {
+        let mut starts = Vec::new(alloc);
+        for search in 0..plan.searches as u64 + 1 {
+            starts.push(tasks_before(plan.tasks.as_slice(), search))?;
+        }
+        Ok(Places { plan, starts })
+    }
+
     pub(crate) fn task_count(&self) -> usize
         ensures value { result ≡ task_count self.now }
         ensures few { result ≤ 65536 }

@@ -1,5 +1,6 @@
 // The table that workers share.
-ghost use Rattle.std.specs.Prelude.{◌≡◌, ◌+◌, ◌<◌};
+ghost use Rattle.std.specs.Prelude.{◌≡◌, ◌+◌, ◌<◌, ◌≤◌};
+ghost use Rattle.std.specs.Vec.{vec_len, vec_capacity};
 ghost use Rattle.arrival_moves.specs.Plans.{task_count, IsPlan};
 ghost use Rattle.arrival_table.specs.Models.{ArrivalsModel};
 
@@ -17,6 +18,16 @@ use std::marker::Model;
 pub struct Arrivals<A: Labelled, R: Labelled> {
     pub(crate) table: Table<Cell<A, R>, Known, Plan, ArrivalRule<A, R>, Global>,
     pub(crate) places: Places,
+    /// Room for one merged result of each batch, so that a close takes no memory.
+    pub(crate) room: Vec<Merged<R>>,
+}
+
+/// The merged result of a batch.
+#[derive(Drop)]
+pub struct Merged<R> {
+    pub search: u32,
+    pub batch: u32,
+    pub result: R,
 }
 
 impl<A: Labelled, R: Labelled> Model for Arrivals<A, R> {
@@ -24,7 +35,7 @@ impl<A: Labelled, R: Labelled> Model for Arrivals<A, R> {
 
     ghost view = { λ a. record { table = a.table.shared.table_id; plan = a.places } };
 
-    ghost invariant = { λ a. (a.table.shared.key ≡ a.places) × IsPlan a.places × (a.table.shared.table_id.words ≡ 1 + a.places.searches + task_count a.places + a.places.searches) × (a.table.shared.table_id.slots ≡ task_count a.places + task_count a.places + task_count a.places) };
+    ghost invariant = { λ a. (a.table.shared.key ≡ a.places) × IsPlan a.places × (a.table.shared.table_id.words ≡ 1 + a.places.searches + task_count a.places + a.places.searches) × (a.table.shared.table_id.slots ≡ task_count a.places + task_count a.places + task_count a.places) × (vec_len a.room ≡ 0) × (task_count a.places ≤ vec_capacity a.room) };
 }
 
 impl<A: Labelled, R: Labelled> Arrivals<A, R> {

@@ -1,4 +1,4 @@
--- The four breakers: three children and their parent, where their words stand, and their limits.
+-- Where the words of the four breakers stand in the table, and where their counters stop.
 -- Elasticsearch Reference 8, 'Circuit breaker settings'.
 use Rattle.std.specs.Prelude.{ℕ, min, List, [], ◌∷◌}
 use Rattle.agg_model.specs.declared.breaker.Which.{Which}

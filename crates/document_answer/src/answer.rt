@@ -7,13 +7,11 @@ ghost use Rattle.agg_spec.specs.Final.{final as final_answer};
 ghost use Rattle.agg_spec.specs.RangeCheck.{out_of_range};
 ghost use Rattle.document_terms.specs.SmallSearch.{IsTermsSearch, HaveKeywords};
 
+use agg_model::limits::DEFAULT_MAX_BUCKETS;
 use agg_model::{Answer, Document, List, Search};
 use document_terms::shard_answer_of;
 use final_reduce::{FinalFault, finish};
 use std::alloc::{AllocError, Global};
-
-/// The greatest number of buckets of an answer. An answer of this form has at most 10.
-const MAX_BUCKETS: u64 = 65_535;
 
 /// The final answer to a search of all documents with one `terms` aggregation over their keywords. Such an answer has
 /// few buckets and prints no sums, so it is never refused.
@@ -29,7 +27,7 @@ pub fn answer_of(
     ensures in_range { IfOk result (λ answer. out_of_range search.now answer ≡ None) }
 {
     let partial = shard_answer_of(alloc, search, documents)?;
-    match finish(alloc, search, MAX_BUCKETS, partial) {
+    match finish(alloc, search, DEFAULT_MAX_BUCKETS, partial) {
         Ok(answer) => Ok(answer),
         Err(FinalFault::Memory) => Err(AllocError),
         Err(FinalFault::TooManyBuckets { .. }) => unreachable!(),

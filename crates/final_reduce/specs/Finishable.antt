@@ -37,17 +37,17 @@ is_histogram_key interval offset hard _ = false
 
 abbrev pub has_histogram_keys : Kind → List Bucket → Bool
 has_histogram_keys k bs = elim (options_of k) [
-    Options.Histogram h ↦ list_all (λ b. is_histogram_key h.interval h.offset h.hard (bucket_key b)) bs
+  | Options.Histogram h ↦ list_all (λ b. is_histogram_key h.interval h.offset h.hard (bucket_key b)) bs
   | _ ↦ true
-  ]
+]
 
 abbrev pub fits_at : Kind → Parts → Bool
 fits_at k p = elim (options_of k) [
-    Options.Terms t ↦ terms_fit p
+  | Options.Terms t ↦ terms_fit p
   | Options.Histogram h ↦ has_histogram_keys k p.buckets
   | Options.Composite sources size after ↦ list_all (λ b. is_composite_of (length sources) (bucket_key b)) p.buckets
   | _ ↦ true
-  ]
+]
 
 -- the tests are those of the children
 abbrev pub is_finishable_at : List (Node → Bool) → Kind → Node → Bool

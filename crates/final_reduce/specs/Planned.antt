@@ -19,11 +19,11 @@ use Rattle.final_reduce.specs.Steps.{key_numbers}
 -- the buckets that are returned, but for those that fill gaps
 abbrev pub returned_at : List Kind → Kind → List Bucket → List Bucket
 returned_at kinds k bs = elim (options_of k) [
-    Options.Terms t ↦ take t.size (sorted (bucket_cmp kinds t.order) (frequent t.min_doc_count bs))
+  | Options.Terms t ↦ take t.size (sorted (bucket_cmp kinds t.order) (frequent t.min_doc_count bs))
   | Options.Histogram h ↦ frequent h.min_doc_count bs
   | Options.Composite sources size after ↦ take size (sorted (λ a b. composite_cmp sources (bucket_key a) (bucket_key b)) bs)
   | _ ↦ bs
-  ]
+]
 
 -- the keys of a composite aggregation have a part for each source
 abbrev pub has_composite_keys : Kind → List Bucket → Bool

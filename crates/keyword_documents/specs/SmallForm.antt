@@ -3,21 +3,18 @@ use Rattle.std.specs.Prelude.{ℕ, List, [], ◌∷◌, ◌&&◌, length, nat_le
 use Rattle.std.specs.Str.{bytes_eq}
 use Rattle.serde_json.specs.Data.{Data, string, Members, no_members, member}
 use Rattle.serde_json.specs.Find.{as_object}
+use Rattle.agg_model.specs.declared.limits.TheConstants.{MAX_KEYWORD}
 use Rattle.agg_model.specs.declared.row.Row.{Row, roll-Row}
 use Rattle.agg_model.specs.declared.row.Scalar.TheVariants.{Word}
 use Rattle.agg_model.specs.declared.row.Document.{Document}
 use Rattle.agg_reading.specs.Json.{reading}
-
--- the bytes that a keyword may have
-abbrev pub max_keyword : ℕ
-max_keyword = 32766
 
 -- the place of the field `t` in the mapping
 abbrev pub keyword_field : ℕ
 keyword_field = 2
 
 abbrev pub keyword_in : Members → Option (List ℕ)
-keyword_in (member name (string word) no_members) = if bytes_eq name (codes "t") && nat_le (length word) max_keyword then Some word else None
+keyword_in (member name (string word) no_members) = if bytes_eq name (codes "t") && nat_le (length word) MAX_KEYWORD then Some word else None
 keyword_in _ = None
 
 -- the keyword of a source line, where it is of this form

@@ -5,18 +5,14 @@ ghost use Rattle.agg_model.specs.declared.bulk.ItemRefusal.{ItemRefusal};
 ghost use Rattle.keyword_documents.specs.SmallForm.{keyword_of, keyword_in, keyword_row, keyword_document};
 ghost use Rattle.keyword_documents.specs.declared.document.ItemFault.TheVariants.{Refused, Memory};
 
+use agg_model::limits::MAX_KEYWORD;
+use agg_model::script_refusal::NOT_BUILT;
 use agg_model::{Copying, Document, FieldValues, ItemRefusal, List, Row, Scalar, Text};
 use serde_json::{Map, Value};
 use std::alloc::{AllocError, Global};
 
-/// The bytes that a keyword may have.
-const MAX_KEYWORD: usize = 32_766;
-
 /// The place of the field `t` in the mapping.
 const KEYWORD_FIELD: u32 = 2;
-
-/// The number of a refusal of what is not built yet.
-const NOT_BUILT: u8 = 29;
 
 /// Why there is no document.
 #[derive(Drop)]
@@ -35,7 +31,7 @@ impl From<AllocError> for ItemFault {
 
 /// The refusal of a source that is not built yet.
 fn not_built(alloc: Global) -> ItemFault
-    ensures { result ≡ Refused (record { number = 29; path = [] }) }
+    ensures { result ≡ Refused (record { number = NOT_BUILT; path = [] }) }
 {
     ItemFault::Refused(ItemRefusal {
         number: NOT_BUILT,
@@ -104,8 +100,8 @@ fn keyword_row(alloc: Global, word: Text) -> Result<Row, AllocError>
     })
 }
 
-/// The document that a source line gives: an object whose one member `t` is a text of at most 32,766 bytes. Any other
-/// source is refused as not built, with an empty path.
+/// The document that a source line gives: an object whose one member `t` is a text of at most `MAX_KEYWORD` bytes. Any
+/// other source is refused as not built, with an empty path.
 pub fn document_of(
     alloc: Global,
     id: &Text,
@@ -113,7 +109,7 @@ pub fn document_of(
     source: &[u8],
 ) -> Result<Document, ItemFault>
     ensures document { IfOk result (λ d. option_map (keyword_document id.now routing.now) (keyword_of source.now) ≡ Some d) }
-    ensures refused { IfErr result (λ fault. fault ≡ Memory ⊎ ((fault ≡ Refused (record { number = 29; path = [] })) × (keyword_of source.now ≡ None))) }
+    ensures refused { IfErr result (λ fault. fault ≡ Memory ⊎ ((fault ≡ Refused (record { number = NOT_BUILT; path = [] })) × (keyword_of source.now ≡ None))) }
 {
     let Some(word) = keyword_of(alloc, source)? else {
         return Err(not_built(alloc));

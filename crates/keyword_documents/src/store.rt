@@ -5,6 +5,7 @@ ghost use Rattle.keyword_documents.specs.SmallForm.{keyword_of, keyword_document
 ghost use Rattle.keyword_documents.specs.declared.document.ItemFault.TheVariants.{Refused, Memory};
 
 use crate::document::{ItemFault, document_of};
+use agg_model::script_refusal::NOT_BUILT;
 use agg_model::{Action, Applied, Document, List};
 use std::alloc::Global;
 use std::marker::Model;
@@ -66,7 +67,7 @@ impl Store {
         requires new_id { All (λ d. d.id ≢ action.id) self.old }
         ensures created { IfOk result (λ applied. applied ≡ Created) }
         ensures document { IfOk result (λ _. option_map (λ w. self.old ++ keyword_document action.id action.routing w ∷ []) (keyword_of action.source) ≡ Some self.new) }
-        ensures refused { IfErr result (λ fault. fault ≡ Memory ⊎ ((fault ≡ Refused (record { number = 29; path = [] })) × (keyword_of action.source ≡ None))) }
+        ensures refused { IfErr result (λ fault. fault ≡ Memory ⊎ ((fault ≡ Refused (record { number = NOT_BUILT; path = [] })) × (keyword_of action.source ≡ None))) }
         ensures as_before { OnErr result (self.new ≡ self.old) }
     {
         let document = document_of(alloc, &action.id, &action.routing, action.source.as_slice())?;

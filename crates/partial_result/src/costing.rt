@@ -3,16 +3,11 @@ ghost use Rattle.std.specs.Prelude.{◌≡◌, ◌^◌, ◌<◌, map, sum_by, le
 ghost use Rattle.agg_evaluation.specs.Cost.{key_bytes, node_cost, cost as cost_of};
 ghost use Rattle.partial_result.specs.Costs.{cost_of_bucket as bucket_cost_of};
 
+use agg_model::costs::{BUCKET_BYTES, NODE_BYTES};
 use agg_model::{Bucket, Key, List, Node, Partial};
 
-/// What a node costs beside its buckets, in bytes.
-const NODE_BYTES: u64 = 512;
-
-/// What a bucket costs beside its key and its children, in bytes.
-const BUCKET_BYTES: u64 = 128;
-
-/// The cost of a partial result in bytes, by which it is charged to a breaker: 512 for each node, and for each
-/// bucket 128 and the bytes of its key.
+/// The cost of a partial result in bytes, by which it is charged to a breaker: `NODE_BYTES` for each node, and for
+/// each bucket `BUCKET_BYTES` and the bytes of its key.
 pub fn cost(partial: &Partial) -> u64
     requires fits { cost_of partial.now < 2 ^ 64 }
     ensures { result ≡ cost_of partial.now }

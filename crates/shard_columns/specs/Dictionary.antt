@@ -28,4 +28,3 @@ NoRowHas field word rows = (n : ℕ) → ¬ (Contains (values_of field (row_of r
 -- the length of the longest word of a field in bytes, 0 where it has none
 abbrev pub longest_word : ℕ → List PlacedRow → ℕ
 longest_word field rows = greatest_of (map length (all_words field rows))
-

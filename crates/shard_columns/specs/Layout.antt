@@ -60,4 +60,3 @@ entries_of_laid rows = map (λ l. l.entry) rows
 unfoldable pub numbers_at : ℕ → ℕ → List Entry → List ℕ
 numbers_at context n [] = []
 numbers_at context n (e ∷ es) = if context_of e.origin == context then n ∷ numbers_at context (n + 1) es else numbers_at context (n + 1) es
-
