@@ -1,5 +1,5 @@
 -- The keys of a row at a composite aggregation: one for each combination of its values, with a part for each source.
-use Rattle.std.specs.Prelude.{◌≡◌, refl, ℕ, suc, ◌+◌, ◌*◌, ◌==◌, Bool, true, false, ◌&&◌, T, List, [], ◌∷◌, ◌++◌, map, flat_map, length, Option, None, Some}
+use Rattle.std.specs.Prelude.{◌≡◌, refl, ℕ, suc, ◌+◌, ◌*◌, ◌==◌, Bool, true, false, T, List, [], ◌∷◌, ◌++◌, map, flat_map, length, Option, None, Some}
 use Rattle.std.specs.List.{list_all}
 use Rattle.std.specs.Option.{option_map_or}
 use Rattle.std.specs.Cmp.{tied_itself}
@@ -11,7 +11,7 @@ use Rattle.std.proofs.Common.{sym, ◌∙◌, ap, subst, arith, length-append}
 use Rattle.agg_model.specs.declared.aggregation.CompositeSource.{CompositeSource}
 use Rattle.agg_model.specs.declared.key.Key.{Key, out-Key, out-roll-Key}
 use Rattle.agg_model.specs.declared.key.Key.TheOpen.{Key-F}
-use Rattle.agg_model.specs.declared.key.Key.TheVariants.{Many, Null}
+use Rattle.agg_model.specs.declared.key.Key.TheVariants.{Many}
 use Rattle.agg_evaluation.specs.Ceiling.{combination_count}
 use Rattle.agg_evaluation.specs.KeyOrder.{key_cmp, key_cmp_at}
 use Rattle.agg_model.specs.ValueKeys.{scalar_key}
@@ -24,7 +24,7 @@ use Rattle.agg_evaluation.proofs.KeyCompare.{key_cmp_total}
 use Rattle.agg_evaluation.proofs.KeyLists.{is_below, ascending-distinct_keys, ascending-filter, distinct_keys-ascending}
 use Rattle.list_laws.proofs.Booleans.{and_left, and_right, both}
 use Rattle.list_laws.proofs.Orders.{less_is}
-use Rattle.list_laws.proofs.Lists.{map-append, map-map}
+use Rattle.list_laws.proofs.Lists.{map-append}
 use Rattle.bucket_order.specs.Composites.{has_parts, is_composite_of}
 use Rattle.evaluation_laws.proofs.KeyBounds.{Each, each-flat_map, each-map, each-all, each-then}
 

@@ -1,5 +1,5 @@
 -- The order of a composite aggregation's keys, made exact, and its page in that order.
-use Rattle.std.specs.Prelude.{◌≡◌, refl, ℕ, Bool, true, false, T, List, [], ◌∷◌, length, Option, Some, None, take, filter}
+use Rattle.std.specs.Prelude.{◌≡◌, refl, ℕ, Bool, true, false, T, List, [], ◌∷◌, length, Option, take, filter}
 use Rattle.std.specs.Option.{option_map_or}
 use Rattle.std.specs.declared.cmp.Ordering.{Ordering}
 use Rattle.std.specs.declared.cmp.Ordering.TheVariants.{Less, Equal, Greater}
@@ -13,17 +13,16 @@ use Rattle.agg_model.specs.declared.key.Key.{Key, out-Key, roll-Key, roll-out-Ke
 use Rattle.agg_model.specs.declared.key.Key.TheOpen.{Key-F}
 use Rattle.agg_model.specs.declared.key.Key.TheVariants.{Many}
 use Rattle.agg_evaluation.specs.KeyOrder.{directed, key_cmp}
-use Rattle.agg_evaluation.specs.Keys.{distinct_keys}
 use Rattle.agg_evaluation.specs.Orders.{composite_cmp}
 use Rattle.agg_evaluation.specs.Shard.{page}
-use Rattle.list_laws.specs.Sorting.{ascending, sorted}
+use Rattle.list_laws.specs.Sorting.{sorted}
 use Rattle.agg_evaluation.proofs.Computing.{computing}
 use Rattle.agg_evaluation.proofs.KeyCompare.{key_cmp_total}
 use Rattle.agg_evaluation.proofs.KeyExact.{exact_keys}
 use Rattle.bucket_order.specs.Composites.{any_parts_cmp, has_parts, is_composite_of, key_parts}
 use Rattle.bucket_order.proofs.CompositeLaws.{any_parts_total, same_composites}
-use Rattle.growth_laws.proofs.Pages.{Ascends, Has}
-use Rattle.growth_laws.proofs.Ordered.{Distinct, ascends-front, distinct-up, front, sorted-agree, sorted-distinct}
+use Rattle.growth_laws.proofs.Pages.{Has}
+use Rattle.growth_laws.proofs.Ordered.{Distinct, front, sorted-agree, sorted-distinct}
 
 -- part by part, and then as keys
 abbrev pub exact_cmp : List CompositeSource → Key → Key → Ordering

@@ -1,7 +1,7 @@
 -- Rows of different documents enclose nothing of each other.
-use Rattle.std.specs.Prelude.{◌≡◌, refl, ◌⊎◌, ℕ, Bool, true, false, cond, ◌&&◌, ◌||◌, ◌==◌, ◌++◌, T, List, [], ◌∷◌, filter, flat_map, nat_eq, nat_le, nat_lt}
+use Rattle.std.specs.Prelude.{◌≡◌, refl, ℕ, Bool, true, false, cond, ◌&&◌, ◌||◌, ◌==◌, ◌++◌, T, List, [], ◌∷◌, filter, flat_map, nat_eq, nat_le, nat_lt}
 use Rattle.std.specs.List.{list_all, list_any, starts_with}
-use Rattle.std.proofs.Common.{sym, ◌∙◌, ap, subst, arith, inl, inr, ⊎_elim}
+use Rattle.std.proofs.Common.{sym, subst, arith, ⊎_elim}
 use Rattle.std.proofs.lemmas.Bool.{cases_Bool}
 use Rattle.agg_evaluation.specs.Rows.{PlacedRow, beneath, enclosing, is_within}
 use Rattle.list_laws.proofs.Lists.{filter-append}

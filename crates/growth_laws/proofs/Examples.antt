@@ -2,15 +2,14 @@
 use Rattle.std.specs.Prelude.{◌≡◌, refl, ℕ, pos, negsuc, true, false, List, [], ◌∷◌, None, codes}
 use Rattle.agg_model.specs.declared.aggregation.Agg.{Agg}
 use Rattle.agg_model.specs.declared.aggregation.Kind.TheVariants as kind
-use Rattle.agg_model.specs.declared.aggregation.Search.{Search}
 use Rattle.agg_model.specs.declared.key.Key.TheVariants as key
 use Rattle.agg_model.specs.declared.partial.Node.{Node}
 use Rattle.agg_model.specs.declared.partial.Node.TheVariants.{Fixed}
 use Rattle.agg_model.specs.declared.query.Query.TheVariants as query
-use Rattle.agg_evaluation.specs.Rows.{PlacedRow, roots, shard_rows}
+use Rattle.agg_evaluation.specs.Rows.{PlacedRow, shard_rows}
 use Rattle.agg_evaluation.specs.Trace.{trace}
 use Rattle.agg_evaluation.proofs.Computing.{computing}
-use Rattle.evaluation_laws.proofs.Samples.{agg, bucket, by_count, document, flat, keyed, nested, row, search_of, source, terms, words}
+use Rattle.evaluation_laws.proofs.Samples.{agg, bucket, document, flat, keyed, nested, row, search_of, source, terms, words}
 use Rattle.growth_laws.specs.Amounts.{amounts, granted_before, place_without_zeros}
 use Rattle.growth_laws.specs.Gathering.{gathered}
 use Rattle.growth_laws.specs.Steps.{tree_after}

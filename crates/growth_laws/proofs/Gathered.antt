@@ -1,6 +1,6 @@
 -- The tree of some rows and more, which lie in later documents, is the tree of these rows gathered with the others: for every
 -- kind of aggregation.
-use Rattle.std.specs.Prelude.{◌≡◌, refl, ◌⊎◌, ℕ, Bool, true, false, not, ◌&&◌, ◌||◌, ◌++◌, T, List, [], ◌∷◌, flat_map, map, Option}
+use Rattle.std.specs.Prelude.{◌≡◌, refl, ℕ, Bool, true, false, not, ◌||◌, ◌++◌, T, List, [], ◌∷◌, flat_map, map, Option}
 use Rattle.std.specs.List.{list_all}
 use Rattle.std.proofs.Common.{sym, ◌∙◌, ap, subst, append_assoc}
 use Rattle.agg_model.specs.declared.aggregation.Agg.{Agg, Agg', Row_of-Agg, end_of-Agg, more_of-Agg, out-Agg}
@@ -10,7 +10,7 @@ use Rattle.agg_model.specs.declared.key.Key.{Key}
 use Rattle.agg_model.specs.declared.key.Key.TheVariants as key
 use Rattle.agg_model.specs.declared.partial.Bucket.{Bucket}
 use Rattle.agg_model.specs.declared.partial.Metric.{Metric}
-use Rattle.agg_model.specs.declared.partial.Node.{Node, out-Node}
+use Rattle.agg_model.specs.declared.partial.Node.{out-Node}
 use Rattle.agg_model.specs.declared.partial.Node.TheVariants.{Keyed, Fixed, Number}
 use Rattle.agg_model.specs.declared.row.Scalar.{Scalar}
 use Rattle.agg_evaluation.specs.Folds.{fold_aggs}
@@ -31,13 +31,13 @@ use Rattle.agg_evaluation.proofs.UnionLaws.{ascending-fixed_keys, has_key-append
 use Rattle.list_laws.proofs.Booleans.{and_left, and_right}
 use Rattle.list_laws.proofs.Lists.{append-nil, flat_map-append}
 use Rattle.growth_laws.specs.Documents.{IsCutAt, lie_before, lie_behind, lies_before, lies_behind}
-use Rattle.growth_laws.specs.Gathering.{Gatherer, counted, gathered, gathered_buckets, gathered_metric, gathered_node, gatherer_at, gatherer_of, kept_buckets}
+use Rattle.growth_laws.specs.Gathering.{Gatherer, counted, gathered, gathered_metric, gathered_node, gatherer_at, gatherer_of, kept_buckets}
 use Rattle.growth_laws.specs.Growth.{metric_with, with_count, with_values}
 use Rattle.growth_laws.proofs.DocumentRows.{all-filter, beneath-before, beneath-behind, enclosing-apart, enclosing-before, enclosing-behind}
 use Rattle.agg_evaluation.proofs.Computing.{computing}
 use Rattle.growth_laws.proofs.Built.{collectors-same, node-same}
 use Rattle.growth_laws.proofs.FilterKeys.{filters-among}
-use Rattle.growth_laws.proofs.Gathering.{Gathers, bucket_at, group-more, keys-more, no_rows, put-groups, with_all}
+use Rattle.growth_laws.proofs.Gathering.{Gathers, bucket_at, group-more, keys-more, no_rows, put-groups}
 use Rattle.growth_laws.proofs.InsertedKeys.{ascending-insert_all, has_key-insert_all, insert_all, or_true}
 use Rattle.growth_laws.proofs.Metrics.{count-append, metric-append}
 use Rattle.growth_laws.proofs.PageBuckets.{put-page-groups}

@@ -1,5 +1,5 @@
 -- More rows, group by group, make of the buckets of some rows those of these rows and more.
-use Rattle.std.specs.Prelude.{◌≡◌, refl, ◌+◌, Bool, true, false, cond, ◌||◌, ◌++◌, T, List, [], ◌∷◌, flat_map, length, map}
+use Rattle.std.specs.Prelude.{◌≡◌, refl, Bool, true, false, cond, ◌||◌, ◌++◌, T, List, [], ◌∷◌, flat_map, length, map}
 use Rattle.std.specs.declared.cmp.Ordering.TheVariants.{Less, Equal, Greater}
 use Rattle.std.specs.Ordering.{is_eq, is_lt, match_ordering}
 use Rattle.std.proofs.Common.{sym, ◌∙◌, ap, subst, length-append}
@@ -9,12 +9,13 @@ use Rattle.agg_model.specs.declared.key.Key.{Key}
 use Rattle.agg_model.specs.declared.partial.Bucket.{Bucket}
 use Rattle.agg_evaluation.specs.Groups.{all_keys, group}
 use Rattle.agg_evaluation.specs.KeyOrder.{has_key, key_cmp, key_eq}
-use Rattle.agg_evaluation.specs.Keys.{keys}
+use Rattle.agg_evaluation.specs.Keys.{distinct_keys, keys}
 use Rattle.agg_evaluation.specs.Rows.{PlacedRow}
 use Rattle.agg_evaluation.specs.Shard.{Collector}
 use Rattle.agg_evaluation.specs.Trees.{is_ascending}
 use Rattle.agg_evaluation.proofs.KeyExact.{exact_keys}
-use Rattle.agg_evaluation.proofs.KeyLists.{ascending-distinct_keys, ascending-insert_once, below-absent, below-trans, has_key-distinct_keys, has_key-insert_once, is_below, key_eq-exact, key_eq-self, same_keys}
+use Rattle.agg_evaluation.proofs.DistinctKeys.{ascending-keys}
+use Rattle.agg_evaluation.proofs.KeyLists.{distinct_keys-ascending, ascending-distinct_keys, ascending-insert_once, below-absent, below-trans, has_key-distinct_keys, has_key-insert_once, is_below, key_eq-exact, key_eq-self, same_keys}
 use Rattle.agg_evaluation.proofs.UnionLaws.{has_key-append}
 use Rattle.list_laws.specs.Sorting.{insert_once}
 use Rattle.list_laws.proofs.Booleans.{and_left, and_right, both, holds}
@@ -173,3 +174,12 @@ module _ (all : List PlacedRow) (k : Kind) (rows more : List PlacedRow) where
         | true ↦ λ e. sym (group-append q)
         | false ↦ λ e. sym (group-append q ∙ ap (λ rs. group all k rows q ++ rs) (no_rows more q e) ∙ append-nil (group all k rows q))
       ] refl
+
+module _ (all : List PlacedRow) (k : Kind) (row : PlacedRow) where
+  -- the keys of one row are its own
+  pub keys-one : all_keys all k (row ∷ []) ≡ keys all k row
+  keys-one = ap distinct_keys (append-nil (keys all k row)) ∙ distinct_keys-ascending (keys all k row) (ascending-keys all k row)
+
+  -- and the row is all that has them
+  pub group-one : (q : Key) → has_key q (keys all k row) ≡ true → group all k (row ∷ []) q ≡ row ∷ []
+  group-one q e = ap (λ b. cond b (row ∷ []) []) e

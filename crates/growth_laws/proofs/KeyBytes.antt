@@ -1,7 +1,7 @@
 -- The bytes of a field's keys: those of its longest word, or 8.
 use Rattle.std.specs.Prelude.{◌≡◌, refl, ℕ, ◌≤◌, max, true, false, nat_lt, if◌then◌else◌, ◌++◌, T, List, [], ◌∷◌, flat_map, length, map, Option, Some, option_to_list, slice_get}
 use Rattle.std.specs.List.{list_all}
-use Rattle.std.proofs.Common.{sym, ◌∙◌, ap, arith}
+use Rattle.std.proofs.Common.{◌∙◌, ap, arith}
 use Rattle.agg_model.specs.declared.mapping.FieldKind.{FieldKind}
 use Rattle.agg_model.specs.declared.mapping.FieldKind.TheVariants.{Keyword}
 use Rattle.agg_model.specs.declared.row.Scalar.{Scalar}
@@ -10,7 +10,6 @@ use Rattle.agg_evaluation.specs.Ceiling.{field_bytes, greatest_of, least_bytes}
 use Rattle.agg_evaluation.specs.Cost.{key_bytes}
 use Rattle.agg_model.specs.ValueKeys.{scalar_key}
 use Rattle.agg_evaluation.specs.Rows.{PlacedRow, values_of}
-use Rattle.list_laws.proofs.Booleans.{and_left, and_right}
 use Rattle.list_laws.proofs.Lists.{map-append, map-map}
 use Rattle.growth_laws.specs.FieldBytes.{is_number_or_flag}
 

@@ -1,18 +1,15 @@
 -- The buckets of a composite aggregation's page, with more rows group by group.
 use Rattle.std.specs.Prelude.{◌≡◌, refl, ℕ, Bool, true, false, cond, ◌||◌, ◌++◌, T, List, [], ◌∷◌, filter, length, map, Option}
-use Rattle.std.specs.List.{list_all}
-use Rattle.std.proofs.Common.{sym, ◌∙◌, ap, subst, ⊎_elim}
+use Rattle.std.proofs.Common.{sym, ◌∙◌, ap, ⊎_elim}
 use Rattle.std.proofs.lemmas.Bool.{cases_Bool, true≢false}
 use Rattle.agg_model.specs.declared.aggregation.CompositeSource.{CompositeSource}
 use Rattle.agg_model.specs.declared.aggregation.Kind.TheVariants as kind
 use Rattle.agg_model.specs.declared.key.Key.{Key}
 use Rattle.agg_model.specs.declared.partial.Bucket.{Bucket}
-use Rattle.agg_evaluation.specs.Groups.{all_keys, group}
 use Rattle.agg_evaluation.specs.KeyOrder.{has_key, key_cmp, key_eq}
 use Rattle.agg_evaluation.specs.Orders.{bucket_key}
 use Rattle.agg_evaluation.specs.Rows.{PlacedRow}
 use Rattle.agg_evaluation.specs.Shard.{Collector, page}
-use Rattle.agg_evaluation.specs.Trees.{is_ascending}
 use Rattle.agg_evaluation.proofs.KeyCompare.{key_cmp_total}
 use Rattle.agg_evaluation.proofs.KeyExact.{exact_keys}
 use Rattle.agg_evaluation.proofs.KeyLists.{ascending-filter, has_key-insert_once, key_eq-self, same_keys}
@@ -21,10 +18,10 @@ use Rattle.list_laws.proofs.Booleans.{and_left, and_right}
 use Rattle.list_laws.proofs.Lists.{filter-map}
 use Rattle.bucket_order.specs.Composites.{is_composite_of}
 use Rattle.growth_laws.specs.Gathering.{Gatherer, kept_buckets, put_groups, put_rows}
-use Rattle.growth_laws.proofs.Gathering.{Gathers, bucket_at, group-more, keys-more, later-first, later-none, one_by_one, put-rows, with_all, with_one}
+use Rattle.growth_laws.proofs.Gathering.{Gathers, bucket_at, later-first, later-none, one_by_one, put-rows, with_all, with_one}
 use Rattle.growth_laws.proofs.InsertedKeys.{insert_all, or_true}
 use Rattle.growth_laws.proofs.Ordered.{filter-has, has-filter}
-use Rattle.growth_laws.proofs.PageKeys.{AreKeys, all-keys, found-has, has-found, insert-keys, page-among, page-fewer, page-insert, page-keys}
+use Rattle.growth_laws.proofs.PageKeys.{AreKeys, found-has, has-found, insert-keys, page-among, page-fewer, page-insert, page-keys}
 
 -- two tests of which each implies the other
 same_test : (a b : Bool) → (a ≡ true → b ≡ true) → (b ≡ true → a ≡ true) → a ≡ b

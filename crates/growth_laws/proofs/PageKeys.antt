@@ -1,6 +1,6 @@
 -- The page of a composite aggregation as keys come: what is outside stays outside, and one more key.
 use Rattle.growth_laws.proofs.InsertedKeys.{or_true}
-use Rattle.std.specs.Prelude.{◌≡◌, refl, ◌⊎◌, ℕ, Bool, true, false, ◌&&◌, ◌||◌, T, List, [], ◌∷◌, ◌++◌, flat_map, length, Option}
+use Rattle.std.specs.Prelude.{◌≡◌, ◌⊎◌, ℕ, Bool, true, false, ◌||◌, T, List, [], ◌∷◌, ◌++◌, flat_map, length, Option}
 use Rattle.std.specs.List.{list_all}
 use Rattle.std.specs.declared.cmp.Ordering.{Ordering}
 use Rattle.std.specs.declared.cmp.Ordering.TheVariants.{Equal}
@@ -15,11 +15,11 @@ use Rattle.agg_evaluation.specs.KeyOrder.{has_key, key_cmp, key_eq}
 use Rattle.agg_evaluation.specs.Keys.{distinct_keys, keys}
 use Rattle.agg_evaluation.specs.Rows.{PlacedRow}
 use Rattle.agg_evaluation.specs.Shard.{page}
-use Rattle.list_laws.specs.Sorting.{insert_once, sorted}
+use Rattle.list_laws.specs.Sorting.{insert_once}
 use Rattle.agg_evaluation.specs.Trees.{is_ascending}
 use Rattle.agg_evaluation.proofs.KeyCompare.{key_cmp_total}
 use Rattle.agg_evaluation.proofs.KeyExact.{exact_keys}
-use Rattle.agg_evaluation.proofs.KeyLists.{key_eq-exact, key_eq-self, below-absent, ascending-distinct_keys, ascending-insert_once, has_key-distinct_keys, same_keys}
+use Rattle.agg_evaluation.proofs.KeyLists.{key_eq-exact, key_eq-self, below-absent, ascending-distinct_keys, ascending-insert_once, has_key-distinct_keys}
 use Rattle.list_laws.proofs.Booleans.{and_left, and_right, both, holds, true_is}
 use Rattle.list_laws.proofs.Lists.{flat_map-append}
 use Rattle.agg_evaluation.proofs.UnionLaws.{has_key-append}

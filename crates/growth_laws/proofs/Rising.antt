@@ -1,14 +1,14 @@
 -- The roots of a shard rise: each lies in a later document than those before it.
-use Rattle.std.specs.Prelude.{◌≡◌, refl, ℕ, zero, suc, ◌+◌, ◌<◌, ◌≤◌, ◌==◌, Bool, true, false, cond, not, ◌++◌, T, List, [], ◌∷◌, filter, flat_map, nat_le, take, slice_get, None, Some}
+use Rattle.std.specs.Prelude.{◌≡◌, refl, ℕ, zero, suc, ◌+◌, ◌≤◌, ◌==◌, Bool, true, false, cond, not, ◌++◌, T, List, [], ◌∷◌, filter, flat_map, nat_le, take, slice_get, Some}
 use Rattle.std.specs.List.{enumerate_from, list_all}
 use Rattle.std.proofs.Common.{sym, ◌∙◌, ap, subst, arith}
 use Rattle.agg_model.specs.declared.row.Row.{Row, Row'}
 use Rattle.agg_evaluation.specs.Folds.{fold_all_children}
-use Rattle.agg_evaluation.specs.Rows.{PlacedRow, roots, rows_of, shard_rows, walk_children, walk_row}
+use Rattle.agg_evaluation.specs.Rows.{PlacedRow, roots, shard_rows, walk_children, walk_row}
 use Rattle.list_laws.proofs.Booleans.{and_left, and_right, both}
 use Rattle.list_laws.proofs.Lists.{filter-append}
 use Rattle.list_laws.proofs.Options.{none_some, some_same}
-use Rattle.growth_laws.specs.Documents.{lie_before, lie_behind, lies_before, lies_behind, starts_below, starts_from}
+use Rattle.growth_laws.specs.Documents.{lie_before, lie_behind, lies_behind, starts_below, starts_from}
 use Rattle.growth_laws.proofs.DocumentRows.{all-filter}
 use Rattle.growth_laws.proofs.ShardRows.{all-children-at, at_most_holds, behind-from, document_rows, less_holds}
 

@@ -1,14 +1,12 @@
 -- One more root makes of the trees of a task what the definition says.
-use Rattle.std.specs.Prelude.{◌≡◌, refl, ℕ, zero, suc, ◌+◌, ◌-◌, ◌<◌, ◌≤◌, Bool, true, false, cond, not, ◌&&◌, ◌||◌, ◌++◌, T, List, [], ◌∷◌, if◌then◌else◌, length, take, slice_get, None, Some}
-use Rattle.std.specs.List.{list_all, list_any}
+use Rattle.std.specs.Prelude.{◌≡◌, refl, ℕ, zero, suc, ◌+◌, ◌-◌, ◌<◌, true, false, not, ◌++◌, T, List, [], ◌∷◌, if◌then◌else◌, length, take, slice_get, Some}
+use Rattle.std.specs.List.{list_any}
 use Rattle.std.proofs.Common.{sym, ◌∙◌, ap, subst, add-one, arith}
 use Rattle.std.proofs.lemmas.List.{take_all}
 use Rattle.agg_model.specs.declared.aggregation.Agg.{Agg, Agg', out-Agg}
-use Rattle.agg_model.specs.declared.aggregation.Kind.{Kind}
 use Rattle.agg_model.specs.declared.aggregation.Kind.TheVariants as kind
 use Rattle.agg_model.specs.declared.aggregation.Search.{Search}
 use Rattle.agg_model.specs.declared.row.Row.{Row}
-use Rattle.agg_evaluation.specs.Groups.{under}
 use Rattle.agg_evaluation.specs.Matching.{matches}
 use Rattle.agg_evaluation.specs.Placement.{is_placed}
 use Rattle.agg_evaluation.specs.Rows.{PlacedRow, roots, shard_rows}

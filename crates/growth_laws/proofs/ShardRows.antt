@@ -1,7 +1,7 @@
 -- The rows of a shard's documents come document by document.
-use Rattle.std.specs.Prelude.{◌≡◌, refl, ℕ, suc, zero, ◌+◌, ◌<◌, ◌≤◌, ◌==◌, Bool, ◌++◌, T, List, [], ◌∷◌, filter, flat_map, nat_le, nat_lt, take, slice_get, Some, None}
+use Rattle.std.specs.Prelude.{refl, ℕ, ◌+◌, ◌<◌, ◌≤◌, Bool, ◌++◌, T, List, [], ◌∷◌, flat_map, nat_le, nat_lt}
 use Rattle.std.specs.List.{enumerate_from, list_all}
-use Rattle.std.proofs.Common.{sym, ◌∙◌, ap, subst, append_assoc, arith, ⊎_elim}
+use Rattle.std.proofs.Common.{sym, ◌∙◌, ap, append_assoc, arith, ⊎_elim}
 use Rattle.std.proofs.lemmas.Bool.{cases_lt}
 use Rattle.agg_model.specs.declared.row.Children.{Children, Children', Row_of-Row, end_of-Row, more_of-Row}
 use Rattle.agg_model.specs.declared.row.FieldValues.{FieldValues}
@@ -9,7 +9,7 @@ use Rattle.agg_model.specs.declared.row.Row.{Row, Row', Row_of-Children, end_of-
 use Rattle.agg_evaluation.specs.Folds.{fold_all_children, fold_children, fold_rows}
 use Rattle.agg_evaluation.specs.Rows.{PlacedRow, rows_of, shard_rows, walk_children, walk_row}
 use Rattle.list_laws.proofs.Booleans.{both, holds}
-use Rattle.growth_laws.specs.Documents.{IsCutAt, lie_before, lie_behind, lies_before, lies_behind}
+use Rattle.growth_laws.specs.Documents.{IsCutAt, lie_behind, lies_before, lies_behind}
 use Rattle.growth_laws.proofs.DocumentRows.{all-append}
 
 -- what holds of each nested row that lies in a document

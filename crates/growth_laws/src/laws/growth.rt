@@ -3,7 +3,10 @@ ghost use Rattle.std.specs.Prelude.{◌≡◌, ◌+◌, length, List, [], ◌∷
 ghost use Rattle.std.specs.List.{list_all, list_any};
 ghost use Rattle.std.proofs.Math.ListN.{set};
 ghost use Rattle.agg_model.specs.declared.aggregation.Agg.{Agg, out-Agg};
+ghost use Rattle.agg_model.specs.declared.aggregation.Kind.{Kind};
 ghost use Rattle.agg_model.specs.declared.aggregation.Search.{Search};
+ghost use Rattle.agg_evaluation.specs.Groups.{all_keys, group};
+ghost use Rattle.agg_evaluation.specs.Keys.{keys};
 ghost use Rattle.agg_model.specs.declared.key.Key.{Key};
 ghost use Rattle.agg_model.specs.declared.partial.Bucket.{Bucket};
 ghost use Rattle.agg_model.specs.declared.row.Row.{Row};
@@ -85,6 +88,14 @@ pub fn later_documents_are_gathered()
         (globals more rows : List PlacedRow) → IsTrue (lie_before n globals) →
         IsTrue (lie_behind n more) → collected_node false all (globals ++ more) a rows
         ≡ counted all a more (collected_node false all globals a rows) }
+{}
+
+/// One row that is gathered is put at each of its own keys.
+pub fn one_row_is_gathered_at_its_keys()
+    ensures keys { (all : List PlacedRow) (k : Kind) (row : PlacedRow) →
+        all_keys all k (row ∷ []) ≡ keys all k row }
+    ensures rows { (all : List PlacedRow) (k : Kind) (row : PlacedRow) (q : Key) →
+        has_key q (keys all k row) ≡ true → group all k (row ∷ []) q ≡ row ∷ [] }
 {}
 
 /// The trees of a task grow root by root: each matched root is gathered by the aggregations that

@@ -1,4 +1,3 @@
-use Rattle.agg_evaluation.specs.Trace.{trace}
 use Rattle.growth_laws.specs.Amounts.{amounts}
 use Rattle.growth_laws.proofs.Places.{refused-gross, refused-peak, refused-place}
 use Rattle.growth_laws.proofs.laws.charges.refusals_stand_in_the_trace.Goals as goal
