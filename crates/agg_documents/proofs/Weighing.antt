@@ -5,7 +5,8 @@ use Rattle.std.proofs.lemmas.List.Sums.{sum_by-cons}
 use Rattle.agg_model.specs.declared.row.FieldValues.{FieldValues}
 use Rattle.agg_model.specs.declared.row.Row.{Row, Row', roll-Row, out-Row, roll-out-Row}
 use Rattle.agg_model.specs.declared.row.Children.{Children, Children', roll-Children, out-Children, roll-out-Children}
-use Rattle.agg_reading.specs.Store.{field_weight, row_weight, children_weight, all_children_weight}
+use Rattle.agg_reading.specs.Store.{row_weight, children_weight, all_children_weight}
+use Rattle.agg_model.specs.Weight.{field_weight}
 
 -- what a row weighs without its own place and values
 abbrev below : Row → ℕ

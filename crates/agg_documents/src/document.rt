@@ -5,6 +5,7 @@ ghost use Rattle.agg_mapping.specs.Paths.{IsOrdered};
 ghost use Rattle.agg_reading.specs.Document.{document_at};
 ghost use Rattle.document_rows.specs.Faults.{Gives};
 
+use agg_mapping::OrderedMapping;
 use agg_model::{Copying, Document, Mapping, Text};
 use document_rows::{ItemFault, root_row_of};
 use std::alloc::Global;
@@ -27,7 +28,7 @@ pub fn document_of(
     ensures id { IfOk result (λ document. document.id ≡ id.now) }
     ensures routing { IfOk result (λ document. document.routing ≡ routing.now) }
 {
-    let root = root_row_of(alloc, mapping, source)?;
+    let root = root_row_of(alloc, &OrderedMapping::of(mapping), source)?;
     Ok(Document {
         id: id.copy(alloc)?,
         routing: routing.copy(alloc)?,

@@ -13,6 +13,7 @@ ghost use Rattle.agg_documents.specs.Slots.{id_of, document_in};
 use crate::shards::{deal, empty_lists};
 use crate::slot::Slot;
 use crate::weight::weight_of;
+use agg_mapping::OrderedMapping;
 use agg_model::{Action, ActionKind, Applied, Document, ItemRefusal, List, Mapping, Row, Text};
 use document_rows::{ItemFault, root_row_of};
 use indexmap::IndexSet;
@@ -214,7 +215,8 @@ impl Store {
             ActionKind::Delete => Ok(self.delete(action.id)?),
             ActionKind::Index | ActionKind::Create => {
                 let alloc = *self.slots.allocator();
-                let root = root_row_of(alloc, mapping, action.source.as_slice())?;
+                let mapping = OrderedMapping::of(mapping);
+                let root = root_row_of(alloc, &mapping, action.source.as_slice())?;
                 self.put(action, root)
             }
         }

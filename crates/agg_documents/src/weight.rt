@@ -3,7 +3,8 @@
 //! A weight of 2^64 - 1 or more is counted as 2^64 - 1, so that no sum leaves its type.
 
 ghost use Rattle.std.specs.Prelude.{◌≡◌, min, sum_by};
-ghost use Rattle.agg_reading.specs.Store.{scalar_weight, field_weight, row_weight, children_weight, weight};
+ghost use Rattle.agg_reading.specs.Store.{row_weight, children_weight, weight};
+ghost use Rattle.agg_model.specs.Weight.{scalar_weight, field_weight};
 
 use agg_model::{Children, Document, FieldValues, List, Row, Scalar};
 

@@ -12,7 +12,7 @@ use Rattle.agg_model.specs.declared.aggregation.Kind.{Kind}
 use Rattle.agg_model.specs.declared.aggregation.Kind.TheVariants as kind
 use Rattle.agg_model.specs.declared.aggregation.Order.{Order}
 use Rattle.agg_evaluation.specs.KeyOrder.{key_cmp}
-use Rattle.agg_evaluation.specs.Sorting.{sorted}
+use Rattle.list_laws.specs.Sorting.{sorted}
 use Rattle.agg_evaluation.specs.Rows.{PlacedRow}
 use Rattle.agg_evaluation.specs.Keys.{keys}
 use Rattle.agg_evaluation.specs.Groups.{group, all_keys, total_key_count}
@@ -21,9 +21,9 @@ use Rattle.agg_evaluation.specs.Orders.{bucket_key, bucket_count, bucket_cmp}
 use Rattle.agg_evaluation.specs.Shard.{Collector, with_covered, bucket_of, trimmed_node, node_of, is_terms}
 use Rattle.agg_evaluation.specs.Whole.{parts, parts_at}
 use Rattle.agg_evaluation.proofs.CounterLaws.{counters-groups}
-use Rattle.agg_evaluation.proofs.ListLaws.{sum_by-map}
+use Rattle.list_laws.proofs.Lists.{sum_by-map}
 use Rattle.agg_evaluation.proofs.NodeForms.{out-Keyed}
-use Rattle.agg_evaluation.proofs.SumLaws.{sum_by-sorted, sum_by-take}
+use Rattle.list_laws.proofs.Sums.{sum_by-sorted, sum_by-take}
 
 total : List (Key × ℕ) → ℕ
 total cs = sum_by (λ c. c.1) cs

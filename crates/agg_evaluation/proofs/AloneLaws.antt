@@ -22,10 +22,12 @@ use Rattle.agg_evaluation.specs.Trees.{is_ascending, are_same_keys, pass_each, h
 use Rattle.agg_evaluation.specs.Whole.{Parts, parts, parts_at, children_at, whole_bucket, whole_by, whole_node, empty_by, empty_node, shape_of, Shape, by_key, from_start, a_number, metric_sum}
 use Rattle.agg_evaluation.proofs.KeyExact.{exact_keys}
 use Rattle.agg_evaluation.proofs.KeyCompare.{key_cmp_total}
-use Rattle.agg_evaluation.proofs.KeyLists.{and_left, and_right, both, less_is, equal_is, key_eq-self, is_below, ascending-distinct_keys, distinct_keys-ascending}
-use Rattle.agg_evaluation.proofs.ListLaws.{append-nil, map-map}
+use Rattle.agg_evaluation.proofs.KeyLists.{key_eq-self, is_below, ascending-distinct_keys, distinct_keys-ascending}
+use Rattle.list_laws.proofs.Booleans.{and_left, and_right, both}
+use Rattle.list_laws.proofs.Orders.{less_is, equal_is}
+use Rattle.list_laws.proofs.Lists.{append-nil, map-map}
 use Rattle.agg_evaluation.proofs.NodeForms.{out-Keyed, out-Fixed, out-Number, made-Keyed, made-Fixed, made-Number}
-use Rattle.agg_evaluation.proofs.SortedLists.{all-map}
+use Rattle.list_laws.proofs.Occurrences.{all-map}
 use Rattle.agg_evaluation.proofs.TreeLaws.{same-self}
 use Rattle.agg_evaluation.proofs.UnionLaws.{keys-whole, ascending-fixed_keys}
 use Rattle.agg_evaluation.proofs.WholeLaws.{Union, tree_buckets, with_key}

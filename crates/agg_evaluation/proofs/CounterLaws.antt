@@ -1,20 +1,23 @@
 -- Counters that are raised key by key come to the sizes of the groups.
-use Rattle.std.specs.Prelude.{◌≡◌, refl, ℕ, zero, suc, ◌+◌, true, false, cond, ◌||◌, T, List, [], ◌∷◌, ◌++◌, map, flat_map, filter, length, Option, Some, None}
+use Rattle.std.specs.Prelude.{◌≡◌, refl, ℕ, zero, suc, ◌+◌, true, false, cond, ◌||◌, T, List, [], ◌∷◌, ◌++◌, map, flat_map, filter, length, Option, Some, None, sum_by}
 use Rattle.std.specs.declared.cmp.Ordering.TheVariants.{Less, Equal, Greater}
 use Rattle.std.specs.Ordering.{is_eq, is_lt, match_ordering}
 use Rattle.std.specs.FinMap.Entries.{find, put, by_order, is_sorted, is_sorted-put, find-put, find_tied, below_all, same_entries}
 use Rattle.std.proofs.Common.{sym, ◌∙◌, ap, subst, arith, zero-add}
+use Rattle.std.proofs.lemmas.List.Sums.{sum_by-cons}
 use Rattle.agg_model.specs.declared.key.Key.{Key}
 use Rattle.agg_model.specs.declared.aggregation.Kind.{Kind}
 use Rattle.agg_evaluation.specs.KeyOrder.{key_cmp, key_eq, has_key}
-use Rattle.agg_evaluation.specs.Sorting.{insert_once}
+use Rattle.list_laws.specs.Sorting.{insert_once}
 use Rattle.agg_evaluation.specs.Rows.{PlacedRow}
 use Rattle.agg_evaluation.specs.Keys.{keys, distinct_keys}
 use Rattle.agg_evaluation.specs.Groups.{group, all_keys}
 use Rattle.agg_evaluation.specs.Counters.{raised, raised_by}
 use Rattle.agg_evaluation.proofs.KeyCompare.{key_cmp_total}
 use Rattle.agg_evaluation.proofs.KeyExact.{exact_keys}
-use Rattle.agg_evaluation.proofs.KeyLists.{and_left, and_right, both, less_is, filter-ascending}
+use Rattle.agg_evaluation.proofs.KeyLists.{filter-ascending}
+use Rattle.list_laws.proofs.Booleans.{and_left, and_right, both}
+use Rattle.list_laws.proofs.Orders.{less_is}
 use Rattle.agg_evaluation.proofs.DistinctKeys.{ascending-keys}
 
 -- how often a key stands in a list
@@ -151,3 +154,22 @@ module _ (all : List PlacedRow) (kind : Kind) where
   -- raising a counter for each key of each row counts the groups
   pub counters-groups : (rows : List PlacedRow) → raised_by (flat_map (keys all kind) rows) [] ≡ map (λ k. (k, length (group all kind rows k))) (all_keys all kind rows)
   counters-groups rows = raised-numbered (flat_map (keys all kind) rows) ∙ ap (λ (g : Key → ℕ). map (λ k. (k, g k)) (all_keys all kind rows)) (λ i q. times-group q rows i)
+
+-- what a counter has come to
+abbrev number : Key × ℕ → ℕ
+number c = c.1
+
+-- a key adds one to all counters together
+raised-sum : (k : Key) (cs : List (Key × ℕ)) → sum_by number (raised k cs) ≡ 1 + sum_by number cs
+raised-sum k [] = refl
+raised-sum k (c ∷ cs) =
+    elim (key_cmp k c.0) as (λ r. sum_by number (match_ordering r ((k, 1) ∷ c ∷ cs) ((c.0, c.1 + 1) ∷ cs) (c ∷ raised k cs)) ≡ 1 + sum_by number (c ∷ cs)) [
+      | Less ↦ sum_by-cons number (k, 1) (c ∷ cs)
+      | Equal ↦ omega (arith, sum_by-cons number (c.0, c.1 + 1) cs, sum_by-cons number c cs)
+      | Greater ↦ omega (arith, sum_by-cons number c (raised k cs), raised-sum k cs, sum_by-cons number c cs)
+    ]
+
+-- each key adds one to all counters together
+pub raised_by-sum : (ks : List Key) (cs : List (Key × ℕ)) → sum_by number (raised_by ks cs) ≡ length ks + sum_by number cs
+raised_by-sum [] cs = omega arith
+raised_by-sum (k ∷ ks) cs = omega (arith, raised_by-sum ks (raised k cs), raised-sum k cs)

@@ -10,14 +10,15 @@ use Rattle.agg_model.specs.declared.key.Key.TheVariants.{Fixed, Many}
 use Rattle.agg_model.specs.declared.query.Query.{Query}
 use Rattle.agg_model.specs.declared.aggregation.Kind.{Kind}
 use Rattle.agg_model.specs.declared.aggregation.Kind.TheVariants as kind
-use Rattle.agg_evaluation.specs.KeyOrder.{key_cmp, scalar_key}
-use Rattle.agg_evaluation.specs.Rows.{PlacedRow}
+use Rattle.agg_evaluation.specs.KeyOrder.{key_cmp}
+use Rattle.agg_model.specs.ValueKeys.{scalar_key}
+use Rattle.agg_evaluation.specs.Rows.{PlacedRow, has_value}
 use Rattle.agg_evaluation.specs.Matching.{matches}
 use Rattle.agg_evaluation.specs.Keys.{keys, distinct_keys, filter_keys, single_key, values_or, interval_key, is_included, is_between, combinations, source_keys}
-use Rattle.agg_evaluation.specs.Rows.{has_value}
 use Rattle.agg_evaluation.specs.Trees.{is_ascending}
 use Rattle.agg_evaluation.proofs.Computing.{computing}
-use Rattle.agg_evaluation.proofs.KeyLists.{both, is_below, ascending-distinct_keys, ascending-filter}
+use Rattle.agg_evaluation.proofs.KeyLists.{is_below, ascending-distinct_keys, ascending-filter}
+use Rattle.list_laws.proofs.Booleans.{both}
 
 pub fixed_less : (i j : ℕ) → i < j → T (is_lt (key_cmp (Fixed i) (Fixed j)))
 unfolding computing

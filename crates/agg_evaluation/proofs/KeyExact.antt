@@ -6,6 +6,7 @@ use Rattle.std.specs.Ordering.{ordering_then, is_lt, is_gt, bool_cmp}
 use Rattle.std.specs.FinMap.{nat_cmp-IsAntisymmetric, int_cmp-IsAntisymmetric, slice_cmp-IsAntisymmetric}
 use Rattle.std.specs.Cmp.Lexicographic.{slice_cmp}
 use Rattle.std.proofs.Common.{sym, ◌∙◌, ap, subst}
+use Rattle.list_laws.proofs.Orders.{less_not_equal, greater_not_equal}
 use Rattle.agg_model.specs.declared.key.Key.{Key, out-Key, roll-Key, roll-out-Key, Row_of-Key, end_of-Key, more_of-Key, items-the_row-Key, items_shown-the_row-Key-0}
 use Rattle.agg_model.specs.declared.key.Key.TheBlock.{shown-the_row-Key-0}
 use Rattle.agg_model.specs.declared.key.Key.TheOpen.{Key-F}
@@ -13,12 +14,6 @@ use Rattle.agg_model.specs.declared.key.Key.TheVariants as key
 use Rattle.agg_evaluation.specs.Folds.{fold_keys}
 use Rattle.agg_evaluation.specs.KeyOrder.{key_cmp, key_cmp_at}
 use Rattle.agg_evaluation.proofs.Computing.{computing}
-
-less_not_equal : {A : Type 0} → Less ≡ Equal → A
-less_not_equal e = absurd (subst (λ o. T (is_lt o)) e tt)
-
-greater_not_equal : {A : Type 0} → Greater ≡ Equal → A
-greater_not_equal e = absurd (subst (λ o. T (is_gt o)) e tt)
 
 exact_bool : (a b : Bool) → bool_cmp a b ≡ Equal → a ≡ b
 exact_bool false false e = refl

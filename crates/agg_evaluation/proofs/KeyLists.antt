@@ -7,48 +7,28 @@ use Rattle.std.specs.Ordering.{is_eq, is_lt, match_ordering, ordering_reverse}
 use Rattle.std.specs.Cmp.{tied_itself}
 use Rattle.std.specs.FinMap.Entries.{find, is_sorted, below_all, same_entries}
 use Rattle.std.proofs.Common.{sym, ◌∙◌, ap, subst}
+use Rattle.list_laws.proofs.Orders.{less_is, equal_is}
+use Rattle.list_laws.proofs.Booleans.{and_left, and_right, both, holds, or_same, or_swap, same_truth}
 use Rattle.agg_model.specs.declared.key.Key.{Key}
 use Rattle.agg_evaluation.specs.KeyOrder.{key_cmp, key_eq, has_key}
-use Rattle.agg_evaluation.specs.Sorting.{insert_once}
+use Rattle.list_laws.specs.Sorting.{insert_once}
 use Rattle.agg_evaluation.specs.Keys.{distinct_keys}
 use Rattle.agg_evaluation.specs.Trees.{is_ascending}
 use Rattle.agg_evaluation.proofs.KeyCompare.{key_cmp_total}
 use Rattle.agg_evaluation.proofs.KeyExact.{exact_keys}
-
-pub and_left : (a b : Bool) → T (a && b) → T a
-and_left true b h = tt
-and_left false b h = h
-
-pub and_right : (a b : Bool) → T (a && b) → T b
-and_right true b h = h
-and_right false b h = absurd h
-
-pub both : (a b : Bool) → T a → T b → T (a && b)
-both true b h g = g
-both false b h g = h
-
-pub true_is : (b : Bool) → T b → b ≡ true
-true_is true h = refl
-true_is false h = absurd h
-
-pub holds : (b : Bool) → b ≡ true → T b
-holds b e = subst T (sym e) tt
-
-pub less_is : (r : Ordering) → T (is_lt r) → r ≡ Less
-less_is Less h = refl
-less_is Equal h = absurd h
-less_is Greater h = absurd h
-
-pub equal_is : (r : Ordering) → T (is_eq r) → r ≡ Equal
-equal_is Less h = absurd h
-equal_is Equal h = refl
-equal_is Greater h = absurd h
 
 pub key_eq-self : (k : Key) → key_eq k k ≡ true
 key_eq-self k = ap is_eq (tied_itself key_cmp_total k)
 
 pub key_eq-exact : (j k : Key) → T (key_eq j k) → j ≡ k
 key_eq-exact j k h = exact_keys j k (equal_is _ h)
+
+-- one key is another in either order
+pub key_eq-sym : (j k : Key) → key_eq j k ≡ key_eq k j
+key_eq-sym j k = same_truth _ _ (turned j k) (turned k j)
+  where
+    turned : (j k : Key) → T (key_eq j k) → T (key_eq k j)
+    turned j k h = subst (λ q. T (key_eq q j)) (key_eq-exact j k h) (holds _ (key_eq-self j))
 
 -- below each key of the list
 abbrev pub is_below : Key → List Key → Bool
@@ -81,16 +61,6 @@ ascending-insert_once k (l ∷ ks) h =
 pub ascending-distinct_keys : (ks : List Key) → T (is_ascending (distinct_keys ks))
 ascending-distinct_keys [] = tt
 ascending-distinct_keys (k ∷ ks) = ascending-insert_once k (distinct_keys ks) (ascending-distinct_keys ks)
-
-or_same : (a b : Bool) → (a || b) ≡ (a || (a || b))
-or_same true b = refl
-or_same false b = refl
-
-or_swap : (a b c : Bool) → (a || (b || c)) ≡ (b || (a || c))
-or_swap true true c = refl
-or_swap true false c = refl
-or_swap false true c = refl
-or_swap false false c = refl
 
 pub has_key-insert_once : (q k : Key) (ks : List Key) → has_key q (insert_once key_cmp k ks) ≡ (key_eq q k || has_key q ks)
 has_key-insert_once q k [] = refl

@@ -9,14 +9,14 @@ pub mod TreeLaws
 pub mod NodeForms
 pub mod DistinctKeys
 pub mod CounterLaws
-pub mod ListLaws
 pub mod WholeLaws
 pub mod MetricLaws
 pub mod UnionLaws
-pub mod AnyOrder
 pub mod SwapLaws
 pub mod AloneLaws
 pub mod SearchLaws
-pub mod SumLaws
 pub mod BeginLaws
 pub mod AddUpLaws
+pub mod AggFolds
+pub mod QueryFolds
+pub mod NodeFolds

@@ -8,7 +8,7 @@ use Rattle.std.proofs.lemmas.List.Sums.{sum_by-cons, fold-append}
 use Rattle.agg_model.specs.declared.partial.Metric.{Metric}
 use Rattle.agg_evaluation.specs.Shard.{int_sum}
 use Rattle.agg_evaluation.specs.Whole.{metric_sum}
-use Rattle.agg_evaluation.proofs.ListLaws.{append-nil, filter_map-flat_map, sum_by-flat_map, map-flat_map}
+use Rattle.list_laws.proofs.Lists.{append-nil, filter_map-flat_map, sum_by-flat_map, map-flat_map}
 
 module _ {A : Type 0} (f : A → A → A) (assoc : (a b c : A) → f (f a b) c ≡ f a (f b c)) where
   -- two results as one

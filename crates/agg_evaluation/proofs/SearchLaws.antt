@@ -2,25 +2,22 @@
 use Rattle.std.specs.Prelude.{◌≡◌, refl, ℕ, suc, ◌+◌, T, List, [], ◌∷◌, ◌++◌, map, filter_map, sum_by, Option, Some, slice_get, IsPermutation}
 use Rattle.std.specs.List.{enumerate_from, cons_option}
 use Rattle.std.proofs.Common.{sym, ◌∙◌, ap, subst, arith}
+use Rattle.list_laws.proofs.Lists.{filter_map-there, joined, flat_map-map, filter_map-flat_map, filter_map-append, map-map, sum_by-map, sum_by-flat_map, enumerated, slice_get-enumerated}
 use Rattle.agg_model.specs.declared.partial.Node.{Node}
 use Rattle.agg_model.specs.declared.partial.Partial.{Partial}
 use Rattle.agg_model.specs.declared.aggregation.Agg.{Agg}
 use Rattle.agg_model.specs.declared.aggregation.Search.{Search}
 use Rattle.agg_evaluation.specs.Trees.{pass_each, is_tree_of, is_result_of}
 use Rattle.agg_evaluation.specs.Whole.{whole_node, whole, empty_node, empty_result}
-use Rattle.agg_evaluation.proofs.KeyLists.{and_left, and_right, both}
-use Rattle.agg_evaluation.proofs.ListLaws.{joined, flat_map-map, filter_map-flat_map, filter_map-append, map-map, sum_by-map, sum_by-flat_map, enumerated, slice_get-enumerated}
-use Rattle.agg_evaluation.proofs.AnyOrder.{any_order}
+use Rattle.list_laws.proofs.Booleans.{and_left, and_right, both}
+use Rattle.list_laws.proofs.Permutations.{any_order}
 use Rattle.agg_evaluation.proofs.UnionLaws.{whole_node-unites}
-use Rattle.agg_evaluation.proofs.SwapLaws.{sum-swap, whole_node-swaps}
+use Rattle.agg_evaluation.proofs.SwapLaws.{whole_node-swaps}
+use Rattle.list_laws.proofs.Sums.{sum-swap}
 use Rattle.agg_evaluation.proofs.AloneLaws.{whole_node-empty, whole_node-is_tree, whole_node-alone}
 
 abbrev nodes_at : ℕ → List Partial → List Node
 nodes_at n ps = filter_map (λ p. slice_get p.nodes n) ps
-
-filter_map-there : {A B C : Type 0} (h : B → Option C) (f : A → B) (g : A → C) → ((x : A) → h (f x) ≡ Some (g x)) → (xs : List A) → filter_map h (map f xs) ≡ map g xs
-filter_map-there h f g there [] = refl
-filter_map-there h f g there (x ∷ xs) = λ i. cons_option (there x i) (filter_map-there h f g there xs i)
 
 module _ (search : Search) where
   node-at : (j : ℕ) (a : Agg) → slice_get search.aggs j ≡ Some a → (ps : List Partial) → slice_get (whole search ps).nodes j ≡ Some (whole_node a (nodes_at j ps))

@@ -5,6 +5,8 @@ use Rattle.std.specs.Int.{int_min, int_max}
 use Rattle.std.proofs.Common.{sym, ◌∙◌, ap, subst, arith}
 use Rattle.std.proofs.lemmas.Int.{ints}
 use Rattle.std.proofs.lemmas.List.Sums.{sum_by-append}
+use Rattle.list_laws.proofs.Sums.{sum-swap}
+use Rattle.list_laws.proofs.Booleans.{or_comm}
 use Rattle.agg_model.specs.declared.key.Key.{Key}
 use Rattle.agg_model.specs.declared.partial.Bucket.{Bucket}
 use Rattle.agg_model.specs.declared.partial.Metric.{Metric}
@@ -19,10 +21,11 @@ use Rattle.agg_evaluation.specs.Orders.{bucket_key, bucket_count}
 use Rattle.agg_evaluation.specs.Shard.{fixed_keys, int_sum}
 use Rattle.agg_evaluation.specs.Whole.{parts, children_at, whole_bucket, whole_by, whole_node, shape_of, Shape, by_key, from_start, a_number, metric_sum}
 use Rattle.agg_evaluation.proofs.KeyLists.{distinct_keys-same}
-use Rattle.agg_evaluation.proofs.ListLaws.{flat_map-append, map-append, filter-append, filter_map-append, enumerated}
+use Rattle.list_laws.proofs.Lists.{flat_map-append, map-append, filter-append, filter_map-append, enumerated}
 use Rattle.agg_evaluation.proofs.MetricLaws.{reduce-append, join_comm, int_sum-append, min_assoc, min_comm, max_assoc, max_comm}
 use Rattle.agg_evaluation.proofs.UnionLaws.{has_key-append}
-use Rattle.agg_evaluation.proofs.WholeLaws.{Union, tree_buckets, with_key, none_some, some_same}
+use Rattle.agg_evaluation.proofs.WholeLaws.{Union, tree_buckets, with_key}
+use Rattle.list_laws.proofs.Options.{none_some, some_same}
 
 abbrev pub Swaps : Union → Type 0
 Swaps w = (xs ys : List Node) → w (xs ++ ys) ≡ w (ys ++ xs)
@@ -35,15 +38,6 @@ swaps-at : (ws : List Union) → EachSwaps ws → (j : ℕ) (w : Union) → slic
 swaps-at [] laws j w e = none_some w e
 swaps-at (v ∷ ws) laws zero w e = subst Swaps (some_same v w e) laws.0
 swaps-at (v ∷ ws) laws (suc j) w e = swaps-at ws laws.1 j w e
-
-or_comm : (a b : Bool) → (a || b) ≡ (b || a)
-or_comm true true = refl
-or_comm true false = refl
-or_comm false true = refl
-or_comm false false = refl
-
-pub sum-swap : {A : Type 0} (f : A → ℕ) (xs ys : List A) → sum_by f (xs ++ ys) ≡ sum_by f (ys ++ xs)
-sum-swap f xs ys = sum_by-append f xs ys ∙ (let e : sum_by f xs + sum_by f ys ≡ sum_by f ys + sum_by f xs = omega arith in e) ∙ sym (sum_by-append f ys xs)
 
 module _ (cs : List Union) (laws : EachSwaps cs) (q : Key) (ds bs : List Bucket) where
   with_key-append : with_key q (ds ++ bs) ≡ with_key q ds ++ with_key q bs

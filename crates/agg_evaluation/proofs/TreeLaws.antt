@@ -19,7 +19,7 @@ use Rattle.agg_model.specs.declared.aggregation.Kind.TheVariants as kind
 use Rattle.agg_model.specs.declared.aggregation.Search.{Search}
 use Rattle.agg_model.specs.declared.aggregation.Order.{Order}
 use Rattle.agg_evaluation.specs.Folds.{fold_aggs}
-use Rattle.agg_evaluation.specs.Sorting.{sorted}
+use Rattle.list_laws.specs.Sorting.{sorted}
 use Rattle.agg_evaluation.specs.KeyOrder.{key_cmp, key_eq}
 use Rattle.agg_evaluation.specs.Rows.{PlacedRow, roots}
 use Rattle.agg_evaluation.specs.Matching.{matched_roots}
@@ -32,8 +32,10 @@ use Rattle.agg_evaluation.specs.Trace.{built}
 use Rattle.agg_evaluation.specs.Trees.{is_ascending, are_same_keys, pass_each, have_children, is_tree_at, is_tree_of, is_result_of}
 use Rattle.agg_evaluation.proofs.NodeForms.{out-Keyed, out-Fixed, out-Number}
 use Rattle.agg_evaluation.proofs.KeyCompare.{key_cmp_total}
-use Rattle.agg_evaluation.proofs.KeyLists.{and_left, and_right, both, ascending-distinct_keys}
-use Rattle.agg_evaluation.proofs.SortedLists.{occurrences, occurrences-sorted, occurrences-take, occurrences-filter, occurrences-map, all-sorted, all-take, all-map, ascending-sorted, ascending-once}
+use Rattle.agg_evaluation.proofs.KeyLists.{ascending-distinct_keys}
+use Rattle.list_laws.proofs.Booleans.{and_left, and_right, both}
+use Rattle.agg_evaluation.proofs.SortedLists.{ascending-sorted, ascending-once}
+use Rattle.list_laws.proofs.Occurrences.{occurrences, occurrences-sorted, occurrences-take, occurrences-filter, occurrences-map, all-sorted, all-take, all-map}
 
 pub same-self : (ks : List Key) → T (are_same_keys ks ks)
 same-self [] = tt

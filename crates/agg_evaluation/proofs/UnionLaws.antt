@@ -17,8 +17,9 @@ use Rattle.agg_evaluation.specs.Orders.{bucket_key}
 use Rattle.agg_evaluation.specs.Shard.{fixed_keys}
 use Rattle.agg_evaluation.specs.Trees.{is_ascending}
 use Rattle.agg_evaluation.specs.Whole.{Parts, parts, parts_at, whole_bucket, whole_by, whole_node, shape_of, Shape, by_key, from_start, a_number, metric_sum}
-use Rattle.agg_evaluation.proofs.KeyLists.{both, is_below, ascending-distinct_keys, has_key-distinct_keys, distinct_keys-same, key_eq-self}
-use Rattle.agg_evaluation.proofs.ListLaws.{joined, flat_map-flat_map, flat_map-map, map-flat_map, sum_by-flat_map, sum_by-map}
+use Rattle.agg_evaluation.proofs.KeyLists.{is_below, ascending-distinct_keys, has_key-distinct_keys, distinct_keys-same, key_eq-self}
+use Rattle.list_laws.proofs.Booleans.{both}
+use Rattle.list_laws.proofs.Lists.{joined, flat_map-flat_map, flat_map-map, map-flat_map, sum_by-flat_map, sum_by-map}
 use Rattle.agg_evaluation.proofs.MetricLaws.{metric_sum-groups}
 use Rattle.agg_evaluation.proofs.NodeForms.{out-Keyed, out-Fixed, out-Number}
 use Rattle.agg_evaluation.proofs.DistinctKeys.{fixed_less}

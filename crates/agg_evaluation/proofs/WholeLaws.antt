@@ -2,6 +2,7 @@
 use Rattle.std.specs.Prelude.{◌≡◌, refl, ℕ, zero, suc, ◌+◌, true, false, cond, T, List, [], ◌∷◌, map, filter, flat_map, sum_by, Some, None, slice_get}
 use Rattle.std.specs.List.{cons_option}
 use Rattle.std.proofs.Common.{sym, ◌∙◌, ap, subst, arith}
+use Rattle.list_laws.proofs.Options.{none_some, some_same}
 use Rattle.agg_model.specs.declared.key.Key.{Key}
 use Rattle.agg_model.specs.declared.partial.Bucket.{Bucket}
 use Rattle.agg_model.specs.declared.partial.Node.{Node}
@@ -10,7 +11,7 @@ use Rattle.agg_evaluation.specs.Orders.{bucket_key, bucket_count}
 use Rattle.agg_evaluation.specs.Trees.{is_ascending}
 use Rattle.agg_evaluation.specs.Whole.{parts, children_at, whole_bucket}
 use Rattle.agg_evaluation.proofs.KeyLists.{filter-ascending}
-use Rattle.agg_evaluation.proofs.ListLaws.{joined, append-nil, flat_map-flat_map, map-flat_map, filter-flat_map, filter-map, filter_map-flat_map, sum_by-flat_map, enumerated, slice_get-enumerated}
+use Rattle.list_laws.proofs.Lists.{joined, append-nil, flat_map-flat_map, map-flat_map, filter-flat_map, filter-map, filter_map-flat_map, sum_by-flat_map, enumerated, slice_get-enumerated}
 
 -- what gives the whole of trees
 abbrev pub Union : Type 0
@@ -23,12 +24,6 @@ Unites w = (xss : List (List Node)) → w (map w xss) ≡ w (joined xss)
 abbrev pub EachUnites : List Union → Type 0
 EachUnites [] = Unit {0}
 EachUnites (w ∷ ws) = Unites w × EachUnites ws
-
-pub none_some : {A X : Type 0} (x : A) → None ≡ Some x → X
-none_some x e = absurd (subst (λ o. elim o as (λ _. Type 0) [ None ↦ Unit {0} | Some y ↦ ⊥ ]) e tt)
-
-pub some_same : {A : Type 0} (x y : A) → Some x ≡ Some y → x ≡ y
-some_same {A = A} x y e = ap (λ o. elim o as (λ _. A) [ None ↦ x | Some z ↦ z ]) e
 
 unites-at : (ws : List Union) → EachUnites ws → (j : ℕ) (w : Union) → slice_get ws j ≡ Some w → Unites w
 unites-at [] laws j w e = none_some w e

@@ -11,9 +11,10 @@ use Rattle.agg_model.specs.declared.aggregation.CompositeSource.{CompositeSource
 use Rattle.agg_model.specs.declared.aggregation.Kind.{Kind}
 use Rattle.agg_model.specs.declared.aggregation.Kind.TheVariants as kind
 use Rattle.agg_model.specs.declared.aggregation.Search.{Search}
+use Rattle.agg_model.specs.Options.{Options, options_of}
 use Rattle.agg_evaluation.specs.Folds.{fold_agg}
 use Rattle.agg_evaluation.specs.Rows.{PlacedRow, roots, values_of}
-use Rattle.agg_evaluation.specs.KeyOrder.{scalar_key}
+use Rattle.agg_model.specs.ValueKeys.{scalar_key}
 use Rattle.agg_evaluation.specs.Cost.{key_bytes}
 use Rattle.agg_evaluation.specs.Matching.{matched_roots}
 use Rattle.agg_evaluation.specs.Keys.{keys, source_keys}
@@ -66,10 +67,12 @@ module _ (kinds : List FieldKind) (all : List PlacedRow) where
 
   -- a bound on the bytes of a key
   abbrev pub key_bound : Kind → ℕ
-  key_bound (kind.Terms field size shard_size min_doc_count order include exclude missing show_error) = field_bytes field missing
-  key_bound (kind.Histogram field interval offset min_doc_count extended hard keyed order missing) = 8
-  key_bound (kind.Composite sources size after) = sum (map part_bytes sources)
-  key_bound _ = 0
+  key_bound k = elim (options_of k) [
+      Options.Terms t ↦ field_bytes t.field t.missing
+    | Options.Histogram h ↦ 8
+    | Options.Composite sources size after ↦ sum (map part_bytes sources)
+    | _ ↦ 0
+    ]
 
   -- the rows that an aggregation counts of those that reach it
   abbrev pub counted_from : Kind → List Reached → List Reached

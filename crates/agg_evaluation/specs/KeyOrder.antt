@@ -7,11 +7,6 @@ use Rattle.std.specs.Cmp.Lexicographic.{slice_cmp}
 use Rattle.std.specs.List.{list_any}
 use Rattle.agg_model.specs.declared.key.Key.{Key, out-Key}
 use Rattle.agg_model.specs.declared.key.Key.TheOpen.{Key-F}
-use Rattle.agg_model.specs.declared.key.Key.TheVariants.{Whole, Flag, Word}
-use Rattle.agg_model.specs.declared.row.Scalar.{Scalar}
-use Rattle.agg_model.specs.declared.query.Probe.{Probe}
-use Rattle.agg_model.specs.declared.row.Scalar.TheVariants as scalar
-use Rattle.agg_model.specs.declared.query.Probe.TheVariants as probe
 use Rattle.agg_evaluation.specs.Folds.{fold_key}
 
 -- which kind of key comes first
@@ -41,18 +36,6 @@ key_eq j k = is_eq (key_cmp j k)
 -- whether the key stands in the list
 abbrev pub has_key : Key → List Key → Bool
 has_key k = list_any (key_eq k)
-
--- a value of a field as a key
-abbrev pub scalar_key : Scalar → Key
-scalar_key (scalar.Whole n) = Whole n
-scalar_key (scalar.Word w) = Word w
-scalar_key (scalar.Flag b) = Flag b
-
--- a value that a request names as a key
-abbrev pub probe_key : Probe → Key
-probe_key (probe.Whole n) = Whole n
-probe_key (probe.Word w) = Word w
-probe_key (probe.Flag b) = Flag b
 
 -- the comparison's outcome, turned round where the order is descending
 abbrev pub directed : Bool → Ordering → Ordering

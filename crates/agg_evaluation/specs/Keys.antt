@@ -13,9 +13,10 @@ use Rattle.agg_model.specs.declared.aggregation.Bounds.{Bounds}
 use Rattle.agg_model.specs.declared.aggregation.Kind.{Kind}
 use Rattle.agg_model.specs.declared.aggregation.CompositeSource.{CompositeSource}
 use Rattle.agg_model.specs.declared.row.Scalar.TheVariants as scalar
-use Rattle.agg_model.specs.declared.aggregation.Kind.TheVariants as kind
-use Rattle.agg_evaluation.specs.Sorting.{ascending}
-use Rattle.agg_evaluation.specs.KeyOrder.{key_cmp, has_key, scalar_key, probe_key}
+use Rattle.list_laws.specs.Sorting.{ascending}
+use Rattle.agg_model.specs.Options.{Options, options_of}
+use Rattle.agg_evaluation.specs.KeyOrder.{key_cmp, has_key}
+use Rattle.agg_model.specs.ValueKeys.{scalar_key, probe_key}
 use Rattle.agg_evaluation.specs.Rows.{PlacedRow, values_of, has_value}
 use Rattle.agg_evaluation.specs.Matching.{matches}
 
@@ -90,13 +91,13 @@ composite_keys sources row = distinct_keys (map Many (combinations (map (source_
 -- The distinct keys of a row, ascending. Under nested, reverse nested and global each row that is handed on has the one key.
 -- Metrics have no buckets.
 abbrev pub keys : List PlacedRow → Kind → PlacedRow → List Key
-keys all (kind.Terms field size shard_size min_doc_count order include exclude missing show_error) row = term_keys field include exclude missing row
-keys all (kind.Histogram field interval offset min_doc_count extended hard keyed order missing) row = histogram_keys field interval offset hard missing row
-keys all (kind.Filters names filters other) row = filter_keys (λ q. matches all q row) filters other
-keys all (kind.Filter query) row = single_key (matches all query row)
-keys all (kind.Missing field) row = single_key (not (has_value field row))
-keys all (kind.Composite sources size after) row = composite_keys sources row
-keys all kind.Global row = single_key true
-keys all (kind.Nested context) row = single_key true
-keys all (kind.ReverseNested context) row = single_key true
-keys all _ row = []
+keys all k row = elim (options_of k) [
+    Options.Terms t ↦ term_keys t.field t.include t.exclude t.missing row
+  | Options.Histogram h ↦ histogram_keys h.field h.interval h.offset h.hard h.missing row
+  | Options.Filters names filters other ↦ filter_keys (λ q. matches all q row) filters other
+  | Options.Filter query ↦ single_key (matches all query row)
+  | Options.Missing field ↦ single_key (not (has_value field row))
+  | Options.Composite sources size after ↦ composite_keys sources row
+  | Options.Metric m ↦ []
+  | _ ↦ single_key true
+  ]

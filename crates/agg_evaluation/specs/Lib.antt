@@ -1,5 +1,4 @@
 pub mod Folds
-pub mod Sorting
 pub mod KeyOrder
 pub mod Rows
 pub mod Matching
@@ -16,3 +15,5 @@ pub mod Intervals
 pub mod Placement
 pub mod Ceiling
 pub mod TrueCounts
+pub mod ColumnBytes
+pub mod Conditions

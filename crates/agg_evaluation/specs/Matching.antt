@@ -13,7 +13,8 @@ use Rattle.agg_model.specs.declared.query.RangeTest.{RangeTest}
 use Rattle.agg_model.specs.declared.row.Scalar.{Scalar}
 use Rattle.agg_evaluation.specs.Folds.{fold_query}
 use Rattle.agg_evaluation.specs.Rows.{PlacedRow, values_of, beneath, has_value, roots}
-use Rattle.agg_evaluation.specs.KeyOrder.{key_cmp, key_eq, has_key, scalar_key, probe_key}
+use Rattle.agg_evaluation.specs.KeyOrder.{key_cmp, key_eq, has_key}
+use Rattle.agg_model.specs.ValueKeys.{scalar_key, probe_key}
 
 -- whether a bound allows a value that compares with it in this way
 abbrev pub allows : RangeOp → Ordering → Bool

@@ -1,6 +1,6 @@
 -- The rows of a shard as one list: the root of each document, and each of its nested documents, which is a row of its own
 -- (Elasticsearch Reference 8, 'Nested field type').
-use Rattle.std.specs.Prelude.{ℕ, ◌+◌, ◌==◌, ◌&&◌, Bool, List, [], ◌∷◌, ◌++◌, filter, flat_map, nat_eq, unwrap_or, option_map, find, true}
+use Rattle.std.specs.Prelude.{ℕ, ◌+◌, ◌==◌, ◌&&◌, Bool, List, [], ◌∷◌, ◌++◌, filter, flat_map, nat_eq, unwrap_or, option_map, find, true, slice_index_or}
 use Rattle.std.specs.List.{list_any, enumerate_from, starts_with}
 use Rattle.agg_model.specs.declared.row.Scalar.{Scalar}
 use Rattle.agg_model.specs.declared.row.FieldValues.{FieldValues}
@@ -56,3 +56,11 @@ values_of field row = unwrap_or (option_map (λ v. v.values) (find (λ v. v.fiel
 
 abbrev pub has_value : ℕ → PlacedRow → Bool
 has_value field row = list_any (λ v. true) (values_of field row)
+
+-- what stands for a row that is not there
+abbrev pub no_row : PlacedRow
+no_row = record { place = []; context = 0; id = []; values = [] }
+
+-- the row of this number
+abbrev pub row_of : List PlacedRow → ℕ → PlacedRow
+row_of rows n = slice_index_or rows n no_row

@@ -21,8 +21,9 @@ use Rattle.agg_model.specs.declared.aggregation.Agg.TheOpen.{Agg-F}
 use Rattle.agg_model.specs.declared.aggregation.Search.{Search}
 use Rattle.agg_model.specs.declared.key.Key.TheVariants as key
 use Rattle.agg_model.specs.declared.aggregation.Kind.TheVariants as kind
+use Rattle.agg_model.specs.Options.{Options, options_of}
 use Rattle.agg_evaluation.specs.Folds.{fold_agg}
-use Rattle.agg_evaluation.specs.Sorting.{sorted}
+use Rattle.list_laws.specs.Sorting.{sorted}
 use Rattle.agg_evaluation.specs.KeyOrder.{key_cmp}
 use Rattle.agg_evaluation.specs.Orders.{bucket_cmp, bucket_key, bucket_count, composite_cmp}
 use Rattle.agg_evaluation.specs.Rows.{PlacedRow, roots}
@@ -48,6 +49,11 @@ metric_of values =
 abbrev pub count_of_values : List Scalar → Metric
 count_of_values values = record { count = length values; sum = pos 0; least = None; greatest = None }
 
+-- what a metric of this kind keeps of the values
+abbrev pub kept_metric : Kind → List Scalar → Metric
+kept_metric (kind.ValueCount field missing) values = count_of_values values
+kept_metric _ values = metric_of values
+
 -- the keys of the buckets that exist from the start
 abbrev pub fixed_keys : Kind → List Key
 fixed_keys (kind.Filters names filters other) = map key.Fixed (range_with_len 0 (option_map_or (λ name. length filters + 1) other (length filters)))
@@ -65,8 +71,8 @@ sorted_by_key = sorted (λ a b. key_cmp (bucket_key a) (bucket_key b))
 abbrev pub with_covered : ℕ → Bucket → Bucket
 with_covered error b = record b { covered = error }
 
--- The first `shard_size` buckets in the order. Where there are so many, a term that is left out may have as many rows as the
--- last one kept: that is the error. What is cut are the keys of all rows less the counts of the kept.
+-- The first `shard_size` buckets in the order. Where there are so many, the error is the count of the last one kept: by
+-- descending count, no term that is left out has more rows. What is cut are the keys of all rows less the counts of the kept.
 abbrev pub trimmed_node : List Kind → ℕ → List Order → ℕ → List Bucket → Node
 trimmed_node kinds shard_size order key_count buckets =
     let kept = take shard_size (sorted (bucket_cmp kinds order) buckets) in
@@ -76,8 +82,7 @@ trimmed_node kinds shard_size order key_count buckets =
 
 -- whether the buckets of the kind are cut in a shard
 abbrev pub is_terms : Kind → Bool
-is_terms (kind.Terms field size shard_size min_doc_count order include exclude missing show_error) = true
-is_terms _ = false
+is_terms k = elim (options_of k) [ Options.Terms t ↦ true | _ ↦ false ]
 
 -- an aggregation's kind, and what it collects of the rows that it is handed
 pub record Collector : Type 0 where
@@ -93,22 +98,15 @@ module _ (trims : Bool) (all roots : List PlacedRow) where
 
   -- the node of the rows that the aggregation counts
   abbrev pub node_of : List Collector → Kind → List PlacedRow → Node
-  node_of children (kind.Terms field size shard_size min_doc_count order include exclude missing show_error) counted =
-      let k = kind.Terms field size shard_size min_doc_count order include exclude missing show_error in
-      let buckets = map (bucket_of k children counted) (all_keys all k counted) in
-      if trims then trimmed_node (map (λ c. c.kind) children) shard_size order (total_key_count all k counted) buckets else Keyed buckets 0 0 0
-  node_of children (kind.Histogram field interval offset min_doc_count extended hard keyed order missing) counted =
-      let k = kind.Histogram field interval offset min_doc_count extended hard keyed order missing in
-      Keyed (map (bucket_of k children counted) (all_keys all k counted)) 0 0 0
-  node_of children (kind.Composite sources size after) counted =
-      let k = kind.Composite sources size after in
-      Keyed (map (bucket_of k children counted) (page sources size after (all_keys all k counted))) 0 0 0
-  node_of children (kind.Sum field missing) counted = Number (metric_of (flat_map (values_or field missing) counted))
-  node_of children (kind.Min field missing) counted = Number (metric_of (flat_map (values_or field missing) counted))
-  node_of children (kind.Max field missing) counted = Number (metric_of (flat_map (values_or field missing) counted))
-  node_of children (kind.Avg field missing) counted = Number (metric_of (flat_map (values_or field missing) counted))
-  node_of children (kind.ValueCount field missing) counted = Number (count_of_values (flat_map (values_or field missing) counted))
-  node_of children k counted = Fixed (map (bucket_of k children counted) (fixed_keys k))
+  node_of children k counted = elim (options_of k) [
+      Options.Terms t ↦
+        (let buckets = map (bucket_of k children counted) (all_keys all k counted) in
+        if trims then trimmed_node (map (λ c. c.kind) children) t.shard_size t.order (total_key_count all k counted) buckets else Keyed buckets 0 0 0)
+    | Options.Histogram h ↦ Keyed (map (bucket_of k children counted) (all_keys all k counted)) 0 0 0
+    | Options.Composite sources size after ↦ Keyed (map (bucket_of k children counted) (page sources size after (all_keys all k counted))) 0 0 0
+    | Options.Metric m ↦ Number (kept_metric k (flat_map (values_or m.field m.missing) counted))
+    | _ ↦ Fixed (map (bucket_of k children counted) (fixed_keys k))
+    ]
 
   abbrev pub collector_of : Agg-F Collector → Collector
   collector_of a = record { kind = a.kind; collect = λ rows. node_of a.children a.kind (under all roots a.kind rows) }

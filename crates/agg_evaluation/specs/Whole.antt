@@ -13,7 +13,7 @@ use Rattle.agg_model.specs.declared.partial.Partial.{Partial}
 use Rattle.agg_model.specs.declared.aggregation.Kind.{Kind}
 use Rattle.agg_model.specs.declared.aggregation.Agg.{Agg}
 use Rattle.agg_model.specs.declared.aggregation.Search.{Search}
-use Rattle.agg_model.specs.declared.aggregation.Kind.TheVariants as kind
+use Rattle.agg_model.specs.Options.{Options, options_of}
 use Rattle.agg_evaluation.specs.Folds.{fold_agg}
 use Rattle.agg_evaluation.specs.KeyOrder.{key_eq}
 use Rattle.agg_evaluation.specs.Orders.{bucket_key, bucket_count}
@@ -27,15 +27,13 @@ pub data Shape : Type 0 where
   a_number : Shape
 
 abbrev pub shape_of : Kind → Shape
-shape_of (kind.Terms field size shard_size min_doc_count order include exclude missing show_error) = by_key
-shape_of (kind.Histogram field interval offset min_doc_count extended hard keyed order missing) = by_key
-shape_of (kind.Composite sources size after) = by_key
-shape_of (kind.Sum field missing) = a_number
-shape_of (kind.Min field missing) = a_number
-shape_of (kind.Max field missing) = a_number
-shape_of (kind.Avg field missing) = a_number
-shape_of (kind.ValueCount field missing) = a_number
-shape_of _ = from_start
+shape_of k = elim (options_of k) [
+    Options.Terms t ↦ by_key
+  | Options.Histogram h ↦ by_key
+  | Options.Composite sources size after ↦ by_key
+  | Options.Metric m ↦ a_number
+  | _ ↦ from_start
+  ]
 
 -- a node's parts, where the parts that it has not are empty
 pub record Parts : Type 0 where

@@ -13,6 +13,7 @@ use Rattle.std.proofs.lemmas.Cmp.{nat_list_cmp_total}
 use Rattle.std.proofs.lemmas.List.Sorted.{sorted_far, ranks_by}
 use Rattle.std.proofs.lemmas.Map.Lookups.{exact_bytes}
 use Rattle.std.proofs.lemmas.Map.Views.{tells_apart}
+use Rattle.list_laws.proofs.StableSort.{AtLeast, Ascends, ascends_from_sort}
 use Rattle.agg_model.specs.declared.mapping.Field.{Field}
 use Rattle.agg_model.specs.declared.mapping.NestedPath.{NestedPath}
 use Rattle.agg_reading.specs.declared.parts.FoundPath.{FoundPath}
@@ -21,7 +22,7 @@ use Rattle.agg_reading.specs.Json.{is_among}
 use Rattle.agg_reading.specs.Mapping.{found_from}
 use Rattle.agg_reading.specs.Properties.{is_before}
 use Rattle.agg_mapping.specs.Paths.{AscendsBy, first_from}
-use Rattle.agg_mapping.proofs.Placing.{AtLeast, Ascends, ascends_from_sort, below, weak}
+use Rattle.agg_mapping.proofs.PathOrder.{below, weak}
 
 not_eq : (o : Ordering) → is_lt o ≡ true → is_eq o ≡ false
 not_eq Less e = refl

@@ -1,5 +1,5 @@
 pub mod Beneath
 pub mod CollectedLemmas
 pub mod Finding
-pub mod Placing
+pub mod PathOrder
 pub mod Steps

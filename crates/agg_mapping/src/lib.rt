@@ -11,6 +11,7 @@ mod index_line;
 mod lookup;
 mod mapping;
 mod numbering;
+mod ordered;
 mod paths;
 mod properties;
 #[cfg(test)]
@@ -21,4 +22,5 @@ pub use fault::MapFault;
 pub use index_line::index_line_of;
 pub use lookup::{field, find_field, find_nested, is_object, nested};
 pub use mapping::mapping_of;
+pub use ordered::OrderedMapping;
 pub use paths::{HasPath, first, is_beneath};

@@ -1,8 +1,9 @@
 //! Paths, items that have one, and the search for one among many.
 
 ghost use Rattle.std.specs.Prelude.{◌≡◌, ◌<◌, [], ℕ, List, IfOk, IfSome, length, option_map};
+ghost use Rattle.list_laws.specs.Sorting.{sorted};
 ghost use Rattle.agg_reading.specs.Fields.{is_beneath};
-ghost use Rattle.agg_mapping.specs.Arranged.{placed};
+ghost use Rattle.agg_reading.specs.Properties.{by_path};
 ghost use Rattle.agg_mapping.specs.Paths.{AscendsBy, first_from};
 
 use agg_model::{Field, List as Items, NestedPath, Text};
@@ -68,7 +69,7 @@ pub fn is_beneath(outer: &[u8], path: &[u8]) -> bool
 
 /// The items in byte order of their paths; those with one path keep their order.
 pub(crate) fn in_order<T: HasPath + Drop>(items: Items<T>) -> Result<Items<T>, AllocError>
-    ensures placed { IfOk result (λ xs. xs ≡ placed T.path_of [] items) }
+    ensures value { IfOk result (λ xs. xs ≡ sorted (by_path T.path_of) items) }
     ensures ascends { IfOk result (AscendsBy T.path_of) }
 {
     let mut all = items.into_vec();

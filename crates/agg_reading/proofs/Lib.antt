@@ -14,3 +14,4 @@ mod Limits
 pub mod Steps
 pub mod MappingLaws
 pub mod IndexLineLaws
+pub mod ValueLaws

@@ -3,6 +3,7 @@ use Rattle.std.specs.Prelude.{◌≡◌, refl, ℕ, zero, suc, ◌+◌, ◌≤�
 use Rattle.std.proofs.Common.{arith, ap}
 use Rattle.std.proofs.lemmas.Bool.Decides.{nat_tests}
 use Rattle.std.proofs.lemmas.List.{length-map}
+use Rattle.list_laws.proofs.StableSort.{length-insert_behind}
 use Rattle.serde_json.specs.Data.{Data, Members, no_members, member}
 use Rattle.agg_model.specs.declared.mapping.FieldKind.{FieldKind}
 use Rattle.agg_model.specs.declared.mapping.Mapping.{Mapping}
@@ -13,14 +14,13 @@ use Rattle.agg_reading.specs.Reading.{Reading, ◌>>=◌, refuse}
 use Rattle.agg_reading.specs.Pointer.{member_step}
 use Rattle.agg_reading.proofs.Steps.{then_ok, next_ok, if_ok}
 use Rattle.agg_reading.specs.Json.{object_at, known, optional}
-use Rattle.agg_reading.specs.Properties.{is_before, place, is_field_name, bound_at, leaf_names, leaf_at, is_full, with_nested, with_object, fields_from, properties_at, properties_of, inner_at, by_type, type_in, property_at}
+use Rattle.agg_reading.specs.Properties.{by_path, place, is_field_name, bound_at, leaf_names, leaf_at, is_full, with_nested, with_object, fields_from, properties_at, properties_of, inner_at, by_type, type_in, property_at}
 use Rattle.agg_reading.specs.Mapping.{numbered, numbered_field, numbered_path, found_in, nothing_found, dynamic_at, mapping_at}
 
+-- one more item makes the list one longer
 length-place : {A : Type 0} (path_of : A → List ℕ) (x : A) (ys : List A) → length (place path_of x ys) ≡ suc (length ys)
 unfolding place
-length-place path_of x [] = refl
-length-place path_of x (y ∷ ys) =
-    elim (is_before (path_of x) (path_of y)) as (λ b. length (if b then x ∷ y ∷ ys else y ∷ place path_of x ys) ≡ suc (suc (length ys))) [ true ↦ refl | false ↦ ap suc (length-place path_of x ys) ]
+length-place path_of x ys = length-insert_behind (by_path path_of) x ys
 
 abbrev pub Fits : Found → Type 0
 Fits found = length found.fields + length found.nested ≤ 1000

@@ -6,8 +6,6 @@ use Rattle.serde_json.specs.Data.{Data, null, Members, no_members, member}
 use Rattle.agg_model.specs.declared.limits.TheConstants.{MAX_PAGE}
 use Rattle.agg_model.specs.declared.body_refusal.TheConstants.{OUT_OF_RANGE, UNKNOWN_MEMBER, WRONG_TYPE}
 use Rattle.agg_model.specs.declared.mapping.Mapping.{Mapping}
-use Rattle.agg_model.specs.declared.query.Probe.{Probe}
-use Rattle.agg_model.specs.declared.query.Probe.TheVariants as probe
 use Rattle.agg_model.specs.declared.key.Key.{Key}
 use Rattle.agg_model.specs.declared.key.Key.TheVariants as key
 use Rattle.agg_model.specs.declared.aggregation.Kind.{Kind}
@@ -18,11 +16,7 @@ use Rattle.agg_reading.specs.Json.{object_at, required, known, optional, is_amon
 use Rattle.agg_reading.specs.Numbers.{whole_at}
 use Rattle.agg_reading.specs.Leaves.{value_at}
 use Rattle.agg_reading.specs.Composite.{Source, sources_at}
-
-abbrev pub probe_key : Probe → Key
-probe_key (probe.Whole n) = key.Whole n
-probe_key (probe.Word w) = key.Word w
-probe_key (probe.Flag b) = key.Flag b
+use Rattle.agg_model.specs.ValueKeys.{probe_key}
 
 -- the part of a source; null where rows without a value have it
 unfoldable pub part_at : Source → List ℕ → Data → Reading Key

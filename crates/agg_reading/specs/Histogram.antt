@@ -8,7 +8,7 @@ use Rattle.agg_model.specs.declared.mapping.Mapping.{Mapping}
 use Rattle.agg_model.specs.declared.row.Scalar.{Scalar}
 use Rattle.agg_model.specs.declared.aggregation.Bounds.{Bounds}
 use Rattle.agg_model.specs.declared.aggregation.Kind.{Kind}
-use Rattle.agg_model.specs.declared.aggregation.Kind.TheVariants as kind
+use Rattle.agg_model.specs.Options.{histogram_kind}
 use Rattle.agg_reading.specs.declared.parts.NamedOrder.{NamedOrder}
 use Rattle.agg_reading.specs.Reading.{Reading, ◌>>=◌, ◌>>◌, refuse, or_refuse}
 use Rattle.agg_reading.specs.Pointer.{member_step}
@@ -76,12 +76,22 @@ histogram_rules at interval offset extended hard =
 
 -- the members beside `field`
 unfoldable pub histogram_in : ℕ × Field → List ℕ → Members → Reading (Kind × List NamedOrder)
-histogram_in f at ms = do
-  ranges ← histogram_ranges_in at ms
-  counts ← histogram_counts_in f.1.kind at ms
-  interval ← or_refuse MISSING_MEMBER at ranges.2
-  histogram_rules at interval counts.2 ranges.0 ranges.1
-  Ok (kind.Histogram f.0 interval counts.2 counts.0 ranges.0 ranges.1 ranges.3 [] counts.1, counts.3)
+histogram_in (place, field) at ms = do
+  (extended, hard, said, keyed) ← histogram_ranges_in at ms
+  (least, missing, offset, order) ← histogram_counts_in field.kind at ms
+  interval ← or_refuse MISSING_MEMBER at said
+  histogram_rules at interval offset extended hard
+  Ok (histogram_kind (record {
+    field = place;
+    interval = interval;
+    offset = offset;
+    min_doc_count = least;
+    extended = extended;
+    hard = hard;
+    keyed = keyed;
+    order = [];
+    missing = missing;
+  }), order)
 
 unfoldable pub histogram_at : Mapping → List ℕ → Data → Reading (Kind × List NamedOrder)
 histogram_at m at d = do

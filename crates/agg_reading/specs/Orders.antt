@@ -7,6 +7,7 @@ use Rattle.agg_model.specs.declared.body_refusal.TheConstants.{NOT_ONE_MEMBER, N
 use Rattle.agg_model.specs.declared.aggregation.Agg.{Agg, out-Agg}
 use Rattle.agg_model.specs.declared.aggregation.Kind.{Kind}
 use Rattle.agg_model.specs.declared.aggregation.Kind.TheVariants as kind
+use Rattle.agg_model.specs.Options.{Options, options_of, terms_kind, histogram_kind}
 use Rattle.agg_model.specs.declared.aggregation.Order.{Order}
 use Rattle.agg_model.specs.declared.aggregation.OrderBy.{OrderBy}
 use Rattle.agg_model.specs.declared.aggregation.OrderBy.TheVariants as by
@@ -84,6 +85,8 @@ resolved children done (o ∷ os) = do
   resolved children (done ++ record { by = what; descending = o.descending } ∷ []) os
 
 unfoldable pub with_order : List Order → Kind → Kind
-with_order order (kind.Terms field size shard_size least _ include exclude missing show) = kind.Terms field size shard_size least order include exclude missing show
-with_order order (kind.Histogram field interval offset least extended hard keyed _ missing) = kind.Histogram field interval offset least extended hard keyed order missing
-with_order order k = k
+with_order order k = elim (options_of k) [
+    Options.Terms t ↦ terms_kind (record t { order = order })
+  | Options.Histogram h ↦ histogram_kind (record h { order = order })
+  | _ ↦ k
+  ]

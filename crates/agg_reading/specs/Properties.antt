@@ -2,11 +2,13 @@
 -- A refusal of an index line is BAD_INDEX_LINE, with the pointer of the first thing refused.
 use Rattle.std.specs.Prelude.{ℕ, zero, suc, ◌+◌, List, [], ◌∷◌, ◌++◌, length, Option, Some, None, Ok, Bool, not, ◌&&◌, ◌==◌, if◌then◌else◌, nat_le, nat_lt, codes, is_some}
 use Rattle.std.specs.List.{list_any}
+use Rattle.std.specs.declared.cmp.Ordering.{Ordering}
 use Rattle.std.specs.Ordering.{nat_cmp, is_lt}
 use Rattle.std.specs.Cmp.Lexicographic.{slice_cmp}
 use Rattle.std.specs.Str.{bytes_eq}
 use Rattle.serde_json.specs.Data.{Data, Members, no_members, member}
 use Rattle.serde_json.specs.Find.{as_number, as_u64, get_member}
+use Rattle.list_laws.specs.Sorting.{insert_behind}
 use Rattle.agg_model.specs.declared.limits.TheConstants.{MAX_FIELD_NAME, MAX_IGNORE_ABOVE, MAX_PATHS}
 use Rattle.agg_model.specs.declared.script_refusal.TheConstants.{BAD_INDEX_LINE}
 use Rattle.agg_model.specs.declared.mapping.FieldKind.{FieldKind}
@@ -22,10 +24,13 @@ use Rattle.agg_reading.specs.Json.{object_at, text_at, known, optional}
 abbrev pub is_before : List ℕ → List ℕ → Bool
 is_before a b = is_lt (slice_cmp nat_cmp a b)
 
--- an item put in byte order of its path
+-- two items in byte order of their paths
+abbrev pub by_path : {A : Type 0} → (A → List ℕ) → A → A → Ordering
+by_path path_of x y = slice_cmp nat_cmp (path_of x) (path_of y)
+
+-- an item put in byte order of its path, behind those with that path
 unfoldable pub place : {A : Type 0} → (A → List ℕ) → A → List A → List A
-place path_of x [] = x ∷ []
-place path_of x (y ∷ ys) = if is_before (path_of x) (path_of y) then x ∷ y ∷ ys else y ∷ place path_of x ys
+place path_of = insert_behind (by_path path_of)
 
 -- 1 to MAX_FIELD_NAME bytes without a dot
 unfoldable pub is_field_name : List ℕ → Bool

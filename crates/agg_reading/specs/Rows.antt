@@ -4,6 +4,7 @@ use Rattle.std.specs.declared.cmp.Ordering.{Ordering}
 use Rattle.std.specs.declared.cmp.Ordering.TheVariants.{Equal}
 use Rattle.std.specs.Ordering.{nat_cmp, int_cmp, bool_cmp, match_ordering}
 use Rattle.std.specs.Cmp.Lexicographic.{slice_cmp}
+use Rattle.list_laws.specs.Sorting.{insert_sorted, insert_once}
 use Rattle.agg_model.specs.declared.row.Scalar.{Scalar}
 use Rattle.agg_model.specs.declared.row.Scalar.TheVariants.{Whole, Word, Flag}
 use Rattle.agg_model.specs.declared.row.FieldValues.{FieldValues}
@@ -18,15 +19,10 @@ scalar_cmp (Word v) (Word w) = slice_cmp nat_cmp v w
 scalar_cmp (Flag a) (Flag b) = bool_cmp a b
 scalar_cmp _ _ = Equal
 
--- equal words are joined, equal numbers and flags are kept
-abbrev pub beside : Scalar → List Scalar → List Scalar
-beside (Word w) ss = ss
-beside s ss = s ∷ ss
-
--- a value in its place
+-- a value in its place; equal words are joined, equal numbers and flags are kept
 unfoldable pub insert_value : Scalar → List Scalar → List Scalar
-insert_value s [] = s ∷ []
-insert_value s (t ∷ ts) = match_ordering (scalar_cmp s t) (s ∷ t ∷ ts) (beside s (t ∷ ts)) (t ∷ insert_value s ts)
+insert_value (Word w) ss = insert_once scalar_cmp (Word w) ss
+insert_value s ss = insert_sorted scalar_cmp s ss
 
 -- the values ascending, words distinct
 unfoldable pub finished_values : List Scalar → List Scalar

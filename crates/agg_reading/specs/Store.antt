@@ -1,13 +1,10 @@
 -- What bulk actions leave (Elasticsearch Reference 8, 'Bulk API', 'Index API').
-use Rattle.std.specs.Prelude.{ℕ, ◌+◌, ◌^◌, List, [], ◌∷◌, length, map, filter, sum_by, flat_map, nat_lt, Option, Some, None, Ok, Bool, true, false, ◌&&◌, ◌==◌, is_some, option_to_list, if◌then◌else◌}
+use Rattle.std.specs.Prelude.{ℕ, ◌+◌, ◌^◌, List, [], ◌∷◌, map, filter, sum_by, flat_map, nat_lt, Option, Some, None, Ok, Bool, true, false, ◌&&◌, ◌==◌, is_some, option_to_list, if◌then◌else◌}
 use Rattle.std.specs.List.{range_with_len}
 use Rattle.std.specs.Str.{bytes_eq}
 use Rattle.agg_model.specs.declared.limits.TheConstants.{WEIGHT_LIMIT}
 use Rattle.agg_model.specs.declared.item_refusal.TheConstants.{INDEX_FULL, VERSION_CONFLICT}
 use Rattle.agg_model.specs.declared.mapping.Mapping.{Mapping}
-use Rattle.agg_model.specs.declared.row.Scalar.{Scalar}
-use Rattle.agg_model.specs.declared.row.Scalar.TheVariants as scalar
-use Rattle.agg_model.specs.declared.row.FieldValues.{FieldValues}
 use Rattle.agg_model.specs.declared.row.Row.{Row, Row', Row_of-Children, end_of-Children, more_of-Children}
 use Rattle.agg_model.specs.declared.row.Children.{Children, Children', Row_of-Row, end_of-Row, more_of-Row}
 use Rattle.agg_model.specs.declared.row.Document.{Document}
@@ -19,6 +16,7 @@ use Rattle.agg_model.specs.declared.bulk.Applied.TheVariants.{Created, Updated, 
 use Rattle.agg_reading.specs.Reading.{Reading, ◌>>=◌, refuse}
 use Rattle.agg_reading.specs.Document.{document_at}
 use Rattle.agg_reading.specs.Routing.{shard_of}
+use Rattle.agg_model.specs.Weight.{field_weight}
 
 -- all ids in the order of their first accepted index or create, each with its live document
 abbrev pub Store : Type 0
@@ -37,13 +35,6 @@ unfoldable pub live_documents : Store → List Document
 live_documents store = flat_map (λ e. option_to_list e.1) store
 
 -- the weight of a document: its rows, its values, and the bytes of its words
-
-abbrev pub scalar_weight : Scalar → ℕ
-scalar_weight (scalar.Word w) = 1 + length w
-scalar_weight _ = 1
-
-abbrev pub field_weight : FieldValues → ℕ
-field_weight f = sum_by scalar_weight f.values
 
 abbrev mutual
   pub row_weight : Row → ℕ

@@ -9,7 +9,7 @@ use Rattle.agg_model.specs.declared.mapping.Mapping.{Mapping}
 use Rattle.agg_model.specs.declared.query.Probe.{Probe}
 use Rattle.agg_model.specs.declared.row.Scalar.{Scalar}
 use Rattle.agg_model.specs.declared.aggregation.Kind.{Kind}
-use Rattle.agg_model.specs.declared.aggregation.Kind.TheVariants as kind
+use Rattle.agg_model.specs.Options.{terms_kind}
 use Rattle.agg_reading.specs.declared.parts.NamedOrder.{NamedOrder}
 use Rattle.agg_reading.specs.Reading.{Reading, ◌>>=◌, ◌>>◌, or_refuse}
 use Rattle.agg_reading.specs.Json.{object_at, known, optional}
@@ -58,11 +58,21 @@ term_sizes_in at ms = do
 
 -- the members beside `field`
 unfoldable pub terms_in : ℕ × Field → List ℕ → Members → Reading (Kind × List NamedOrder)
-terms_in f at ms = do
-  lists ← term_lists_in f.1.kind at ms
-  counts ← term_counts_in f.1.kind at ms
-  sizes ← term_sizes_in at ms
-  Ok (kind.Terms f.0 sizes.0 sizes.1 counts.0 [] lists.1 (unwrap_or lists.0 []) counts.1 sizes.2, counts.2)
+terms_in (place, field) at ms = do
+  (exclude, include) ← term_lists_in field.kind at ms
+  (least, missing, order) ← term_counts_in field.kind at ms
+  (size, shard_size, show) ← term_sizes_in at ms
+  Ok (terms_kind (record {
+    field = place;
+    size = size;
+    shard_size = shard_size;
+    min_doc_count = least;
+    order = [];
+    include = include;
+    exclude = unwrap_or exclude [];
+    missing = missing;
+    show_error = show;
+  }), order)
 
 unfoldable pub terms_at : Mapping → List ℕ → Data → Reading (Kind × List NamedOrder)
 terms_at m at d = do

@@ -2,6 +2,7 @@
 use Rattle.std.specs.Prelude.{◌≡◌, refl, ℕ, ◌&&◌, List, [], ◌∷◌, ◌++◌, map, flat_map, codes}
 use Rattle.std.specs.List.{list_all}
 use Rattle.std.proofs.Common.{sym, ◌∙◌, ap}
+use Rattle.agg_evaluation.proofs.AggFolds.{fold_agg-level}
 use Rattle.serde_json.specs.Data.{Data}
 use Rattle.agg_model.specs.declared.key.Key.{Key}
 use Rattle.agg_model.specs.declared.key.Key.TheVariants as key
@@ -14,23 +15,6 @@ use Rattle.agg_evaluation.proofs.Computing.{computing}
 use Rattle.agg_model.specs.declared.answer.NodeAnswer.{NodeAnswer, out-NodeAnswer}
 use Rattle.agg_spec.specs.AnswerTree.{Printer, printer, tree_at}
 use Rattle.agg_spec.specs.RangeCheck.{Checker, checker, check_bucket, unless, sum_in_range, key_in_range, part_in_range}
-
-module _ {A : Type 0} (step : Agg-F A → A) where
-  abbrev parts : Agg → List A
-  parts (Agg' name kind n children) = fold_aggs step children
-
-  parts-roll : (name : List ℕ) (kind : Kind) (children : List Agg) → parts (roll-Agg (record { name = name; kind = kind; children = children })) ≡ map (fold_agg step) children
-  unfolding computing
-  parts-roll name kind [] = refl
-  parts-roll name kind (a ∷ rest) = ap (λ xs. fold_agg step a ∷ xs) (parts-roll name kind rest)
-
-  fold_agg-roll : (name : List ℕ) (kind : Kind) (children : List Agg)
-      → fold_agg step (roll-Agg (record { name = name; kind = kind; children = children })) ≡ step (record { name = name; kind = kind; children = map (fold_agg step) children })
-  unfolding computing
-  fold_agg-roll name kind children = ap (λ xs. step (record { name = name; kind = kind; children = xs })) (parts-roll name kind children)
-
-  pub fold_agg-level : (a : Agg) → fold_agg step a ≡ step (record { name = (out-Agg a).name; kind = (out-Agg a).kind; children = map (fold_agg step) (out-Agg a).children })
-  fold_agg-level a = ap (fold_agg step) (sym (roll-out-Agg a)) ∙ fold_agg-roll (out-Agg a).name (out-Agg a).kind (out-Agg a).children
 
 all_true : (ks : List Key) → list_all (λ b. b) (map key_in_range ks) ≡ list_all key_in_range ks
 all_true [] = refl

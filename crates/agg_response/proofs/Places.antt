@@ -4,18 +4,10 @@ use Rattle.std.specs.List.{list_all}
 use Rattle.std.proofs.Common.{◌∙◌, ap, sym, subst, drop, get_or, arith, inl, inr, Bor}
 use Rattle.std.proofs.lemmas.List.{drop_more, drop_all}
 use Rattle.std.proofs.lemmas.Option.{slice_get_within, get_or_from_slice_get, slice_get_cases}
+use Rattle.list_laws.proofs.Booleans.{and_first, and_second}
 use Rattle.agg_spec.specs.Json.{Member, with_members}
 use Rattle.serde_json.specs.Data.{Data, Members}
 use Rattle.serde_json.specs.Data.{put as with_member}
-
-and_first : (a b : Bool) → (a && b) ≡ true → a ≡ true
-and_first true b h = refl
-and_first false b h = h
-
-and_second : (a b : Bool) → (a && b) ≡ true → b ≡ true
-and_second true b h = h
-and_second false true h = refl
-and_second false false h = h
 
 module _ {X : Type 0} where
   -- the item that the loop has come to

@@ -3,17 +3,18 @@ use Rattle.std.specs.Prelude.{List, [], ◌∷◌, ◌++◌, codes}
 use Rattle.serde_json.specs.Data.{Data}
 use Rattle.agg_model.specs.declared.answer.BucketAnswer.{BucketAnswer, out-BucketAnswer}
 use Rattle.agg_model.specs.declared.aggregation.Kind.{Kind}
-use Rattle.agg_model.specs.declared.aggregation.Kind.TheVariants as kind
+use Rattle.agg_model.specs.Options.{Options, options_of}
 use Rattle.agg_spec.specs.AnswerTree.{Printer, term_members, error_members, composite_value, bucket_members}
 use Rattle.agg_spec.specs.Json.{Member, object_of}
 
 -- the members that a bucket has of its kind
 abbrev pub own_members : Kind → BucketAnswer → List Member
-own_members (kind.Terms field size shard_size min_doc_count order include exclude missing show_error) b =
-    term_members (out-BucketAnswer b).key ++ error_members show_error (out-BucketAnswer b).error
-own_members (kind.Histogram field interval offset min_doc_count extended hard keyed order missing) b = term_members (out-BucketAnswer b).key
-own_members (kind.Composite sources size after) b = (codes "key", composite_value sources (out-BucketAnswer b).key) ∷ []
-own_members _ b = []
+own_members k b = elim (options_of k) [
+    Options.Terms t ↦ term_members (out-BucketAnswer b).key ++ error_members t.show_error (out-BucketAnswer b).error
+  | Options.Histogram h ↦ term_members (out-BucketAnswer b).key
+  | Options.Composite sources size after ↦ (codes "key", composite_value sources (out-BucketAnswer b).key) ∷ []
+  | _ ↦ []
+  ]
 
 abbrev pub bucket_tree : Kind → List Printer → BucketAnswer → Data
 bucket_tree kind children b = object_of (bucket_members children (own_members kind b) b)

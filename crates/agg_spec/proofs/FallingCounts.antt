@@ -11,7 +11,7 @@ use Rattle.agg_model.specs.declared.aggregation.Order.{Order}
 use Rattle.agg_model.specs.declared.aggregation.OrderBy.TheVariants as by
 use Rattle.agg_model.specs.declared.partial.Bucket.{Bucket}
 use Rattle.agg_evaluation.specs.KeyOrder.{directed}
-use Rattle.agg_evaluation.specs.Sorting.{insert_sorted, sorted}
+use Rattle.list_laws.specs.Sorting.{insert_sorted, sorted}
 use Rattle.agg_evaluation.specs.Orders.{bucket_cmp, bucket_count}
 
 -- each bucket of the list has at most so many documents

@@ -3,27 +3,12 @@ use Rattle.std.specs.Prelude.{◌≡◌, refl, ℕ, ◌+◌, ◌||◌, Bool, tru
 use Rattle.std.specs.List.{list_all}
 use Rattle.std.proofs.Common.{sym, ◌∙◌, ap, subst, arith}
 use Rattle.std.proofs.lemmas.List.Sums.{sum_by-cons}
+use Rattle.list_laws.proofs.Booleans.{same_truth, or_right, and_left, and_right, both, true_is, holds}
 use Rattle.agg_model.specs.declared.key.Key.{Key}
 use Rattle.agg_evaluation.specs.KeyOrder.{key_eq, has_key}
 use Rattle.agg_evaluation.specs.Keys.{distinct_keys}
 use Rattle.agg_evaluation.specs.Trees.{is_ascending}
-use Rattle.agg_evaluation.proofs.KeyLists.{and_left, and_right, both, true_is, holds, key_eq-self, key_eq-exact, filter-ascending, ascending-distinct_keys, has_key-distinct_keys}
-
-key_eq-turned : (j k : Key) → T (key_eq j k) → T (key_eq k j)
-key_eq-turned j k h = subst (λ q. T (key_eq q j)) (key_eq-exact j k h) (holds _ (key_eq-self j))
-
-same_truth : (a b : Bool) → (T a → T b) → (T b → T a) → a ≡ b
-same_truth true true f g = refl
-same_truth true false f g = absurd (f tt)
-same_truth false true f g = absurd (g tt)
-same_truth false false f g = refl
-
-key_eq-sym : (j k : Key) → key_eq j k ≡ key_eq k j
-key_eq-sym j k = same_truth _ _ (key_eq-turned j k) (key_eq-turned k j)
-
-or_right : (a b : Bool) → T b → T (a || b)
-or_right true b h = tt
-or_right false b h = h
+use Rattle.agg_evaluation.proofs.KeyLists.{key_eq-self, key_eq-exact, filter-ascending, ascending-distinct_keys, has_key-distinct_keys, key_eq-sym}
 
 module _ {B : Type 0} (key : B → Key) (f : B → ℕ) where
   -- the items of a key

@@ -2,6 +2,7 @@
 use Rattle.std.specs.Prelude.{◌≡◌, refl, ℕ, zero, suc, ◌+◌, List, [], ◌∷◌, map, filter_map, Option, Some, slice_get}
 use Rattle.std.specs.List.{cons_option}
 use Rattle.std.proofs.Common.{sym, ◌∙◌, ap, arith}
+use Rattle.list_laws.proofs.Lists.{filter_map-there, slice_get-enumerated, map-map}
 use Rattle.agg_model.specs.declared.partial.Node.{Node}
 use Rattle.agg_model.specs.declared.partial.Partial.{Partial}
 use Rattle.agg_model.specs.declared.aggregation.Agg.{Agg}
@@ -10,7 +11,6 @@ use Rattle.agg_evaluation.specs.Rows.{PlacedRow}
 use Rattle.agg_evaluation.specs.Matching.{matched_roots}
 use Rattle.agg_evaluation.specs.Shard.{shard_node, shard_answer}
 use Rattle.agg_evaluation.specs.Whole.{whole_node, whole}
-use Rattle.agg_evaluation.proofs.ListLaws.{slice_get-enumerated, map-map}
 use Rattle.agg_spec.specs.Index.{Index, rows_by_shard}
 use Rattle.agg_spec.specs.Outcome.{shard_answers, answer_of}
 use Rattle.agg_spec.specs.Final.{finisher, finish_each}
@@ -30,10 +30,6 @@ mapped-at f [] j x at = absurd (let no : ⊥ = cc in no)
 mapped-at f (y ∷ ys) zero x at = let same : y ≡ x = cc in ap (λ z. Some (f z)) same
 mapped-at f (y ∷ ys) (suc j) x at = mapped-at f ys j x at
 
-all-there : {A B C : Type 0} (h : B → Option C) (f : A → B) (g : A → C) → ((x : A) → h (f x) ≡ Some (g x)) → (xs : List A) → filter_map h (map f xs) ≡ map g xs
-all-there h f g there [] = refl
-all-there h f g there (x ∷ xs) = λ i. cons_option (there x i) (all-there h f g there xs i)
-
 pub answer_of-at : (index : Index) (search : Search) (j : ℕ) (a : Agg) → slice_get search.aggs j ≡ Some a → slice_get (answer_of index search).nodes j ≡ Some (answer_of_rows a (matched_by_shard index search))
 answer_of-at index search j a at =
     let trees = shard_answers index search in
@@ -42,7 +38,7 @@ answer_of-at index search j a at =
     let node : slice_get (whole search trees).nodes j ≡ Some (whole_node a (nodes_at j)) =
     slice_get-enumerated 0 search.aggs (λ a. whole_node a.1 (nodes_at a.0)) j a at ∙ ap (λ n. Some (whole_node a (nodes_at n))) (let e : 0 + j ≡ j = omega arith in e) in
     let same : nodes_at j ≡ map (λ s. shard_node s.0 a s.1) (matched_by_shard index search) =
-    all-there (λ (t : Partial). slice_get t.nodes j) (shard_answer search) (λ all. shard_node all a (matched_roots all search.query))
+    filter_map-there (λ (t : Partial). slice_get t.nodes j) (shard_answer search) (λ all. shard_node all a (matched_roots all search.query))
     (λ all. mapped-at (λ a. shard_node all a (matched_roots all search.query)) search.aggs j a at) shards
     ∙ sym (map-map (λ s. shard_node s.0 a s.1) (λ (all : List PlacedRow). (all, matched_roots all search.query)) shards) in
     finished-at search.aggs (whole search trees).nodes j a (whole_node a (nodes_at j)) at node

@@ -13,12 +13,12 @@ use Rattle.agg_evaluation.specs.KeyOrder.{key_cmp, key_eq, has_key}
 use Rattle.agg_evaluation.specs.Rows.{PlacedRow}
 use Rattle.agg_evaluation.specs.Keys.{keys}
 use Rattle.agg_evaluation.specs.Groups.{group, all_keys, total_key_count}
-use Rattle.agg_evaluation.specs.Sorting.{sorted}
+use Rattle.list_laws.specs.Sorting.{sorted}
 use Rattle.agg_evaluation.specs.Orders.{bucket_cmp, bucket_key, bucket_count}
 use Rattle.agg_evaluation.specs.Shard.{Collector, bucket_of, trimmed_node, sorted_by_key, with_covered}
 use Rattle.agg_evaluation.specs.Trees.{is_ascending}
 use Rattle.agg_evaluation.specs.Whole.{Parts, parts, parts_at}
-use Rattle.agg_evaluation.proofs.ListLaws.{sum_by-map}
+use Rattle.list_laws.proofs.Lists.{sum_by-map}
 use Rattle.agg_evaluation.proofs.KeyLists.{filter-ascending, ascending-distinct_keys, has_key-distinct_keys}
 use Rattle.agg_evaluation.proofs.UnionLaws.{has_key-append}
 use Rattle.agg_evaluation.proofs.NodeForms.{out-Keyed}

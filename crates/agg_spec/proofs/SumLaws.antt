@@ -10,10 +10,10 @@ use Rattle.agg_model.specs.declared.answer.BucketAnswer.{BucketAnswer, out-roll-
 use Rattle.agg_model.specs.declared.answer.BucketAnswer.TheOpen.{NodeAnswer-F, BucketAnswer-F}
 use Rattle.agg_model.specs.declared.answer.NodeAnswer.{NodeAnswer, out-roll-NodeAnswer}
 use Rattle.agg_model.specs.declared.aggregation.Order.{Order}
-use Rattle.agg_evaluation.specs.Sorting.{insert_sorted, sorted}
+use Rattle.list_laws.specs.Sorting.{insert_sorted, sorted}
 use Rattle.agg_evaluation.specs.Orders.{bucket_cmp, bucket_count}
 use Rattle.agg_evaluation.specs.Whole.{Parts}
-use Rattle.agg_evaluation.proofs.ListLaws.{sum_by-map}
+use Rattle.list_laws.proofs.Lists.{sum_by-map}
 use Rattle.agg_spec.specs.Filling.{frequent}
 use Rattle.agg_spec.specs.Final.{Finisher, finish_each, finish_bucket, no_metric, terms_answer}
 use Rattle.agg_spec.specs.CountErrors.{precision_of, count_error}

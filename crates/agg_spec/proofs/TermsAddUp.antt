@@ -7,7 +7,7 @@ use Rattle.agg_evaluation.specs.Folds.{fold_aggs}
 use Rattle.agg_evaluation.specs.Rows.{PlacedRow, roots}
 use Rattle.agg_evaluation.specs.Shard.{shard_node, collector_of}
 use Rattle.agg_evaluation.specs.Whole.{parts, whole_by, shape_of}
-use Rattle.agg_evaluation.proofs.ListLaws.{sum_by-map}
+use Rattle.list_laws.proofs.Lists.{sum_by-map}
 use Rattle.agg_spec.specs.Final.{finisher_of}
 use Rattle.agg_spec.specs.TermsSums.{returned_count, other_count, below_minimum_count, minimum_of_terms, whole_of_rows, answer_of_rows, all_key_count}
 use Rattle.agg_spec.proofs.SumLaws.{terms_answer-sums}

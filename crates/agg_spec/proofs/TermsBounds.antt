@@ -12,9 +12,9 @@ use Rattle.agg_model.specs.declared.aggregation.Kind.{Kind}
 use Rattle.agg_evaluation.specs.KeyOrder.{key_eq}
 use Rattle.agg_evaluation.specs.Keys.{distinct_keys}
 use Rattle.agg_evaluation.specs.Orders.{bucket_key, bucket_count}
-use Rattle.agg_evaluation.specs.Sorting.{insert_sorted, sorted}
+use Rattle.list_laws.specs.Sorting.{insert_sorted, sorted}
 use Rattle.agg_evaluation.specs.Whole.{Parts, parts, parts_at, whole_bucket, whole_by, by_key}
-use Rattle.agg_evaluation.proofs.ListLaws.{sum_by-map, sum_by-flat_map}
+use Rattle.list_laws.proofs.Lists.{sum_by-map, sum_by-flat_map}
 use Rattle.agg_evaluation.proofs.NodeForms.{out-Keyed}
 use Rattle.agg_spec.proofs.ShardBounds.{Bounds, of_key, sum_by-filter}
 

@@ -3,6 +3,7 @@ use Rattle.std.specs.Prelude.{◌≡◌, refl, ℕ, ◌+◌, ◌-◌, ◌==◌, 
 use Rattle.std.specs.List.{last_or}
 use Rattle.std.proofs.Common.{sym, ◌∙◌, ap, arith}
 use Rattle.std.proofs.lemmas.List.Sums.{sum_by-cons, sum_by-take-le}
+use Rattle.list_laws.proofs.Lists.{length-flat_map, sum_by-map, sum_by-flat_map}
 use Rattle.agg_model.specs.declared.key.Key.{Key}
 use Rattle.agg_model.specs.declared.partial.Node.{Node}
 use Rattle.agg_model.specs.declared.aggregation.Kind.{Kind}
@@ -12,12 +13,11 @@ use Rattle.agg_evaluation.specs.Rows.{PlacedRow}
 use Rattle.agg_evaluation.specs.Keys.{keys, distinct_keys}
 use Rattle.agg_evaluation.specs.Groups.{group, all_keys, total_key_count}
 use Rattle.agg_evaluation.specs.Counters.{raised, raised_by}
-use Rattle.agg_evaluation.specs.Sorting.{sorted}
+use Rattle.list_laws.specs.Sorting.{sorted}
 use Rattle.agg_evaluation.specs.Orders.{bucket_cmp, bucket_key, bucket_count}
 use Rattle.agg_evaluation.specs.Shard.{Collector, bucket_of, trimmed_node, sorted_by_key, with_covered}
 use Rattle.agg_evaluation.specs.Whole.{Parts, parts, parts_at, whole_bucket, whole_by, by_key}
-use Rattle.agg_evaluation.proofs.ListLaws.{sum_by-map, sum_by-flat_map}
-use Rattle.agg_evaluation.proofs.CounterLaws.{counters-groups}
+use Rattle.agg_evaluation.proofs.CounterLaws.{counters-groups, raised_by-sum}
 use Rattle.agg_evaluation.proofs.NodeForms.{out-Keyed}
 use Rattle.std.specs.Ordering.{match_ordering}
 use Rattle.std.specs.declared.cmp.Ordering.TheVariants.{Less, Equal, Greater}
@@ -44,27 +44,6 @@ whole_by-count cs k trees =
 
 abbrev number : Key × ℕ → ℕ
 number c = c.1
-
-raised-sum : (k : Key) (cs : List (Key × ℕ)) → sum_by number (raised k cs) ≡ 1 + sum_by number cs
-raised-sum k [] = refl
-raised-sum k (c ∷ cs) =
-    elim (key_cmp k c.0) as (λ r. sum_by number (match_ordering r ((k, 1) ∷ c ∷ cs) ((c.0, c.1 + 1) ∷ cs) (c ∷ raised k cs)) ≡ 1 + sum_by number (c ∷ cs)) [
-      | Less ↦ sum_by-cons number (k, 1) (c ∷ cs)
-      | Equal ↦ omega (arith, sum_by-cons number (c.0, c.1 + 1) cs, sum_by-cons number c cs)
-      | Greater ↦ omega (arith, sum_by-cons number c (raised k cs), raised-sum k cs, sum_by-cons number c cs)
-    ]
-
-raised_by-sum : (ks : List Key) (cs : List (Key × ℕ)) → sum_by number (raised_by ks cs) ≡ length ks + sum_by number cs
-raised_by-sum [] cs = omega arith
-raised_by-sum (k ∷ ks) cs = omega (arith, raised_by-sum ks (raised k cs), raised-sum k cs)
-
-length-append : {A : Type 0} (xs ys : List A) → length (xs ++ ys) ≡ length xs + length ys
-length-append [] ys = omega arith
-length-append (x ∷ xs) ys = omega (arith, length-append xs ys)
-
-length-flat_map : {A B : Type 0} (f : A → List B) (xs : List A) → length (flat_map f xs) ≡ sum_by (λ x. length (f x)) xs
-length-flat_map f [] = refl
-length-flat_map f (x ∷ xs) = omega (arith, length-append (f x) (flat_map f xs), length-flat_map f xs, sum_by-cons (λ x. length (f x)) x xs)
 
 -- the sizes of the groups add up to the number of all keys
 groups-count : (all : List PlacedRow) (k : Kind) (rows : List PlacedRow) → sum_by (λ q. length (group all k rows q)) (all_keys all k rows) ≡ total_key_count all k rows

@@ -15,7 +15,7 @@ use Rattle.agg_evaluation.specs.Folds.{fold_aggs}
 use Rattle.agg_evaluation.specs.Rows.{PlacedRow, roots}
 use Rattle.agg_evaluation.specs.Groups.{group}
 use Rattle.agg_evaluation.specs.Orders.{bucket_cmp, bucket_count}
-use Rattle.agg_evaluation.specs.Sorting.{sorted}
+use Rattle.list_laws.specs.Sorting.{sorted}
 use Rattle.agg_evaluation.specs.Shard.{shard_node, collector_of}
 use Rattle.agg_evaluation.specs.Whole.{Parts, parts, whole_by, shape_of}
 use Rattle.agg_spec.specs.Filling.{frequent}

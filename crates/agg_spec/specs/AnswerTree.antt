@@ -11,7 +11,9 @@ use Rattle.agg_model.specs.declared.answer.BucketAnswer.{BucketAnswer, out-Bucke
 use Rattle.agg_model.specs.declared.answer.NodeAnswer.{NodeAnswer, out-NodeAnswer}
 use Rattle.agg_model.specs.declared.answer.BucketAnswer.TheOpen.{NodeAnswer-F}
 use Rattle.agg_model.specs.declared.aggregation.Kind.{Kind}
+use Rattle.agg_model.specs.declared.partial.Metric.{Metric}
 use Rattle.agg_model.specs.declared.aggregation.Kind.TheVariants as kind
+use Rattle.agg_model.specs.Options.{Options, options_of}
 use Rattle.agg_model.specs.declared.aggregation.CompositeSource.{CompositeSource}
 use Rattle.agg_model.specs.declared.aggregation.Agg.{Agg}
 use Rattle.agg_evaluation.specs.Folds.{fold_agg}
@@ -96,23 +98,28 @@ histogram_buckets children false buckets = array_of (map (number_bucket children
 abbrev pub value_of : Option ℤ → Data
 value_of = λ n. option_map_or whole_number n null
 
+-- what a metric of this kind shows
+abbrev pub metric_tree : Kind → Metric → Data
+metric_tree (kind.Sum field missing) m = object_of ((codes "value", whole_number m.sum) ∷ [])
+metric_tree (kind.Min field missing) m = object_of ((codes "value", value_of m.least) ∷ [])
+metric_tree (kind.Max field missing) m = object_of ((codes "value", value_of m.greatest) ∷ [])
+metric_tree (kind.Avg field missing) m = object_of (
+    (codes "count", count m.count) ∷ (codes "sum", whole_number m.sum) ∷ (codes "value_as_string", average m.sum m.count) ∷ [])
+metric_tree _ m = object_of ((codes "value", count m.count) ∷ [])
+
 abbrev pub tree_at : List Printer → Kind → NodeAnswer-F BucketAnswer NodeAnswer → Data
-tree_at children (kind.Terms field size shard_size min_doc_count order include exclude missing show_error) n = object_of (
-    (codes "buckets", array_of (map (term_bucket children show_error) n.buckets))
-    ∷ (codes "doc_count_error_upper_bound", whole_number n.error)
-    ∷ (codes "sum_other_doc_count", count n.other) ∷ [])
-tree_at children (kind.Histogram field interval offset min_doc_count extended hard keyed order missing) n =
-    object_of ((codes "buckets", histogram_buckets children keyed n.buckets) ∷ [])
-tree_at children (kind.Filters names filters other) n = object_of ((codes "buckets", filter_buckets children names other n.buckets) ∷ [])
-tree_at children (kind.Composite sources size after) n =
-    object_of (after_key sources n.buckets ++ (codes "buckets", array_of (map (composite_bucket sources children) n.buckets)) ∷ [])
-tree_at children (kind.Sum field missing) n = object_of ((codes "value", whole_number n.metric.sum) ∷ [])
-tree_at children (kind.Min field missing) n = object_of ((codes "value", value_of n.metric.least) ∷ [])
-tree_at children (kind.Max field missing) n = object_of ((codes "value", value_of n.metric.greatest) ∷ [])
-tree_at children (kind.Avg field missing) n = object_of (
-    (codes "count", count n.metric.count) ∷ (codes "sum", whole_number n.metric.sum) ∷ (codes "value_as_string", average n.metric.sum n.metric.count) ∷ [])
-tree_at children (kind.ValueCount field missing) n = object_of ((codes "value", count n.metric.count) ∷ [])
-tree_at children _ n = object_of (flat_map (bucket_members children []) n.buckets)
+tree_at children k n = elim (options_of k) [
+    Options.Terms t ↦ object_of (
+      (codes "buckets", array_of (map (term_bucket children t.show_error) n.buckets))
+      ∷ (codes "doc_count_error_upper_bound", whole_number n.error)
+      ∷ (codes "sum_other_doc_count", count n.other) ∷ [])
+  | Options.Histogram h ↦ object_of ((codes "buckets", histogram_buckets children h.keyed n.buckets) ∷ [])
+  | Options.Filters names filters other ↦ object_of ((codes "buckets", filter_buckets children names other n.buckets) ∷ [])
+  | Options.Composite sources size after ↦
+      object_of (after_key sources n.buckets ++ (codes "buckets", array_of (map (composite_bucket sources children) n.buckets)) ∷ [])
+  | Options.Metric m ↦ metric_tree k n.metric
+  | _ ↦ object_of (flat_map (bucket_members children []) n.buckets)
+  ]
 
 abbrev pub printer : Agg → Printer
 printer = fold_agg (λ a n. tree_at a.children a.kind (out-NodeAnswer n))

@@ -7,6 +7,7 @@ use Rattle.agg_model.specs.declared.breaker.Which.{Which}
 use Rattle.agg_model.specs.declared.breaker.Which.TheVariants.{Request, Fielddata, Inflight, Parent}
 use Rattle.agg_model.specs.declared.breaker.Limits.{Limits}
 use Rattle.agg_model.specs.declared.breaker.Tripped.{Tripped}
+use Rattle.agg_model.specs.Breakers.{which_of, limit_of}
 
 -- a number of bytes at each breaker
 pub record Amounts : Type 0 where
@@ -23,17 +24,6 @@ amount_at Request a = a.request
 amount_at Fielddata a = a.fielddata
 amount_at Inflight a = a.inflight
 amount_at Parent a = a.parent
-
-abbrev pub limit_at : Which → Limits → ℕ
-limit_at Request limits = limits.request
-limit_at Fielddata limits = limits.fielddata
-limit_at Inflight limits = limits.inflight
-limit_at Parent limits = limits.parent
-
-abbrev pub breaker_of : Child → Which
-breaker_of child.Request = Request
-breaker_of child.Fielddata = Fielddata
-breaker_of child.Inflight = Inflight
 
 -- more at a child and at the parent
 abbrev pub raised : Child → ℕ → Amounts → Amounts
@@ -64,7 +54,7 @@ pub data Step : Type 0 where
 abbrev pub trip_at : Limits → Amounts → Which → ℕ → Option Tripped
 trip_at limits holds which n =
     let wanted = amount_at which holds + n in
-    if nat_lt (limit_at which limits) wanted then Some (record { which = which; wanted = wanted; limit = limit_at which limits }) else None
+    if nat_lt (limit_of limits which) wanted then Some (record { which = which; wanted = wanted; limit = limit_of limits which }) else None
 
 -- the first of two refusals
 abbrev pub or_else : Option Tripped → Option Tripped → Option Tripped
@@ -73,7 +63,7 @@ or_else (Some t) later = Some t
 
 -- the refusal of a charge: by the child, or else by the parent
 abbrev pub refusal_of : Limits → Amounts → Child → ℕ → Option Tripped
-refusal_of limits holds c n = or_else (trip_at limits holds (breaker_of c) n) (trip_at limits holds Parent n)
+refusal_of limits holds c n = or_else (trip_at limits holds (which_of c) n) (trip_at limits holds Parent n)
 
 -- what is held, the sums of what was granted, and the refusal that ended it
 pub record Run : Type 0 where

@@ -10,13 +10,13 @@ use Rattle.agg_model.specs.declared.answer.BucketAnswer.{BucketAnswer, roll-Buck
 use Rattle.agg_model.specs.declared.answer.NodeAnswer.{NodeAnswer, roll-NodeAnswer}
 use Rattle.agg_model.specs.declared.answer.Answer.{Answer}
 use Rattle.agg_model.specs.declared.aggregation.Kind.{Kind}
-use Rattle.agg_model.specs.declared.aggregation.Kind.TheVariants as kind
+use Rattle.agg_model.specs.Options.{Options, options_of}
 use Rattle.agg_model.specs.declared.aggregation.Order.{Order}
 use Rattle.agg_model.specs.declared.aggregation.Agg.{Agg}
 use Rattle.agg_model.specs.declared.aggregation.Agg.TheOpen.{Agg-F}
 use Rattle.agg_model.specs.declared.aggregation.Search.{Search}
 use Rattle.agg_evaluation.specs.Folds.{fold_agg}
-use Rattle.agg_evaluation.specs.Sorting.{sorted}
+use Rattle.list_laws.specs.Sorting.{sorted}
 use Rattle.agg_evaluation.specs.Orders.{bucket_cmp, bucket_key, bucket_count, composite_cmp}
 use Rattle.agg_evaluation.specs.Whole.{Parts, parts, metric_sum, whole_by, shape_of}
 use Rattle.agg_spec.specs.CountErrors.{precision_of, count_error}
@@ -68,19 +68,16 @@ abbrev pub empty_bucket : List Finisher → Key → Bucket
 empty_bucket children key = record { key = key; count = 0; covered = 0; children = map (λ c. c.whole []) children }
 
 abbrev pub finish_at : List ℕ → List Finisher → Kind → Parts → NodeAnswer
-finish_at name children (kind.Terms field size shard_size min_doc_count order include exclude missing show_error) p =
-    terms_answer name children size min_doc_count order p
-finish_at name children (kind.Histogram field interval offset min_doc_count extended hard keyed order missing) p =
-    buckets_answer name (map (finish_bucket children None) (sorted (bucket_cmp (map (λ c. c.kind) children) order)
-    (filled (empty_bucket children) interval offset min_doc_count extended hard p.buckets)))
-finish_at name children (kind.Composite sources size after) p =
-    buckets_answer name (map (finish_bucket children None) (take size (sorted (λ a b. composite_cmp sources (bucket_key a) (bucket_key b)) p.buckets)))
-finish_at name children (kind.Sum field missing) p = metric_answer name p.metrics
-finish_at name children (kind.Min field missing) p = metric_answer name p.metrics
-finish_at name children (kind.Max field missing) p = metric_answer name p.metrics
-finish_at name children (kind.Avg field missing) p = metric_answer name p.metrics
-finish_at name children (kind.ValueCount field missing) p = metric_answer name p.metrics
-finish_at name children _ p = buckets_answer name (map (finish_bucket children None) p.buckets)
+finish_at name children k p = elim (options_of k) [
+    Options.Terms t ↦ terms_answer name children t.size t.min_doc_count t.order p
+  | Options.Histogram h ↦
+      buckets_answer name (map (finish_bucket children None) (sorted (bucket_cmp (map (λ c. c.kind) children) h.order)
+      (filled (empty_bucket children) h.interval h.offset h.min_doc_count h.extended h.hard p.buckets)))
+  | Options.Composite sources size after ↦
+      buckets_answer name (map (finish_bucket children None) (take size (sorted (λ a b. composite_cmp sources (bucket_key a) (bucket_key b)) p.buckets)))
+  | Options.Metric m ↦ metric_answer name p.metrics
+  | _ ↦ buckets_answer name (map (finish_bucket children None) p.buckets)
+  ]
 
 abbrev pub finisher_of : Agg-F Finisher → Finisher
 finisher_of a = record {

@@ -8,12 +8,12 @@ use Rattle.agg_model.specs.declared.partial.Node.{Node}
 use Rattle.agg_model.specs.declared.partial.Partial.{Partial}
 use Rattle.agg_model.specs.declared.aggregation.Bounds.{Bounds}
 use Rattle.agg_model.specs.declared.aggregation.Kind.{Kind}
-use Rattle.agg_model.specs.declared.aggregation.Kind.TheVariants as kind
+use Rattle.agg_model.specs.Options.{Options, options_of}
 use Rattle.agg_model.specs.declared.aggregation.Agg.{Agg}
 use Rattle.agg_model.specs.declared.aggregation.Agg.TheOpen.{Agg-F}
 use Rattle.agg_model.specs.declared.aggregation.Search.{Search}
 use Rattle.agg_evaluation.specs.Folds.{fold_agg}
-use Rattle.agg_evaluation.specs.Sorting.{sorted}
+use Rattle.list_laws.specs.Sorting.{sorted}
 use Rattle.agg_evaluation.specs.Keys.{interval_start}
 use Rattle.agg_evaluation.specs.Orders.{bucket_cmp, bucket_key, composite_cmp}
 use Rattle.agg_evaluation.specs.Whole.{Parts, parts, whole_by, shape_of}
@@ -61,16 +61,16 @@ abbrev pub below_empty : List Plan → ℕ
 below_empty children = plan_each children (map (λ c. c.whole []) children)
 
 abbrev pub plan_at : List Plan → Kind → Parts → ℕ
-plan_at children (kind.Terms field size shard_size min_doc_count order include exclude missing show_error) p =
-    with_children children (take size (sorted (bucket_cmp (map (λ c. c.kind) children) order) (frequent min_doc_count p.buckets)))
-plan_at children (kind.Histogram field interval offset min_doc_count extended hard keyed order missing) p =
-    if min_doc_count == 0 then
-    (let filled = filled_count interval offset extended hard (filter_map (λ b. number_of_key (bucket_key b)) p.buckets) in
-    with_children children p.buckets + (filled - length p.buckets) * (1 + below_empty children))
-    else with_children children (frequent min_doc_count p.buckets)
-plan_at children (kind.Composite sources size after) p =
-    with_children children (take size (sorted (λ a b. composite_cmp sources (bucket_key a) (bucket_key b)) p.buckets))
-plan_at children k p = member_count k p.buckets + sum (map (λ b. plan_each children b.children) p.buckets)
+plan_at children k p = elim (options_of k) [
+    Options.Terms t ↦ with_children children (take t.size (sorted (bucket_cmp (map (λ c. c.kind) children) t.order) (frequent t.min_doc_count p.buckets)))
+  | Options.Histogram h ↦
+      if h.min_doc_count == 0 then
+      (let filled = filled_count h.interval h.offset h.extended h.hard (filter_map (λ b. number_of_key (bucket_key b)) p.buckets) in
+      with_children children p.buckets + (filled - length p.buckets) * (1 + below_empty children))
+      else with_children children (frequent h.min_doc_count p.buckets)
+  | Options.Composite sources size after ↦ with_children children (take size (sorted (λ a b. composite_cmp sources (bucket_key a) (bucket_key b)) p.buckets))
+  | _ ↦ member_count k p.buckets + sum (map (λ b. plan_each children b.children) p.buckets)
+  ]
 
 abbrev pub plan_of : Agg-F Plan → Plan
 plan_of a = record {

@@ -1,6 +1,5 @@
 -- What the statistics line may say after all searches ('Circuit breaker settings'; 'Nodes stats API', breakers).
 use Rattle.std.specs.Prelude.{◌≡◌, ◌≤◌, ℕ, ◌+◌, min, List, [], ◌∷◌, map, flat_map, length, sum, zip}
-use Rattle.agg_model.specs.declared.costs.TheConstants.{FIELDDATA_OVERHEAD, INFLIGHT_OVERHEAD, PARENT_OVERHEAD, REQUEST_OVERHEAD}
 use Rattle.agg_model.specs.declared.breaker.Limits.{Limits}
 use Rattle.agg_model.specs.declared.breaker.BreakerStats.{BreakerStats}
 use Rattle.agg_model.specs.declared.breaker.Totals.{Totals}
@@ -10,26 +9,34 @@ use Rattle.agg_model.specs.declared.outcome.Outcome.TheVariants as ended
 use Rattle.agg_spec.specs.Index.{Index}
 use Rattle.agg_spec.specs.BucketCount.{greatest_count}
 use Rattle.agg_spec.specs.Outcome.{Request}
-use Rattle.agg_spec.specs.Charges.{Amounts, no_amounts, one_at, amounts_sum}
+use Rattle.agg_spec.specs.Charges.{Amounts, no_amounts, amount_at, one_at, amounts_sum}
 use Rattle.agg_spec.specs.Solo.{columns_held, solo_run, trips_of}
 use Rattle.agg_spec.specs.Wave.{body_refusals, body_charge}
 use Rattle.agg_spec.specs.Granted.{spent_on_bodies, spent_on_searches, least_on_searches}
+use Rattle.agg_model.specs.Breakers.{limit_of, overhead_of}
+use Rattle.agg_model.specs.declared.breaker.Which.{Which}
+use Rattle.agg_model.specs.declared.breaker.Which.TheVariants as at
 
 -- totals stop at the greatest number of 64 bits
 abbrev pub total : ℕ → ℕ
 total n = min n greatest_count
 
-abbrev pub breaker_stats : ℕ → ℕ → ℕ → ℕ → ℕ → BreakerStats
-breaker_stats limit estimated granted overhead tripped =
-    record { limit = limit; estimated = estimated; granted = total granted; overhead = overhead; tripped = total tripped }
+abbrev pub breaker_stats : Limits → Which → ℕ → Amounts → Amounts → BreakerStats
+breaker_stats limits which held granted trips = record {
+  limit = limit_of limits which;
+  estimated = held;
+  granted = total (amount_at which granted);
+  overhead = overhead_of which;
+  tripped = total (amount_at which trips);
+}
 
 -- the statistics at the end, when the columns' charge alone is held
 abbrev pub totals_of : Limits → ℕ → Amounts → Amounts → Totals
 totals_of limits held granted trips = record {
-  request = breaker_stats limits.request 0 granted.request REQUEST_OVERHEAD trips.request;
-  fielddata = breaker_stats limits.fielddata held granted.fielddata FIELDDATA_OVERHEAD trips.fielddata;
-  inflight = breaker_stats limits.inflight 0 granted.inflight INFLIGHT_OVERHEAD trips.inflight;
-  parent = breaker_stats limits.parent held granted.parent PARENT_OVERHEAD trips.parent;
+  request = breaker_stats limits at.Request 0 granted trips;
+  fielddata = breaker_stats limits at.Fielddata held granted trips;
+  inflight = breaker_stats limits at.Inflight 0 granted trips;
+  parent = breaker_stats limits at.Parent held granted trips;
 }
 
 abbrev pub sum_of_amounts : List Amounts → Amounts

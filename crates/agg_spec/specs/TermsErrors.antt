@@ -5,7 +5,7 @@ use Rattle.agg_model.specs.declared.answer.BucketAnswer.{BucketAnswer, out-Bucke
 use Rattle.agg_model.specs.declared.aggregation.Order.{Order}
 use Rattle.agg_model.specs.declared.aggregation.OrderBy.TheVariants.{Count}
 use Rattle.agg_model.specs.declared.aggregation.Kind.{Kind}
-use Rattle.agg_model.specs.declared.aggregation.Kind.TheVariants as kind
+use Rattle.agg_model.specs.Options.{Options, options_of}
 use Rattle.agg_model.specs.declared.aggregation.Agg.{Agg, out-Agg}
 use Rattle.agg_evaluation.specs.Rows.{PlacedRow}
 use Rattle.agg_evaluation.specs.Groups.{group}
@@ -16,8 +16,7 @@ BeginsByCount (o ∷ later) = o ≡ record { by = Count; descending = true }
 
 -- terms whose first order is by descending count, of which a shard returns at least one
 abbrev pub IsTermsByCount : Kind → Type 0
-IsTermsByCount (kind.Terms field size shard_size min_doc_count order include exclude missing show_error) = (0 < shard_size) × BeginsByCount order
-IsTermsByCount _ = ⊥
+IsTermsByCount k = elim (options_of k) [ Options.Terms t ↦ (0 < t.shard_size) × BeginsByCount t.order | _ ↦ ⊥ ]
 
 -- how many rows of all shards have the key: for each shard all its rows, and those that the aggregation is handed
 abbrev pub true_group_count : Agg → List (List PlacedRow × List PlacedRow) → Key → ℕ

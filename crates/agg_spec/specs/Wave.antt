@@ -16,7 +16,8 @@ use Rattle.agg_evaluation.specs.Cost.{cost}
 use Rattle.agg_evaluation.specs.Trace.{peak}
 use Rattle.agg_spec.specs.Index.{Index, rows_by_shard}
 use Rattle.agg_spec.specs.Outcome.{Request, outcome, shard_answers}
-use Rattle.agg_spec.specs.Charges.{refusal_of, limit_at}
+use Rattle.agg_spec.specs.Charges.{refusal_of}
+use Rattle.agg_model.specs.Breakers.{limit_of}
 
 -- the search that tasks run for: none where the body was refused or is too wide
 abbrev pub running : Result Search Refused → Outcome → Option Search
@@ -85,7 +86,7 @@ module _ (settings : Settings) (index : Index) (held : ℕ) where
   pub record IsSeenTrip (ceiling : ℕ) (request : Request) (t : Tripped) : Type 0 where
     pub runs : IsTrue (is_some (running_search settings index request))
     pub breaker : (t.which ≡ AtRequest) ⊎ (t.which ≡ AtParent)
-    pub limit : t.limit ≡ limit_at t.which settings.limits
+    pub limit : t.limit ≡ limit_of settings.limits t.which
     pub above : t.limit < t.wanted
     pub within : t.wanted ≤ ceiling
 

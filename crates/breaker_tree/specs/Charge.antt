@@ -8,7 +8,8 @@ use Rattle.agg_model.specs.declared.breaker.Which.TheVariants.{Parent}
 use Rattle.agg_model.specs.declared.breaker.Tripped.{Tripped}
 use Rattle.breaker_words.specs.declared.trial.Trial.TheVariants.{Rest}
 use Rattle.breaker_words.specs.declared.view.View.{View}
-use Rattle.breaker_words.specs.Breakers.{which_of, limit_of, amount_at, counter_value}
+use Rattle.breaker_words.specs.Breakers.{amount_at, counter_value}
+use Rattle.agg_model.specs.Breakers.{which_of, limit_of}
 use Rattle.breaker_words.specs.Views.{hold_of, granted_of, trips_of, most_of, seen_of}
 
 -- the pass is at rest again, with the same cap under the same ceiling

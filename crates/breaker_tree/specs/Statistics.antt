@@ -1,21 +1,13 @@
 -- The statistics of the four breakers, as a pass that has the whole cap shows them.
 -- Elasticsearch Reference 8, 'Nodes stats API', 'breakers'.
-use Rattle.std.specs.Prelude.{ℕ}
 use Rattle.agg_model.specs.declared.breaker.Limits.{Limits}
 use Rattle.agg_model.specs.declared.breaker.Which.{Which}
 use Rattle.agg_model.specs.declared.breaker.Which.TheVariants.{Request, Fielddata, Inflight, Parent}
 use Rattle.agg_model.specs.declared.breaker.BreakerStats.{BreakerStats}
 use Rattle.agg_model.specs.declared.breaker.Totals.{Totals}
 use Rattle.breaker_words.specs.declared.view.View.{View}
-use Rattle.breaker_words.specs.Breakers.{limit_of}
+use Rattle.agg_model.specs.Breakers.{limit_of, overhead_of}
 use Rattle.breaker_words.specs.Views.{hold_of, granted_of, trips_of}
-
--- in per cent
-abbrev pub overhead_of : Which → ℕ
-overhead_of Request = 100
-overhead_of Fielddata = 103
-overhead_of Inflight = 200
-overhead_of Parent = 100
 
 abbrev pub stats_of : Limits → View → Which → BreakerStats
 stats_of l v x = record { limit = limit_of l x; estimated = hold_of v x; granted = granted_of v x; overhead = overhead_of x; tripped = trips_of v x }

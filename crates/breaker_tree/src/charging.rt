@@ -1,6 +1,6 @@
 // A charge is a step at the child and then one at the parent, each taken back where the next is refused.
 ghost use Rattle.std.specs.Prelude.{◌≡◌, ◌+◌, ◌≤◌, IfErr, IfOk, OnErr, OnOk};
-ghost use Rattle.breaker_words.specs.Breakers.{which_of};
+ghost use Rattle.agg_model.specs.Breakers.{which_of};
 ghost use Rattle.breaker_words.specs.Views.{hold_of};
 ghost use Rattle.breaker_words.specs.Passes.{IsOf};
 ghost use Rattle.breaker_tree.specs.Charge.{IsTripped, IsCharged, IsGivenBack, answer_alone};

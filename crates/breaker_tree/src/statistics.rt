@@ -1,7 +1,8 @@
 // What a pass that has the whole cap shows of the four breakers.
 ghost use Rattle.std.specs.Prelude.{◌≡◌};
 ghost use Rattle.breaker_words.specs.Passes.{IsOf};
-ghost use Rattle.breaker_tree.specs.Statistics.{overhead_of, stats_of, totals_of};
+ghost use Rattle.breaker_tree.specs.Statistics.{stats_of, totals_of};
+ghost use Rattle.agg_model.specs.Breakers.{overhead_of};
 
 use agg_model::{BreakerStats, Totals, Which};
 use breaker_words::{Pass, Trial, Words, look};

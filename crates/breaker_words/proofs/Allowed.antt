@@ -7,7 +7,8 @@ use Rattle.agg_model.specs.declared.breaker.Which.{Which}
 use Rattle.agg_model.specs.declared.breaker.Which.TheVariants.{Request}
 use Rattle.breaker_words.specs.declared.trial.Trial.TheVariants.{Rest, ChildGranted, ParentRefused, ParentGiven}
 use Rattle.breaker_words.specs.declared.view.View.{View}
-use Rattle.breaker_words.specs.Breakers.{place, which_of, words_of}
+use Rattle.breaker_words.specs.Breakers.{place, words_of}
+use Rattle.agg_model.specs.Breakers.{which_of}
 use Rattle.breaker_words.specs.Views.{hold_of, most_of, spent_view}
 use Rattle.breaker_words.specs.Trials.{is_returning}
 use Rattle.breaker_words.specs.AfterStep.{after_try_child, after_take_back_child, after_try_parent, after_take_back_parent, after_give_parent, after_give_child, after_set_ceiling, after_split, split_off, after_join}

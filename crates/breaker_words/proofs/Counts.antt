@@ -14,7 +14,8 @@ use Rattle.breaker_words.specs.declared.trial.Trial.TheVariants.{Rest, ChildRefu
 use Rattle.breaker_words.specs.declared.view.Accounts.{Accounts}
 use Rattle.breaker_words.specs.declared.view.View.{View}
 use Rattle.std.specs.List.{sum_by}
-use Rattle.breaker_words.specs.Breakers.{amount_at, which_of, limit_of}
+use Rattle.breaker_words.specs.Breakers.{amount_at}
+use Rattle.agg_model.specs.Breakers.{which_of, limit_of}
 use Rattle.breaker_words.specs.Accounts.{account, put, empty_accounts, noted_account, tripped_account, lowered_account}
 use Rattle.breaker_words.specs.Views.{granted_of, trips_of, first_view, spent_view}
 use Rattle.breaker_words.specs.Trials.{is_rest, is_child_refused, is_child_granted, is_returning, is_parent_refused, is_given}

@@ -7,7 +7,7 @@ use Rattle.agg_model.specs.declared.breaker.Which.{Which}
 use Rattle.agg_model.specs.declared.breaker.Which.TheVariants.{Parent}
 use Rattle.breaker_words.specs.declared.trial.Trial.TheVariants.{Rest, ChildGranted, ParentGiven}
 use Rattle.breaker_words.specs.declared.view.View.{View}
-use Rattle.breaker_words.specs.Breakers.{which_of}
+use Rattle.agg_model.specs.Breakers.{which_of}
 use Rattle.breaker_words.specs.Views.{hold_of, most_of}
 use Rattle.breaker_words.specs.AfterStep.{after_try_child, after_try_parent, after_set_ceiling, after_split, split_off, after_join}
 use Rattle.breaker_words.specs.Soundness.{IsConsistent}

@@ -10,7 +10,8 @@ use Rattle.agg_model.specs.declared.breaker.Which.{Which}
 use Rattle.agg_model.specs.declared.breaker.Which.TheVariants.{Request, Fielddata, Inflight, Parent}
 use Rattle.breaker_words.specs.declared.trial.Trial.TheVariants.{Rest, ChildRefused, ChildGranted, ParentRefused, ChildReturning, ParentGiven}
 use Rattle.breaker_words.specs.declared.view.View.{View}
-use Rattle.breaker_words.specs.Breakers.{amount_at, place, which_of, words_of}
+use Rattle.breaker_words.specs.Breakers.{amount_at, place, words_of}
+use Rattle.agg_model.specs.Breakers.{which_of}
 use Rattle.breaker_words.specs.Views.{hold_of, most_of, seen_of, spent_view}
 use Rattle.breaker_words.specs.Trials.{standing_of, is_rest, is_child_granted, is_returning, is_parent_refused, is_given}
 use Rattle.breaker_words.specs.AfterStep.{after_try_child, after_take_back_child, after_try_parent, after_take_back_parent, after_give_parent, after_give_child, after_set_ceiling, after_split, split_off, after_join}

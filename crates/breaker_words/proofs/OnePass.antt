@@ -10,7 +10,8 @@ use Rattle.breaker_words.specs.declared.trial.Trial.TheVariants.{Rest, ChildRefu
 use Rattle.breaker_words.specs.declared.view.Account.{Account}
 use Rattle.breaker_words.specs.declared.view.Accounts.{Accounts}
 use Rattle.breaker_words.specs.declared.view.View.{View}
-use Rattle.breaker_words.specs.Breakers.{amount_at, which_of, limit_of}
+use Rattle.breaker_words.specs.Breakers.{amount_at}
+use Rattle.agg_model.specs.Breakers.{which_of, limit_of}
 use Rattle.breaker_words.specs.Accounts.{hold_in, children_in, account, put, noted_account, tripped_account, lowered_account}
 use Rattle.breaker_words.specs.Views.{hold_of, most_of}
 use Rattle.breaker_words.specs.Trials.{child_standing, parent_standing, child_only, is_rest, is_child_refused, is_child_granted, is_returning, is_parent_refused, is_given, HasAmount}

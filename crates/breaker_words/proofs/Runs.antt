@@ -11,7 +11,7 @@ use Rattle.breaker_words.specs.declared.trial.Trial.{Trial}
 use Rattle.breaker_words.specs.declared.trial.Trial.TheVariants.{Rest}
 use Rattle.breaker_words.specs.declared.view.View.{View}
 use Rattle.std.specs.List.{sum_by}
-use Rattle.breaker_words.specs.Breakers.{which_of}
+use Rattle.agg_model.specs.Breakers.{which_of}
 use Rattle.breaker_words.specs.Accounts.{hold_in, account, empty_accounts}
 use Rattle.breaker_words.specs.Views.{hold_of, most_of, seen_of, view_of, first_view, spent_view}
 use Rattle.breaker_words.specs.Trials.{standing_of, in_force_of, child_standing, child_only, HasAmount}

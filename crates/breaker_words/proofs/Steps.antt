@@ -10,7 +10,8 @@ use Rattle.agg_model.specs.declared.breaker.Which.TheVariants.{Parent}
 use Rattle.breaker_words.specs.declared.trial.Trial.{Trial}
 use Rattle.breaker_words.specs.declared.trial.Trial.TheVariants.{Rest, ChildRefused, ChildGranted, ParentRefused, ChildReturning, ParentGiven}
 use Rattle.breaker_words.specs.declared.view.View.{View}
-use Rattle.breaker_words.specs.Breakers.{amount_at, which_of, limit_of}
+use Rattle.breaker_words.specs.Breakers.{amount_at}
+use Rattle.agg_model.specs.Breakers.{which_of, limit_of}
 use Rattle.breaker_words.specs.Accounts.{hold_in, account, put, noted_account, lowered_account}
 use Rattle.breaker_words.specs.Views.{most_of, seen_of}
 use Rattle.breaker_words.specs.Trials.{in_force_of, child_in_force, child_standing, parent_standing, child_only, is_rest, is_child_granted, is_returning, is_parent_refused, is_given, HasAmount}

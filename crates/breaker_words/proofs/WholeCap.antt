@@ -9,7 +9,7 @@ use Rattle.breaker_words.specs.declared.trial.Trial.{Trial}
 use Rattle.breaker_words.specs.declared.trial.Trial.TheVariants.{Rest, ChildRefused, ChildGranted, ParentRefused, ChildReturning, ParentGiven}
 use Rattle.breaker_words.specs.declared.view.View.{View}
 use Rattle.std.specs.List.{sum_by}
-use Rattle.breaker_words.specs.Breakers.{which_of, limit_of}
+use Rattle.agg_model.specs.Breakers.{which_of, limit_of}
 use Rattle.breaker_words.specs.Views.{hold_of, most_of, seen_of}
 use Rattle.breaker_words.specs.Trials.{standing_of, in_force_of}
 use Rattle.breaker_words.specs.Moves.{BreakerState}

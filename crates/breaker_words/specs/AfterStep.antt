@@ -7,7 +7,7 @@ use Rattle.agg_model.specs.declared.breaker.Which.TheVariants.{Parent}
 use Rattle.breaker_words.specs.declared.trial.Trial.TheVariants.{Rest, ChildRefused, ChildGranted, ParentRefused, ChildReturning, ParentGiven}
 use Rattle.breaker_words.specs.declared.view.Accounts.{Accounts}
 use Rattle.breaker_words.specs.declared.view.View.{View}
-use Rattle.breaker_words.specs.Breakers.{which_of, limit_of}
+use Rattle.agg_model.specs.Breakers.{which_of, limit_of}
 use Rattle.breaker_words.specs.Accounts.{account, put, raised_account, lowered_account, tripped_account, noted_account, marked_account, joined_account}
 use Rattle.breaker_words.specs.Trials.{is_child_refused}
 use Rattle.breaker_words.specs.Views.{view_of}

@@ -1,16 +1,8 @@
 -- The four breakers: three children and their parent, where their words stand, and their limits.
 -- Elasticsearch Reference 8, 'Circuit breaker settings'.
 use Rattle.std.specs.Prelude.{ℕ, min, List, [], ◌∷◌}
-use Rattle.agg_model.specs.declared.breaker.Limits.{Limits}
-use Rattle.agg_model.specs.declared.breaker.Child.{Child}
-use Rattle.agg_model.specs.declared.breaker.Child.TheVariants as child
 use Rattle.agg_model.specs.declared.breaker.Which.{Which}
 use Rattle.agg_model.specs.declared.breaker.Which.TheVariants.{Request, Fielddata, Inflight, Parent}
-
-abbrev pub which_of : Child → Which
-which_of child.Request = Request
-which_of child.Fielddata = Fielddata
-which_of child.Inflight = Inflight
 
 -- where a breaker's word stands in the table; the ceiling's word stands behind them, at 4
 abbrev pub place : Which → ℕ
@@ -22,12 +14,6 @@ place Parent = 3
 -- the words of the table, given what each breaker's word is
 abbrev pub words_of : (Which → ℕ) → ℕ → List ℕ
 words_of f t = f Request ∷ f Fielddata ∷ f Inflight ∷ f Parent ∷ t ∷ []
-
-abbrev pub limit_of : Limits → Which → ℕ
-limit_of l Request = l.request
-limit_of l Fielddata = l.fielddata
-limit_of l Inflight = l.inflight
-limit_of l Parent = l.parent
 
 -- the amount a at the breaker w, and nothing at the others
 abbrev pub amount_at : Which → ℕ → Which → ℕ

@@ -9,7 +9,8 @@ use Rattle.agg_model.specs.declared.breaker.Which.TheVariants.{Parent}
 use Rattle.breaker_words.specs.declared.trial.Trial.{Trial}
 use Rattle.breaker_words.specs.declared.trial.Trial.TheVariants.{ChildRefused, ParentRefused}
 use Rattle.breaker_words.specs.declared.view.View.{View}
-use Rattle.breaker_words.specs.Breakers.{which_of, limit_of, amount_at}
+use Rattle.breaker_words.specs.Breakers.{amount_at}
+use Rattle.agg_model.specs.Breakers.{which_of, limit_of}
 use Rattle.breaker_words.specs.Trials.{is_child_granted}
 use Rattle.breaker_words.specs.Moves.{BreakerState, Move, try_child, try_parent, move, may_try_child}
 

@@ -8,7 +8,8 @@ use Rattle.agg_model.specs.declared.breaker.Child.{Child}
 use Rattle.agg_model.specs.declared.breaker.Which.{Which}
 use Rattle.agg_model.specs.declared.breaker.Which.TheVariants.{Parent}
 use Rattle.breaker_words.specs.declared.view.View.{View}
-use Rattle.breaker_words.specs.Breakers.{which_of, amount_at}
+use Rattle.breaker_words.specs.Breakers.{amount_at}
+use Rattle.agg_model.specs.Breakers.{which_of}
 use Rattle.breaker_words.specs.Views.{hold_of, first_view, spent_view}
 use Rattle.breaker_words.specs.Trials.{is_rest, is_child_granted, is_returning, is_parent_refused, is_given}
 use Rattle.breaker_words.specs.AfterStep.{after_set_ceiling, after_split, split_off, after_join, after_try_child, after_take_back_child, after_try_parent, after_take_back_parent, after_give_parent, after_give_child}

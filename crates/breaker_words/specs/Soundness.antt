@@ -7,7 +7,7 @@ use lib.ListN.{get_elem?}
 use Rattle.agg_model.specs.declared.breaker.Limits.{Limits}
 use Rattle.agg_model.specs.declared.breaker.Which.{Which}
 use Rattle.breaker_words.specs.declared.view.View.{View}
-use Rattle.breaker_words.specs.Breakers.{which_of, limit_of}
+use Rattle.agg_model.specs.Breakers.{which_of, limit_of}
 use Rattle.breaker_words.specs.Accounts.{children_in}
 use Rattle.breaker_words.specs.Views.{hold_of, most_of, seen_of, spent_view}
 use Rattle.breaker_words.specs.Trials.{HasAmount, child_standing, child_only, standing_of, in_force_of}

@@ -6,7 +6,8 @@ use Rattle.agg_model.specs.declared.breaker.Child.{Child}
 use Rattle.agg_model.specs.declared.breaker.Which.{Which}
 use Rattle.agg_model.specs.declared.breaker.Which.TheVariants.{Parent}
 use Rattle.breaker_words.specs.declared.view.View.{View}
-use Rattle.breaker_words.specs.Breakers.{which_of, place}
+use Rattle.breaker_words.specs.Breakers.{place}
+use Rattle.agg_model.specs.Breakers.{which_of}
 use Rattle.breaker_words.specs.Views.{most_of, seen_of}
 use Rattle.breaker_words.specs.AfterStep.{after_set_ceiling, after_try_child, after_take_back_child, after_try_parent, after_take_back_parent, after_give_parent, after_give_child}
 use Rattle.breaker_words.specs.Moves.{Move, run}

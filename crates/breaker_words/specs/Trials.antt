@@ -6,7 +6,8 @@ use Rattle.agg_model.specs.declared.breaker.Which.TheVariants.{Parent}
 use Rattle.breaker_words.specs.declared.trial.Trial.{Trial}
 use Rattle.breaker_words.specs.declared.trial.Trial.TheVariants.{Rest, ChildRefused, ChildGranted, ParentRefused, ChildReturning, ParentGiven}
 use Rattle.breaker_words.specs.declared.view.View.{View}
-use Rattle.breaker_words.specs.Breakers.{which_of, amount_at}
+use Rattle.breaker_words.specs.Breakers.{amount_at}
+use Rattle.agg_model.specs.Breakers.{which_of}
 use Rattle.breaker_words.specs.Views.{hold_of}
 
 -- what a trial of a has standing in the child's word, beside the hold

@@ -1,6 +1,7 @@
 // The breakers by name: a child as one of the four, where each has its word, and its limit.
 ghost use Rattle.std.specs.Prelude.{◌≡◌, ◌<◌};
-ghost use Rattle.breaker_words.specs.Breakers.{which_of, place, limit_of};
+ghost use Rattle.breaker_words.specs.Breakers.{place};
+ghost use Rattle.agg_model.specs.Breakers.{which_of, limit_of};
 
 use agg_model::{Child, Limits, Which};
 

@@ -167,7 +167,7 @@ impl Accounts {
 impl View {
     ghost use Rattle.std.specs.Prelude.{nat_le};
     ghost use Rattle.agg_model.specs.declared.breaker.Which.{Which};
-    ghost use Rattle.breaker_words.specs.Breakers.{which_of, limit_of};
+    ghost use Rattle.agg_model.specs.Breakers.{which_of, limit_of};
     ghost use Rattle.breaker_words.specs.Views.{view_of, hold_of, most_of};
     ghost use Rattle.breaker_words.specs.AfterStep.{after_join, after_try_child, after_take_back_child, after_try_parent, after_take_back_parent, after_give_parent, after_give_child, after_set_ceiling};
 

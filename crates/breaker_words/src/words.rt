@@ -2,7 +2,7 @@
 ghost use Rattle.std.specs.Prelude.{◌≡◌, ◌≢◌, ◌+◌, ◌≤◌, ◌<◌, ◌^◌, [], IfOk, IsTrue, nat_le};
 ghost use Rattle.agg_model.specs.declared.breaker.Child.{Child};
 ghost use Rattle.agg_model.specs.declared.breaker.Which.{Which};
-ghost use Rattle.breaker_words.specs.Breakers.{which_of, limit_of};
+ghost use Rattle.agg_model.specs.Breakers.{which_of, limit_of};
 ghost use Rattle.breaker_words.specs.Views.{first_view, hold_of, granted_of, trips_of, most_of, seen_of};
 ghost use Rattle.breaker_words.specs.Trials.{is_returning};
 ghost use Rattle.breaker_words.specs.AfterStep.{after_try_child, after_take_back_child, after_try_parent, after_take_back_parent, after_give_parent, after_give_child, after_set_ceiling, after_split, split_off, after_join};

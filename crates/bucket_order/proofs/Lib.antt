@@ -1,4 +1,3 @@
-pub mod SortLaws
 pub mod TotalLaws
 pub mod SameOrder
 pub mod CompositeLaws

@@ -5,7 +5,7 @@ use Rattle.std.specs.declared.cmp.Ordering.{Ordering}
 use Rattle.std.specs.Ordering.{is_le}
 use Rattle.std.proofs.Common.{sym, ◌∙◌, ap, subst, cond, ⊎_elim}
 use Rattle.std.proofs.lemmas.Bool.{cases_Bool, and_parts, and_from}
-use Rattle.agg_evaluation.specs.Sorting.{sorted, insert_sorted}
+use Rattle.list_laws.specs.Sorting.{sorted, insert_sorted}
 
 module _ {A : Type 0} (p : A → Bool) (cmp : A → A → Ordering) where
   pub list_all-insert : (x : A) (ys : List A) → p x ≡ true → list_all p ys ≡ true → list_all p (insert_sorted cmp x ys) ≡ true

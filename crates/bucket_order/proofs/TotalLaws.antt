@@ -6,6 +6,7 @@ use Rattle.std.specs.Ordering.{nat_cmp, int_cmp, ordering_reverse, is_lt, is_gt,
 use Rattle.std.specs.Cmp.{IsTotalOrder}
 use Rattle.std.proofs.Common.{subst}
 use Rattle.std.proofs.lemmas.Cmp.{on_total, then_total, back_total, nat_cmp_total, int_cmp_total}
+use Rattle.list_laws.proofs.Orders.{less_not_equal, greater_not_equal}
 use Rattle.agg_model.specs.declared.aggregation.Kind.{Kind}
 use Rattle.agg_model.specs.declared.aggregation.Order.{Order}
 use Rattle.agg_model.specs.declared.aggregation.OrderBy.{OrderBy}
@@ -13,12 +14,6 @@ use Rattle.agg_model.specs.declared.aggregation.OrderBy.TheVariants as by
 use Rattle.agg_evaluation.specs.KeyOrder.{key_cmp, directed}
 use Rattle.agg_evaluation.specs.Orders.{value_cmp, child_value, bucket_key, bucket_count, cmp_by, bucket_cmp}
 use Rattle.agg_evaluation.proofs.KeyCompare.{key_cmp_total}
-
-less_not_equal : {A : Type 0} → Less ≡ Equal → A
-less_not_equal e = absurd (subst (λ o. T (is_lt o)) e tt)
-
-greater_not_equal : {A : Type 0} → Greater ≡ Equal → A
-greater_not_equal e = absurd (subst (λ o. T (is_gt o)) e tt)
 
 equal_not_less : {A : Type 0} → Equal ≡ Less → A
 equal_not_less e = absurd (subst (λ o. T (is_eq o)) e tt)

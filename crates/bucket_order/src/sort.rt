@@ -1,6 +1,6 @@
 ghost use Rattle.std.specs.Prelude.{◌≡◌, OnOk, IsTrue, IsPermutation, length};
 ghost use Rattle.std.specs.List.{list_all};
-ghost use Rattle.agg_evaluation.specs.Sorting.{sorted};
+ghost use Rattle.list_laws.specs.Sorting.{sorted};
 ghost use Rattle.agg_evaluation.specs.Shard.{sorted_by_key};
 ghost use Rattle.agg_evaluation.specs.Orders.{bucket_cmp, bucket_key, composite_cmp};
 ghost use Rattle.bucket_order.specs.Composites.{is_composite_of};

@@ -7,11 +7,12 @@ use Rattle.agg_model.specs.declared.query.Query.{Query}
 use Rattle.agg_model.specs.declared.query.Query.TheVariants as query
 use Rattle.agg_model.specs.declared.query.Probe.{Probe}
 use Rattle.agg_model.specs.declared.row.Scalar.{Scalar}
-use Rattle.agg_evaluation.specs.KeyOrder.{key_eq, scalar_key, probe_key}
+use Rattle.agg_evaluation.specs.KeyOrder.{key_eq}
+use Rattle.agg_model.specs.ValueKeys.{scalar_key, probe_key}
 use Rattle.agg_evaluation.specs.Rows.{PlacedRow, beneath, values_of}
 use Rattle.agg_evaluation.specs.Matching.{matches, matches_at}
 use Rattle.column_query.proofs.Lists.{any_mapped, all_mapped, count_mapped}
-use Rattle.column_query.proofs.QueryLevels.{fold_query-Bool, fold_query-Nested}
+use Rattle.agg_evaluation.proofs.QueryFolds.{fold_query-Bool, fold_query-Nested}
 
 module _ (all : List PlacedRow) (row : PlacedRow) where
   abbrev test : Query → Bool

@@ -9,7 +9,8 @@ use Rattle.agg_model.specs.declared.row.Scalar.{Scalar}
 use Rattle.agg_model.specs.declared.query.Probe.{Probe}
 use Rattle.agg_model.specs.declared.row.Scalar.TheVariants as scalar
 use Rattle.agg_model.specs.declared.query.Probe.TheVariants as probe
-use Rattle.agg_evaluation.specs.KeyOrder.{key_cmp, scalar_key, probe_key}
+use Rattle.agg_evaluation.specs.KeyOrder.{key_cmp}
+use Rattle.agg_model.specs.ValueKeys.{scalar_key, probe_key}
 use Rattle.agg_evaluation.proofs.Computing.{computing}
 use Rattle.shard_columns.specs.Cell.{scalar_of}
 use Rattle.shard_columns.specs.declared.shard.Cell.{Cell}

@@ -5,10 +5,10 @@ use Rattle.agg_model.specs.declared.mapping.FieldKind.{FieldKind}
 use Rattle.agg_model.specs.declared.mapping.FieldKind.TheVariants.{Long, Integer, Short, Byte, Keyword, Boolean}
 use Rattle.agg_model.specs.declared.row.Scalar.{Scalar}
 use Rattle.agg_model.specs.declared.row.Scalar.TheVariants as scalar
-use Rattle.agg_evaluation.specs.Rows.{PlacedRow, values_of}
+use Rattle.agg_evaluation.specs.Rows.{PlacedRow, values_of, row_of}
 use Rattle.std.proofs.lemmas.Bool.{and_parts}
-use Rattle.shard_columns.specs.Kinds.{is_of_kind, AreOfKind}
-use Rattle.shard_columns.specs.Layout.{row_of}
+use Rattle.shard_columns.specs.Kinds.{AreOfKind}
+use Rattle.agg_model.specs.FieldKinds.{is_of_kind}
 use Rattle.column_query.specs.declared.content.Content.TheVariants as content
 use Rattle.column_query.specs.Numbers.{content_of, is_content, Holds}
 use Rattle.column_query.proofs.Members.{In, In-contains}

@@ -3,8 +3,7 @@ use Rattle.std.proofs.Common.{◌≡◌, ℕ, zero, suc, true, List, [], ◌∷�
 use Rattle.std.specs.List.{slice_get}
 use Rattle.agg_model.specs.declared.row.Scalar.{Scalar}
 use Rattle.agg_model.specs.declared.row.Scalar.TheVariants as scalar
-use Rattle.agg_evaluation.specs.Rows.{PlacedRow, values_of}
-use Rattle.shard_columns.specs.Layout.{row_of}
+use Rattle.agg_evaluation.specs.Rows.{PlacedRow, values_of, row_of}
 use Rattle.column_query.specs.declared.content.Content.{Content}
 use Rattle.column_query.specs.declared.content.Content.TheVariants.{Wholes, Words, Flags}
 use Rattle.column_query.specs.Numbers.{is_content, IsHeld, Holds}

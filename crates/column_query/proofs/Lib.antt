@@ -1,6 +1,5 @@
 pub mod Lists
 pub mod Comparing
-pub mod QueryLevels
 pub mod Cases
 pub mod Members
 pub mod Contents

@@ -10,10 +10,9 @@ use Rattle.std.proofs.lemmas.List.{get_or_past}
 use Rattle.std.proofs.lemmas.Map.Lookups.{exact_bytes}
 use Rattle.agg_model.specs.declared.row.Scalar.{Scalar}
 use Rattle.agg_model.specs.declared.row.Scalar.TheVariants as scalar
-use Rattle.agg_evaluation.specs.Rows.{PlacedRow, values_of}
-use Rattle.agg_evaluation.specs.Sorting.{insert_once, ascending}
+use Rattle.agg_evaluation.specs.Rows.{PlacedRow, values_of, row_of, no_row}
+use Rattle.list_laws.specs.Sorting.{insert_once, ascending}
 use Rattle.shard_columns.specs.Dictionary.{words_of, all_words}
-use Rattle.shard_columns.specs.Layout.{row_of, no_row}
 use Rattle.shard_columns.specs.Values.{Words, word_in}
 use Rattle.column_query.specs.Numbers.{IsHeld}
 

@@ -1,6 +1,7 @@
 -- The places of words in a dictionary.
 use Rattle.std.proofs.Common.{◌≡◌, refl, ℕ, ◌+◌, ◌<◌, ◌≤◌, zero, suc, Bool, true, false, cond, List, [], ◌∷◌, ◌⊎◌, inl, inr, length, map, Option, Some, None, sym, ◌∙◌, ap, subst, arith, add-one, ℤ, pos, ltb}
 use Rattle.std.proofs.lemmas.Map.Lookups.{exact_bytes}
+use Rattle.list_laws.proofs.Orders.{less_of}
 use Rattle.agg_model.specs.declared.query.RangeOp.{RangeOp}
 use Rattle.agg_model.specs.declared.query.RangeOp.TheVariants.{Gt, Gte, Lt, Lte}
 use Rattle.agg_evaluation.specs.Matching.{allows}
@@ -38,11 +39,6 @@ place-at (v ∷ vs) strict zero w is =
 place-at (v ∷ vs) strict (suc k) w is =
     ap (λ (o : Ordering). cond (is_lt o) (place_among vs w + 1) 0) (each_at (λ (u : List ℕ). slice_cmp nat_cmp v u ≡ Less) vs k w strict.0 is) ∙ (add-one (place_among vs w) ∙ ap suc (place-at vs strict.1 k w is))
 
-lt_Less : (o : Ordering) → is_lt o ≡ true → o ≡ Less
-lt_Less Less e = refl
-lt_Less Equal e = absurd (cc e)
-lt_Less Greater e = absurd (cc e)
-
 Less_lt : (o : Ordering) → o ≡ Less → is_lt o ≡ true
 Less_lt o e = ap is_lt e
 
@@ -56,7 +52,7 @@ unfolding place_among
 less_before [] w k v is below = absurd (cc is)
 less_before (u ∷ us) w zero v is below =
     let same : u ≡ v = cc is in
-    ap (λ (x : List ℕ). slice_cmp nat_cmp x w) (sym same) ∙ lt_Less (slice_cmp nat_cmp u w) (when_before (is_lt (slice_cmp nat_cmp u w)) (place_among us w) 0 below).0
+    ap (λ (x : List ℕ). slice_cmp nat_cmp x w) (sym same) ∙ less_of (slice_cmp nat_cmp u w) (when_before (is_lt (slice_cmp nat_cmp u w)) (place_among us w) 0 below).0
 less_before (u ∷ us) w (suc k) v is below =
     let more = when_before (is_lt (slice_cmp nat_cmp u w)) (place_among us w) (suc k) below in less_before us w k v is (omega (arith, more.1))
 
@@ -85,7 +81,7 @@ not_less_from (u ∷ us) strict w zero v is le =
 not_less_from (u ∷ us) strict w (suc k) v is le =
     elim (not_less (is_lt (slice_cmp nat_cmp u w)) (place_among us w) (suc k) le) [
       | inl above ↦ not_true (is_lt (slice_cmp nat_cmp v w)) (λ less. false_true (is_lt (slice_cmp nat_cmp u w)) above
-          (Less_lt (slice_cmp nat_cmp u w) (nat_list_cmp_total.trans u v w (each_at (λ (x : List ℕ). slice_cmp nat_cmp u x ≡ Less) us k v strict.0 is) (lt_Less (slice_cmp nat_cmp v w) less))))
+          (Less_lt (slice_cmp nat_cmp u w) (nat_list_cmp_total.trans u v w (each_at (λ (x : List ℕ). slice_cmp nat_cmp u x ≡ Less) us k v strict.0 is) (less_of (slice_cmp nat_cmp v w) less))))
       | inr before ↦ not_less_from us strict.1 w k v is (omega (arith, before.1))
     ]
 

@@ -15,24 +15,26 @@ use Rattle.agg_model.specs.declared.query.Query.{Query}
 use Rattle.agg_model.specs.declared.query.Query.TheVariants as query
 use Rattle.agg_model.specs.declared.query.Probe.{Probe}
 use Rattle.agg_model.specs.declared.query.RangeTest.{RangeTest}
-use Rattle.agg_evaluation.specs.KeyOrder.{key_eq, scalar_key, probe_key}
+use Rattle.agg_evaluation.specs.KeyOrder.{key_eq}
+use Rattle.agg_model.specs.ValueKeys.{scalar_key, probe_key}
 use Rattle.agg_evaluation.specs.Matching.{matches, passes}
-use Rattle.agg_evaluation.specs.Rows.{PlacedRow, values_of, beneath, roots}
+use Rattle.agg_evaluation.specs.Rows.{PlacedRow, values_of, beneath, roots, row_of}
 use Rattle.shard_columns.specs.Columns.{Columns}
 use Rattle.shard_columns.specs.Dictionary.{words_of}
-use Rattle.shard_columns.specs.Layout.{row_of}
 use Rattle.column_query.specs.declared.bounds.Bound.{Bound}
 use Rattle.column_query.specs.declared.prepared.NumberTest.{NumberTest}
 use Rattle.column_query.specs.declared.prepared.NumberTest.TheVariants.{Is, OneOf, Within}
 use Rattle.column_query.specs.declared.prepared.Prepared.{Prepared}
 use Rattle.column_query.specs.declared.prepared.Prepared.TheVariants as prepared
 use Rattle.column_query.specs.Numbers.{number_of, numbers_of, within, IsHeld, StandsFor, BoundsAs}
-use Rattle.column_query.specs.Prepared.{is_among, within_all, passes_number, says, looks_below, looks_below_at, reads_below, reads_below_at, StandForAll, BoundAsAll, AddsNumber, HasIds, IsReady, AreReady}
+use Rattle.column_query.specs.Prepared.{is_among, within_all, passes_number, says, reads_below, reads_below_at, StandForAll, BoundAsAll, AddsNumber, HasIds, IsReady, AreReady}
+use Rattle.agg_evaluation.specs.Conditions.{looks_below, looks_below_at}
 use Rattle.column_query.proofs.Lists.{any_mapped, all_mapped, count_mapped}
 use Rattle.column_query.proofs.Members.{In, place_of}
 use Rattle.column_query.proofs.Holding.{held-at}
-use Rattle.column_query.proofs.Inserting.{any-insert_key, any_step, all_step, all-push, or_flip}
-use Rattle.column_query.proofs.QueryLevels.{fold_query-Bool, fold_query-Nested}
+use Rattle.column_query.proofs.Inserting.{any-insert_key, any_step, all_step, all-push}
+use Rattle.list_laws.proofs.Booleans.{or_comm}
+use Rattle.agg_evaluation.proofs.QueryFolds.{fold_query-Bool, fold_query-Nested}
 use Rattle.column_query.proofs.PreparedLevels.{fold_prepared-Nested}
 use Rattle.column_query.proofs.Cases as by_query
 use Rattle.column_query.proofs.PreparedCases as by_prepared
@@ -77,7 +79,7 @@ ids-more values n value old new one below is one_is new_is before = record {
       ap (list_any (λ (k : Vec ℕ Global). is_eq (slice_cmp nat_cmp id k.items))) new_is
       ∙ (any-insert_key bytes_cmp (λ (k : Vec ℕ Global). is_eq (slice_cmp nat_cmp id k.items)) (λ v w e. ap is_eq (alike_right nat_list_cmp_total v.items w.items id e)) old one
       ∙ ((λ i. (ap (λ (v : List ℕ). is_eq (slice_cmp nat_cmp id v)) one_is ∙ sym (texts_ties id value)) i || before.same id i)
-      ∙ (or_flip (bytes_eq id value) (list_any (bytes_eq id) (take n values)) ∙ sym (any_step (bytes_eq id) values n value below is))));
+      ∙ (or_comm (bytes_eq id value) (list_any (bytes_eq id) (take n values)) ∙ sym (any_step (bytes_eq id) values n value below is))));
 }
 
 module _ (rows : List PlacedRow) (field : ℕ) where
@@ -92,7 +94,7 @@ module _ (rows : List PlacedRow) (field : ℕ) where
   numbers-more probes n probe found old new below is stands adds before = record {
     same = λ v held.
         adds.same (number v) ∙ ((λ i. stands.same v held i || before.same v held i)
-        ∙ (or_flip (key_eq (scalar_key v) (probe_key probe)) (list_any (λ p. key_eq (scalar_key v) (probe_key p)) (take n probes))
+        ∙ (or_comm (key_eq (scalar_key v) (probe_key probe)) (list_any (λ p. key_eq (scalar_key v) (probe_key p)) (take n probes))
         ∙ sym (any_step (λ (p : Probe). key_eq (scalar_key v) (probe_key p)) probes n probe below is)));
   }
 

@@ -12,10 +12,10 @@ use Rattle.agg_model.specs.declared.query.Probe.{Probe}
 use Rattle.agg_model.specs.declared.query.Probe.TheVariants as probe
 use Rattle.agg_model.specs.declared.query.RangeOp.{RangeOp}
 use Rattle.agg_model.specs.declared.query.RangeTest.{RangeTest}
-use Rattle.agg_evaluation.specs.KeyOrder.{key_cmp, scalar_key, probe_key}
+use Rattle.agg_evaluation.specs.KeyOrder.{key_cmp}
+use Rattle.agg_model.specs.ValueKeys.{scalar_key, probe_key}
 use Rattle.agg_evaluation.specs.Matching.{allows}
-use Rattle.agg_evaluation.specs.Rows.{PlacedRow, values_of}
-use Rattle.shard_columns.specs.Layout.{row_of}
+use Rattle.agg_evaluation.specs.Rows.{PlacedRow, values_of, row_of}
 use Rattle.shard_columns.specs.Dictionary.{words_of, NoRowHas}
 use mir.Val.{bool_byte}
 use Rattle.shard_columns.proofs.Dictionaries.{words_of-strict}

@@ -11,11 +11,11 @@ use Rattle.agg_model.specs.declared.query.Probe.{Probe}
 use Rattle.agg_model.specs.declared.query.RangeOp.{RangeOp}
 use Rattle.agg_model.specs.declared.query.RangeOp.TheVariants.{Gt, Gte, Lt, Lte}
 use Rattle.agg_model.specs.declared.query.RangeTest.{RangeTest}
-use Rattle.agg_evaluation.specs.KeyOrder.{key_eq, scalar_key, probe_key}
+use Rattle.agg_evaluation.specs.KeyOrder.{key_eq}
+use Rattle.agg_model.specs.ValueKeys.{scalar_key, probe_key}
 use Rattle.agg_evaluation.specs.Matching.{allows, passes}
-use Rattle.agg_evaluation.specs.Rows.{PlacedRow, values_of}
+use Rattle.agg_evaluation.specs.Rows.{PlacedRow, values_of, row_of}
 use Rattle.shard_columns.specs.Dictionary.{words_of}
-use Rattle.shard_columns.specs.Layout.{row_of}
 use Rattle.shard_columns.specs.Values.{Words}
 use Rattle.column_query.specs.declared.content.Content.{Content}
 use Rattle.column_query.specs.declared.content.Content.TheVariants as content

@@ -6,16 +6,14 @@ use Rattle.std.specs.Cmp.Lexicographic.{slice_cmp}
 use Rattle.std.specs.Str.{bytes_eq}
 use Rattle.std.specs.declared.alloc.Global.{Global}
 use Rattle.agg_model.specs.declared.query.Query.{Query}
-use Rattle.agg_model.specs.declared.query.Query.TheOpen.{Query-F}
 use Rattle.agg_model.specs.declared.query.Probe.{Probe}
 use Rattle.agg_model.specs.declared.query.RangeTest.{RangeTest}
-use Rattle.agg_evaluation.specs.Folds.{fold_query}
-use Rattle.agg_evaluation.specs.KeyOrder.{key_eq, scalar_key, probe_key}
+use Rattle.agg_evaluation.specs.KeyOrder.{key_eq}
+use Rattle.agg_model.specs.ValueKeys.{scalar_key, probe_key}
 use Rattle.agg_evaluation.specs.Matching.{passes, matches}
-use Rattle.agg_evaluation.specs.Rows.{PlacedRow, beneath, has_value}
+use Rattle.agg_evaluation.specs.Rows.{PlacedRow, beneath, has_value, row_of}
 use Rattle.shard_columns.specs.Columns.{Columns}
 use Rattle.shard_columns.specs.Dictionary.{words_of}
-use Rattle.shard_columns.specs.Layout.{row_of}
 use Rattle.agg_model.specs.declared.row.Scalar.{Scalar}
 use Rattle.column_query.specs.Numbers.{number_of, numbers_of, is_number, within, IsHeld}
 use Rattle.column_query.specs.declared.bounds.Bound.{Bound}
@@ -65,20 +63,6 @@ says_at all (Prepared-F.Nested path query) row = list_any query (beneath all (pa
 
 abbrev pub says : List PlacedRow → Prepared → PlacedRow → Bool
 says all = fold_prepared (says_at all)
-
--- whether the fields whose values a query looks at are among the first n
-abbrev pub looks_below_at : ℕ → Query-F Bool → Bool
-looks_below_at n Query-F.All = true
-looks_below_at n (Query-F.Term field value) = nat_lt field n
-looks_below_at n (Query-F.Terms field values) = nat_lt field n
-looks_below_at n (Query-F.Range field tests) = nat_lt field n
-looks_below_at n (Query-F.Exists field) = true
-looks_below_at n (Query-F.Ids values) = true
-looks_below_at n (Query-F.Bool must must_not should minimum) = list_all (λ b. b) must && list_all (λ b. b) must_not && list_all (λ b. b) should
-looks_below_at n (Query-F.Nested path query) = query
-
-abbrev pub looks_below : ℕ → Query → Bool
-looks_below n = fold_query (looks_below_at n)
 
 abbrev pub reads_below_at : ℕ → Prepared-F Bool → Bool
 reads_below_at n Prepared-F.All = true

@@ -2,7 +2,8 @@
 use Rattle.std.specs.Prelude.{Bool}
 use Rattle.std.specs.List.{list_any, list_all}
 use Rattle.agg_model.specs.declared.row.Scalar.{Scalar}
-use Rattle.agg_evaluation.specs.KeyOrder.{key_eq, scalar_key, probe_key}
+use Rattle.agg_evaluation.specs.KeyOrder.{key_eq}
+use Rattle.agg_model.specs.ValueKeys.{scalar_key, probe_key}
 use Rattle.agg_evaluation.specs.Matching.{passes}
 use Rattle.column_query.specs.declared.values.Wanted.{Wanted}
 use Rattle.column_query.specs.declared.values.Wanted.TheVariants.{Equal, OneOf, Within}

@@ -2,7 +2,8 @@
 ghost use Rattle.std.specs.Prelude.{◌≡◌, ◌<◌, length, true, map, slice_get, Some, IfOk};
 ghost use Rattle.agg_evaluation.specs.Matching.{matches};
 ghost use Rattle.agg_evaluation.specs.Rows.{roots};
-ghost use Rattle.column_query.specs.Prepared.{looks_below, reads_below, says};
+ghost use Rattle.column_query.specs.Prepared.{reads_below, says};
+ghost use Rattle.agg_evaluation.specs.Conditions.{looks_below};
 
 use crate::prepared::{Prepared, is_match};
 use crate::preparing::prepare;

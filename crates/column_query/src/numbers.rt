@@ -1,7 +1,6 @@
 // The numbers that stand for the values of a field.
 ghost use Rattle.std.specs.Prelude.{◌≡◌, ◌<◌, length, slice_get, Some};
-ghost use Rattle.agg_evaluation.specs.Rows.{values_of};
-ghost use Rattle.shard_columns.specs.Layout.{row_of};
+ghost use Rattle.agg_evaluation.specs.Rows.{values_of, row_of};
 ghost use Rattle.column_query.specs.Numbers.{numbers_of, StandsFor};
 
 use crate::content::{Content, content_of_field};

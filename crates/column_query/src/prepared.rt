@@ -4,7 +4,7 @@ ghost use Rattle.std.specs.Prelude.{◌≡◌, ◌<◌, length, filter, true};
 ghost use Rattle.std.specs.List.{list_any, list_all};
 ghost use Rattle.std.specs.Ordering.{nat_cmp, is_eq};
 ghost use Rattle.std.specs.Cmp.Lexicographic.{slice_cmp};
-ghost use Rattle.shard_columns.specs.Layout.{row_of};
+ghost use Rattle.agg_evaluation.specs.Rows.{row_of};
 ghost use Rattle.column_query.specs.Numbers.{numbers_of};
 ghost use Rattle.column_query.specs.Prepared.{is_among as is_number_among, within_all as within_all_bounds, passes_number, says, reads_below};
 

@@ -1,7 +1,8 @@
 //! Preparing a query for a shard.
 ghost use Rattle.std.specs.Prelude.{◌≡◌, ◌<◌, length, true, IfOk, OnOk};
 ghost use Rattle.std.specs.List.{list_all};
-ghost use Rattle.column_query.specs.Prepared.{looks_below, AddsNumber, StandForAll, BoundAsAll, HasIds, IsReady, AreReady};
+ghost use Rattle.column_query.specs.Prepared.{AddsNumber, StandForAll, BoundAsAll, HasIds, IsReady, AreReady};
+ghost use Rattle.agg_evaluation.specs.Conditions.{looks_below};
 
 use crate::bounds::{Bound, bound_of};
 use crate::numbers::number_of_probe;

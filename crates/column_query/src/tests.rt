@@ -1,7 +1,7 @@
 ghost use Rattle.std.specs.Prelude.{◌≡◌, ◌∷◌, ◌<◌, [], IfOk, length, map, true};
 ghost use Rattle.std.specs.List.{list_all};
 ghost use Rattle.column_query.specs.Example.{values_for, flags, numbers, words, item_of, first_root, second_root, third_root, document_of, example_documents, example_kinds};
-ghost use Rattle.column_query.specs.Prepared.{looks_below};
+ghost use Rattle.agg_evaluation.specs.Conditions.{looks_below};
 
 use crate::matched_rows::matched;
 use crate::matching::matches;

@@ -1,11 +1,11 @@
 // How a value that a row has compares with those that a query asks for.
 ghost use Rattle.std.specs.Prelude.{◌≡◌, ◌<◌, length};
 ghost use Rattle.std.specs.List.{list_any, list_all};
-ghost use Rattle.agg_evaluation.specs.KeyOrder.{key_cmp, key_eq, scalar_key, probe_key};
+ghost use Rattle.agg_evaluation.specs.KeyOrder.{key_cmp, key_eq};
+ghost use Rattle.agg_model.specs.ValueKeys.{scalar_key, probe_key};
 ghost use Rattle.agg_evaluation.specs.Matching.{allows as allows_order, passes as passes_test};
-ghost use Rattle.agg_evaluation.specs.Rows.{values_of};
+ghost use Rattle.agg_evaluation.specs.Rows.{values_of, row_of};
 ghost use Rattle.shard_columns.specs.Cell.{scalar_of};
-ghost use Rattle.shard_columns.specs.Layout.{row_of};
 ghost use Rattle.column_query.specs.Wanted.{wants as wants_value};
 
 use agg_model::{Probe, RangeOp, RangeTest};

@@ -3,7 +3,7 @@ use Rattle.std.specs.Prelude.{◌≡◌, refl, ℕ, ◌+◌, ◌-◌, ◌<◌, �
 use Rattle.std.specs.List.{list_all, last_or, AllByRecursion}
 use Rattle.std.specs.Ordering.{match_ordering}
 use Rattle.std.specs.declared.cmp.Ordering.TheVariants.{Less, Equal, Greater}
-use Rattle.std.proofs.Common.{sym, ◌∙◌, ap, subst, arith}
+use Rattle.std.proofs.Common.{sym, ◌∙◌, ap, subst, arith, length-map}
 use Rattle.std.proofs.Math.Facts.{yes_ltb}
 use Rattle.std.proofs.lemmas.Bool.{le-leb}
 use Rattle.std.proofs.lemmas.List.Sums.{sum_by-cons, sum_by-take-le}
@@ -22,14 +22,14 @@ use Rattle.agg_model.specs.declared.answer.BucketAnswer.TheOpen.{NodeAnswer-F, B
 use Rattle.agg_model.specs.declared.row.Document.{Document}
 use Rattle.agg_evaluation.specs.KeyOrder.{key_cmp}
 use Rattle.agg_evaluation.specs.Keys.{distinct_keys}
-use Rattle.agg_evaluation.specs.Sorting.{sorted, insert_once}
+use Rattle.list_laws.specs.Sorting.{sorted, insert_once}
 use Rattle.agg_evaluation.specs.Orders.{bucket_cmp, bucket_key, bucket_count}
 use Rattle.agg_evaluation.specs.Shard.{with_covered, sorted_by_key, shard_answer}
 use Rattle.agg_evaluation.specs.Trees.{is_tree_of, pass_each}
 use Rattle.agg_evaluation.specs.Whole.{Parts, parts, parts_at, whole}
 use Rattle.agg_evaluation.proofs.Computing.{computing}
-use Rattle.agg_evaluation.proofs.KeyLists.{and_left, both, true_is}
-use Rattle.agg_evaluation.proofs.ListLaws.{sum_by-map}
+use Rattle.list_laws.proofs.Booleans.{and_left, both, true_is}
+use Rattle.list_laws.proofs.Lists.{sum_by-map}
 use Rattle.agg_evaluation.proofs.NodeForms.{out-Keyed}
 use Rattle.agg_evaluation.proofs.TreeLaws.{shard_answer-is_result}
 use Rattle.agg_spec.specs.Final.{final, finish_each, finish_bucket, finisher, terms_answer, no_metric}
@@ -42,11 +42,12 @@ use Rattle.agg_spec.proofs.TermsBounds.{each-filter, each-take, each-sorted, eac
 use Rattle.terms_agg.specs.Trim.{trimmed}
 use Rattle.terms_agg.proofs.TrimLaws.{trimmed-Terms}
 use Rattle.keyword_documents.specs.SmallForm.{keyword_field}
-use Rattle.final_reduce.specs.Finishable.{is_finishable, has_intervals, can_finish, terms_fit}
+use Rattle.final_reduce.specs.Finishable.{is_finishable, can_finish, terms_fit}
+use Rattle.agg_evaluation.specs.Conditions.{has_intervals}
 use Rattle.document_terms.specs.Terms.{words_of, counted_bucket, times, term_node}
 use Rattle.document_terms.specs.SmallSearch.{terms_aggregation, IsTermsSearch, HaveKeywords}
 use Rattle.std.proofs.lemmas.List.{length-take}
-use Rattle.document_terms.proofs.CountLaws.{length-words, length-map}
+use Rattle.document_terms.proofs.CountLaws.{length-words}
 use Rattle.document_terms.proofs.RowLaws.{rows_in}
 use Rattle.document_terms.proofs.AnswerLaws.{term_buckets, sum-buckets, terms-answer, whole-of-one}
 

@@ -2,7 +2,7 @@
 use Rattle.std.specs.Prelude.{◌≡◌, refl, ℕ, ℤ, pos, Bool, true, false, ◌&&◌, List, [], ◌∷◌, filter, cond, ⊤}
 use Rattle.std.specs.declared.cmp.Ordering.{Ordering}
 use Rattle.std.specs.declared.cmp.Ordering.TheVariants.{Less, Equal, Greater}
-use Rattle.std.specs.Ordering.{nat_cmp, int_cmp, bool_cmp, is_lt, is_eq, ordering_reverse, ordering_then, match_ordering}
+use Rattle.std.specs.Ordering.{nat_cmp, int_cmp, bool_cmp, is_lt, is_le, is_eq, ordering_reverse, ordering_then, match_ordering}
 use Rattle.std.specs.Cmp.{IsTotalOrder, IsStrictWeakOrder, bool_cmp_total}
 use Rattle.std.specs.Cmp.Lexicographic.{slice_cmp, texts_ties, same_text}
 use Rattle.std.specs.Fn.{Called, ComparesAs}
@@ -17,9 +17,12 @@ use Rattle.agg_model.specs.declared.mapping.FieldKind.{FieldKind}
 use Rattle.agg_model.specs.declared.mapping.FieldKind.TheVariants.{Long, Integer, Short, Byte, Keyword, Boolean}
 use Rattle.agg_model.specs.declared.row.Scalar.{Scalar}
 use Rattle.agg_model.specs.declared.row.Scalar.TheVariants.{Whole, Word, Flag}
-use Rattle.agg_reading.specs.Rows.{scalar_cmp, beside, insert_value, finished_values}
-use Rattle.agg_mapping.proofs.Placing.{AtLeast, Ascends, ascends_from_sort, one_order}
-use Rattle.document_rows.specs.Scalars.{rank, scalar_order, same_word, is_of_kind, IsOneKind}
+use Rattle.list_laws.specs.Sorting.{sorted, insert_sorted}
+use Rattle.list_laws.proofs.StableSort.{at_most, above, sorted_from_sort_by}
+use Rattle.agg_reading.specs.Rows.{scalar_cmp, insert_value, finished_values}
+use Rattle.agg_reading.proofs.ValueLaws.{beside, insert_value-none, insert_value-step}
+use Rattle.document_rows.specs.Scalars.{rank, scalar_order, same_word, IsOneKind}
+use Rattle.agg_model.specs.FieldKinds.{is_of_kind}
 use denote.Param.Members.{Mut}
 use denote.Ref.{Bor}
 
@@ -68,72 +71,8 @@ order_total = subst IsTotalOrder (λ i s t. keyed_is s t i) keyed_total
 abbrev below : Scalar → Scalar → Bool
 below s t = is_lt (scalar_order s t)
 
-weak : IsStrictWeakOrder below
-weak = ranks_by order_total (λ (s : Scalar). s)
-
--- insertion sort
-
-abbrev put : Bool → Scalar → Scalar → List Scalar → List Scalar → List Scalar
-put b x y ys rest = cond b (y ∷ rest) (x ∷ y ∷ ys)
-
-abbrev place : Scalar → List Scalar → List Scalar
-place x [] = x ∷ []
-place x (y ∷ ys) = cond (below y x) (y ∷ place x ys) (x ∷ y ∷ ys)
-
-abbrev ordered : List Scalar → List Scalar
-ordered [] = []
-ordered (x ∷ xs) = place x (ordered xs)
-
-at_least_less : (x y : Scalar) (ys : List Scalar) → below y x ≡ false → AtLeast below y ys → AtLeast below x ys
-at_least_less x y [] least all = tt
-at_least_less x y (w ∷ ws) least all = (weak.chain w y x all.0 least, at_least_less x y ws least all.1)
-
-at_least_place : (x y : Scalar) (ys : List Scalar) → below y x ≡ false → AtLeast below x ys → AtLeast below x (place y ys)
-at_least_place x y [] least all = (least, tt)
-at_least_place x y (w ∷ ws) least all =
-    elim (below w y) as (λ b. AtLeast below x (put b y w ws (place y ws))) [ true ↦ (all.0, at_least_place x y ws least all.1) | false ↦ (least, all) ]
-
-ascends_place : (x : Scalar) (ys : List Scalar) → Ascends below ys → Ascends below (place x ys)
-ascends_place x [] up = (tt, tt)
-ascends_place x (y ∷ ys) up =
-    elim (below y x) as (λ b. below y x ≡ b → Ascends below (put b x y ys (place x ys))) [
-      | true ↦ λ e. (at_least_place y x ys (weak.one_way y x e) up.0, ascends_place x ys up.1)
-      | false ↦ λ e. ((e, at_least_less x y ys e up.0), up)
-    ] refl
-
-ascends_ordered : (xs : List Scalar) → Ascends below (ordered xs)
-ascends_ordered [] = tt
-ascends_ordered (x ∷ xs) = ascends_place x (ordered xs) (ascends_ordered xs)
-
--- two that tie with z are not in order
-both_tied : (z x y : Scalar) → ties below z x ≡ true → ties below z y ≡ true → below x y ≡ false
-both_tied z x y e f = weak.chain x z y (not-true _ (and_parts _ _ e).1) (not-true _ (and_parts _ _ f).0)
-
-swapped : (p q : Bool) (y z : Scalar) (us : List Scalar) → (p ≡ true → q ≡ true → ⊥) → cond p (y ∷ cond q (z ∷ us) us) (cond q (z ∷ us) us) ≡ cond q (z ∷ cond p (y ∷ us) us) (cond p (y ∷ us) us)
-swapped true true y z us h = absurd (h refl refl)
-swapped true false y z us h = refl
-swapped false true y z us h = refl
-swapped false false y z us h = refl
-
-stable_place : (z x : Scalar) (ys : List Scalar) → filter (ties below z) (place x ys) ≡ filter (ties below z) (x ∷ ys)
-stable_place z x [] = refl
-stable_place z x (y ∷ ys) =
-    elim (below y x) as (λ b. below y x ≡ b → filter (ties below z) (put b x y ys (place x ys)) ≡ filter (ties below z) (x ∷ y ∷ ys)) [
-      | true ↦ λ e.
-          ap (λ us. cond (ties below z y) (y ∷ us) us) (stable_place z x ys)
-          ∙ swapped (ties below z y) (ties below z x) y x (filter (ties below z) ys) (λ p q. true≢false (sym e ∙ both_tied z y x p q))
-      | false ↦ λ e. refl
-    ] refl
-
-stable_ordered : (z : Scalar) (xs : List Scalar) → filter (ties below z) (ordered xs) ≡ filter (ties below z) xs
-stable_ordered z [] = refl
-stable_ordered z (x ∷ xs) = stable_place z x (ordered xs) ∙ ap (λ us. cond (ties below z x) (x ∷ us) us) (stable_ordered z xs)
-
-ordered_from_sort : {F : Type 0} {g : Mut F (Bor Scalar × (Bor Scalar × Unit {0})) Ordering} {f : F} (xs ys : List Scalar) → IsSortedByClosure g f ys → IsStableByClosure g f xs ys
-    → ((a : Bor Scalar × (Bor Scalar × Unit {0})) (r : Ordering) (f' : F) → Called g f a r f' → (r ≡ scalar_order a.0.now a.1.0.now) × (f' ≡ f)) → ys ≡ ordered xs
-ordered_from_sort {g = g} {f = f} xs ys up stable calls =
-    let compares : ComparesAs g below f = always_returns_same g (λ a r. is_lt r ≡ below a.0.now a.1.0.now) f (λ a r f' k. (ap is_lt (calls a r f' k).0, (calls a r f' k).1)) in
-    one_order below weak ys (ordered xs) (ascends_from_sort below weak ys (up below weak compares)) (ascends_ordered xs) (λ z. stable below weak compares z ∙ sym (stable_ordered z xs))
+abbrev put : Bool → Scalar → Scalar → List Scalar → List Scalar
+put b x y ys = cond b (x ∷ y ∷ ys) (y ∷ insert_sorted scalar_order x ys)
 
 -- values of one kind
 
@@ -203,8 +142,7 @@ is_greater z x up = reversed z x ∙ turned (scalar_order z x) up
 
 -- a value that is above another is put behind it
 behind : (x z : Scalar) (ts : List Scalar) → rank x ≡ rank z → below z x ≡ true → insert_value x (z ∷ ts) ≡ z ∷ insert_value x ts
-unfolding insert_value
-behind x z ts same up = ap (λ o. match_ordering o (x ∷ z ∷ ts) (beside x (z ∷ ts)) (z ∷ insert_value x ts)) (cmp_is x z same ∙ is_greater z x up)
+behind x z ts same up = insert_value-step x z ts ∙ ap (λ o. match_ordering o (x ∷ z ∷ ts) (beside x (z ∷ ts)) (z ∷ insert_value x ts)) (cmp_is x z same ∙ is_greater z x up)
 
 -- and is not the same word
 above_differs : (x z : Scalar) → rank x ≡ rank z → below z x ≡ true → same_word x z ≡ false
@@ -251,54 +189,54 @@ module _ (x z : Scalar) (ys : List Scalar) (same : rank x ≡ rank z) where
   by_order Greater e low = absurd (true≢false (sym (ap is_lt (reversed x z ∙ ap ordering_reverse e)) ∙ low))
 
   in_front : below z x ≡ false → joined_from x (z ∷ ys) ≡ insert_value x (joined_from z ys)
-  unfolding insert_value
   in_front low =
       by_order (scalar_order x z) refl low
       ∙ ap (λ o. match_ordering o (x ∷ joined_from z ys) (beside x (joined_from z ys)) (z ∷ insert_value x (after z ys))) (sym (cmp_is x z same))
       ∙ ap (λ ts. match_ordering (scalar_cmp x z) (x ∷ ts) (beside x ts) (z ∷ insert_value x (after z ys))) (first_stays z ys)
+      ∙ sym (insert_value-step x z (after z ys))
       ∙ ap (insert_value x) (sym (first_stays z ys))
 
-place_after : (r : ℕ) (x z : Scalar) (ys : List Scalar) → rank x ≡ r → rank z ≡ r → OfRank r ys → below z x ≡ true → joined_from z (place x ys) ≡ insert_value x (joined_from z ys)
-unfolding insert_value
+place_after : (r : ℕ) (x z : Scalar) (ys : List Scalar) → rank x ≡ r → rank z ≡ r → OfRank r ys → below z x ≡ true → joined_from z (insert_sorted scalar_order x ys) ≡ insert_value x (joined_from z ys)
 place_after r x z [] rx rz rs up =
-    ap (λ b. cond b (z ∷ []) (z ∷ x ∷ [])) (above_differs x z (rx ∙ sym rz) up) ∙ sym (behind x z [] (rx ∙ sym rz) up)
+    ap (λ b. cond b (z ∷ []) (z ∷ x ∷ [])) (above_differs x z (rx ∙ sym rz) up) ∙ ap (λ ts. z ∷ ts) (sym (insert_value-none x)) ∙ sym (behind x z [] (rx ∙ sym rz) up)
 place_after r x z (y ∷ ys) rx rz rs up =
-    elim (below y x) as (λ b. below y x ≡ b → joined_from z (put b x y ys (place x ys)) ≡ insert_value x (cond (same_word y z) (joined_from z ys) (z ∷ joined_from y ys))) [
+    elim (is_le (scalar_order x y)) as (λ b. is_le (scalar_order x y) ≡ b → joined_from z (put b x y ys) ≡ insert_value x (cond (same_word y z) (joined_from z ys) (z ∷ joined_from y ys))) [
       | true ↦ λ e.
-          elim (same_word y z) as (λ s. cond s (joined_from z (place x ys)) (z ∷ joined_from y (place x ys)) ≡ insert_value x (cond s (joined_from z ys) (z ∷ joined_from y ys))) [
-            | true ↦ place_after r x z ys rx rz rs.1 up
-            | false ↦ ap (λ ts. z ∷ ts) (place_after r x y ys rx rs.0 rs.1 e) ∙ sym (behind x z (joined_from y ys) (rx ∙ sym rz) up)
-          ]
-      | false ↦ λ e.
-          let apart : same_word y z ≡ false = ⊎_elim (λ s. absurd (true≢false (sym up ∙ ap (λ k. below k x) (sym (same_equal y z s)) ∙ e))) (λ s. s) (cases_Bool (same_word y z)) in
+          let low : below y x ≡ false = at_most scalar_order order_total x y e in
+          let apart : same_word y z ≡ false = ⊎_elim (λ s. absurd (true≢false (sym up ∙ ap (λ k. below k x) (sym (same_equal y z s)) ∙ low))) (λ s. s) (cases_Bool (same_word y z)) in
           ap (λ b. cond b (joined_from z (y ∷ ys)) (z ∷ joined_from x (y ∷ ys))) (above_differs x z (rx ∙ sym rz) up)
-          ∙ ap (λ ts. z ∷ ts) (in_front x y ys (rx ∙ sym rs.0) e)
+          ∙ ap (λ ts. z ∷ ts) (in_front x y ys (rx ∙ sym rs.0) low)
           ∙ sym (behind x z (joined_from y ys) (rx ∙ sym rz) up)
           ∙ ap (λ s. insert_value x (cond s (joined_from z ys) (z ∷ joined_from y ys))) (sym apart)
+      | false ↦ λ e.
+          elim (same_word y z) as (λ s. cond s (joined_from z (insert_sorted scalar_order x ys)) (z ∷ joined_from y (insert_sorted scalar_order x ys)) ≡ insert_value x (cond s (joined_from z ys) (z ∷ joined_from y ys))) [
+            | true ↦ place_after r x z ys rx rz rs.1 up
+            | false ↦ ap (λ ts. z ∷ ts) (place_after r x y ys rx rs.0 rs.1 (above scalar_order order_total x y e)) ∙ sym (behind x z (joined_from y ys) (rx ∙ sym rz) up)
+          ]
     ] refl
 
-joined_place : (r : ℕ) (x : Scalar) (zs : List Scalar) → rank x ≡ r → OfRank r zs → dedup same_word (place x zs) ≡ insert_value x (dedup same_word zs)
-unfolding insert_value
-joined_place r x [] rx rs = refl
+joined_place : (r : ℕ) (x : Scalar) (zs : List Scalar) → rank x ≡ r → OfRank r zs → dedup same_word (insert_sorted scalar_order x zs) ≡ insert_value x (dedup same_word zs)
+joined_place r x [] rx rs = sym (insert_value-none x)
 joined_place r x (z ∷ zs) rx rs =
-    elim (below z x) as (λ b. below z x ≡ b → dedup same_word (put b x z zs (place x zs)) ≡ insert_value x (joined_from z zs)) [
-      | true ↦ λ e. place_after r x z zs rx rs.0 rs.1 e
-      | false ↦ λ e. in_front x z zs (rx ∙ sym rs.0) e
+    elim (is_le (scalar_order x z)) as (λ b. is_le (scalar_order x z) ≡ b → dedup same_word (put b x z zs) ≡ insert_value x (joined_from z zs)) [
+      | true ↦ λ e. in_front x z zs (rx ∙ sym rs.0) (at_most scalar_order order_total x z e)
+      | false ↦ λ e. place_after r x z zs rx rs.0 rs.1 (above scalar_order order_total x z e)
     ] refl
 
-rank_place : (r : ℕ) (x : Scalar) (zs : List Scalar) → rank x ≡ r → OfRank r zs → OfRank r (place x zs)
-rank_place r x [] rx rs = (rx, tt)
-rank_place r x (z ∷ zs) rx rs =
-    elim (below z x) as (λ b. OfRank r (put b x z zs (place x zs))) [ true ↦ (rs.0, rank_place r x zs rx rs.1) | false ↦ (rx, rs) ]
+rank_insert : (r : ℕ) (x : Scalar) (zs : List Scalar) → rank x ≡ r → OfRank r zs → OfRank r (insert_sorted scalar_order x zs)
+rank_insert r x [] rx rs = (rx, tt)
+rank_insert r x (z ∷ zs) rx rs =
+    elim (is_le (scalar_order x z)) as (λ b. OfRank r (put b x z zs)) [ true ↦ (rx, rs) | false ↦ (rs.0, rank_insert r x zs rx rs.1) ]
 
-rank_ordered : (r : ℕ) (xs : List Scalar) → OfRank r xs → OfRank r (ordered xs)
-rank_ordered r [] rs = tt
-rank_ordered r (x ∷ xs) rs = rank_place r x (ordered xs) rs.0 (rank_ordered r xs rs.1)
+rank_sorted : (r : ℕ) (xs : List Scalar) → OfRank r xs → OfRank r (sorted scalar_order xs)
+rank_sorted r [] rs = tt
+rank_sorted r (x ∷ xs) rs = rank_insert r x (sorted scalar_order xs) rs.0 (rank_sorted r xs rs.1)
 
-joined_is : (r : ℕ) (xs : List Scalar) → OfRank r xs → dedup same_word (ordered xs) ≡ finished_values xs
+-- a sorted list of values of one kind, with each word once, is what the definition makes
+joined_is : (r : ℕ) (xs : List Scalar) → OfRank r xs → dedup same_word (sorted scalar_order xs) ≡ finished_values xs
 unfolding finished_values
 joined_is r [] rs = refl
-joined_is r (x ∷ xs) rs = joined_place r x (ordered xs) rs.0 (rank_ordered r xs rs.1) ∙ ap (insert_value x) (joined_is r xs rs.1)
+joined_is r (x ∷ xs) rs = joined_place r x (sorted scalar_order xs) rs.0 (rank_sorted r xs rs.1) ∙ ap (insert_value x) (joined_is r xs rs.1)
 
 abbrev rank_of : FieldKind → ℕ
 rank_of Keyword = 1
@@ -335,4 +273,4 @@ ranks kind (x ∷ xs) e = let parts = and_parts (is_of_kind kind x) (list_all (i
 -- what a stable sort and the joining of words leave
 pub finished_from_sort : {F : Type 0} {g : Mut F (Bor Scalar × (Bor Scalar × Unit {0})) Ordering} {f : F} (xs ys : List Scalar) → IsOneKind xs → IsSortedByClosure g f ys → IsStableByClosure g f xs ys
     → ((a : Bor Scalar × (Bor Scalar × Unit {0})) (r : Ordering) (f' : F) → Called g f a r f' → (r ≡ scalar_order a.0.now a.1.0.now) × (f' ≡ f)) → dedup same_word ys ≡ finished_values xs
-finished_from_sort xs ys one up stable calls = ap (dedup same_word) (ordered_from_sort xs ys up stable calls) ∙ joined_is (rank_of one.0) xs (ranks one.0 xs one.1)
+finished_from_sort xs ys one up stable calls = ap (dedup same_word) (sorted_from_sort_by scalar_order order_total xs ys up stable calls) ∙ joined_is (rank_of one.0) xs (ranks one.0 xs one.1)

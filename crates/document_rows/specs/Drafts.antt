@@ -9,7 +9,7 @@ use Rattle.agg_model.specs.declared.row.Row.{Row}
 use Rattle.agg_model.specs.declared.row.Children.{Children, roll-Children}
 use Rattle.agg_reading.specs.declared.parts.Draft.{Draft}
 use Rattle.document_rows.specs.Roles.{kind_in}
-use Rattle.document_rows.specs.Scalars.{is_of_kind}
+use Rattle.agg_model.specs.FieldKinds.{is_of_kind}
 
 -- one more item at a place, behind those before; the places stay ascending
 abbrev pub with_item : {A : Type 0} → ℕ → A → List (ℕ × List A) → List (ℕ × List A)

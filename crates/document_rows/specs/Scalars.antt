@@ -6,9 +6,9 @@ use Rattle.std.specs.declared.cmp.Ordering.{Ordering}
 use Rattle.std.specs.Ordering.{nat_cmp, int_cmp, bool_cmp}
 use Rattle.std.specs.Cmp.Lexicographic.{slice_cmp}
 use Rattle.agg_model.specs.declared.mapping.FieldKind.{FieldKind}
-use Rattle.agg_model.specs.declared.mapping.FieldKind.TheVariants.{Long, Integer, Short, Byte, Keyword, Boolean}
 use Rattle.agg_model.specs.declared.row.Scalar.{Scalar}
 use Rattle.agg_model.specs.declared.row.Scalar.TheVariants.{Whole, Word, Flag}
+use Rattle.agg_model.specs.FieldKinds.{is_of_kind}
 
 -- a number for the kind of a value
 abbrev pub rank : Scalar → ℕ
@@ -26,16 +26,6 @@ scalar_order s t = nat_cmp (rank s) (rank t)
 abbrev pub same_word : Scalar → Scalar → Bool
 same_word (Word v) (Word w) = bytes_eq v w
 same_word _ _ = false
-
--- a field of this kind may have the value
-abbrev pub is_of_kind : FieldKind → Scalar → Bool
-is_of_kind Keyword (Word w) = true
-is_of_kind Boolean (Flag b) = true
-is_of_kind Long (Whole z) = true
-is_of_kind Integer (Whole z) = true
-is_of_kind Short (Whole z) = true
-is_of_kind Byte (Whole z) = true
-is_of_kind _ _ = false
 
 -- some field may have all the values
 abbrev pub IsOneKind : List Scalar → Type 0

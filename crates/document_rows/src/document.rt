@@ -2,7 +2,6 @@
 
 ghost use Rattle.serde_json.specs.View.{view, members_view};
 ghost use Rattle.agg_reading.specs.Document.{document_value_at, document_at};
-ghost use Rattle.agg_mapping.specs.Paths.{IsOrdered};
 ghost use Rattle.document_rows.specs.Faults.{Gives};
 ghost use Rattle.document_rows.specs.States.{root_at};
 
@@ -10,6 +9,7 @@ use crate::draft::RowDraft;
 use crate::fault::ItemFault;
 use crate::refusal::refuse;
 use crate::walk::{Walked, members};
+use agg_mapping::OrderedMapping;
 use agg_model::item_refusal::SOURCE_NOT_OBJECT;
 use agg_model::{Mapping, Row};
 use json_walk::reading;
@@ -19,10 +19,9 @@ use std::alloc::Global;
 /// The root row that the members of an object give.
 fn row_of_members(
     alloc: Global,
-    mapping: &Mapping,
+    mapping: &OrderedMapping<'_>,
     found: &Map<String, Value>,
 ) -> Result<Row, ItemFault>
-    requires { IsOrdered mapping.now }
     ensures { Gives (λ r. r) result (root_at mapping.now (members_view found.now.entries)) }
 {
     let begun = Walked {
@@ -36,8 +35,7 @@ fn row_of_members(
 
 /// The root row that a value gives: `SOURCE_NOT_OBJECT` where it is none.
 #[tactic(auto, unfolding(agg_reading::specs::Document::document_value_at, agg_reading::specs::Json::object_at))]
-fn row_of(alloc: Global, mapping: &Mapping, value: &Value) -> Result<Row, ItemFault>
-    requires { IsOrdered mapping.now }
+fn row_of(alloc: Global, mapping: &OrderedMapping<'_>, value: &Value) -> Result<Row, ItemFault>
     ensures { Gives (λ r. r) result (document_value_at mapping.now (view value.now)) }
 {
     match value {
@@ -58,8 +56,11 @@ fn row_of(alloc: Global, mapping: &Mapping, value: &Value) -> Result<Row, ItemFa
 /// It takes time in proportion to the bytes of the source, and for each member the comparison of its path, with the names
 /// around it, to as many paths as the logarithm of the size of the mapping.
 #[tactic(auto, unfolding(agg_reading::specs::Document::document_at))]
-pub fn root_row_of(alloc: Global, mapping: &Mapping, source: &[u8]) -> Result<Row, ItemFault>
-    requires { IsOrdered mapping.now }
+pub fn root_row_of(
+    alloc: Global,
+    mapping: &OrderedMapping<'_>,
+    source: &[u8],
+) -> Result<Row, ItemFault>
     ensures row { Gives (λ r. r) result (document_at mapping.now source.now) }
 {
     match reading(alloc, source)? {

@@ -1,6 +1,6 @@
 use crate::document::root_row_of;
 use crate::fault::ItemFault;
-use agg_mapping::index_line_of;
+use agg_mapping::{OrderedMapping, index_line_of};
 use agg_model::{Row, Scalar, Text};
 use std::alloc::Global;
 use std::test::Fail;
@@ -17,7 +17,10 @@ const STRICT: &[u8] =
 /// What a source gives by the mapping of an index line; none where that is refused.
 fn read(alloc: Global, line: &[u8], source: &[u8]) -> Option<Result<Row, ItemFault>> {
     match index_line_of(alloc, line) {
-        Ok(index) => Some(root_row_of(alloc, &index.mapping, source)),
+        Ok(index) => {
+            let mapping = OrderedMapping::of(&index.mapping);
+            Some(root_row_of(alloc, &mapping, source))
+        }
         Err(_) => None,
     }
 }

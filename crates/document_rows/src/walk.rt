@@ -7,7 +7,6 @@ ghost use Rattle.serde_json.specs.Data.{object};
 ghost use Rattle.serde_json.specs.View.{view, items_view, members_view};
 ghost use Rattle.agg_model.specs.declared.mapping.Field.{Field};
 ghost use Rattle.agg_reading.specs.Document.{with_scalar, leaf_at, around, value_at, items_at, members_at, member_at};
-ghost use Rattle.agg_mapping.specs.Paths.{IsOrdered};
 ghost use Rattle.document_rows.specs.Faults.{Gives};
 ghost use Rattle.document_rows.specs.Roles.{IsRoleIn};
 ghost use Rattle.document_rows.specs.Drafts.{is_typed};
@@ -18,11 +17,12 @@ use crate::fault::ItemFault;
 use crate::field_value::scalar;
 use crate::refusal::refuse;
 use crate::roles::role_of;
+use agg_mapping::OrderedMapping;
+use agg_model::Scalar;
 use agg_model::item_refusal::{
     STRICT_MAPPING, TOO_MANY_FIELD_VALUES, TOO_MANY_NESTED_OBJECTS, WRONG_FIELD_TYPE,
 };
 use agg_model::limits::{MAX_FIELD_VALUES, MAX_NESTED_OBJECTS};
-use agg_model::{Mapping, Scalar};
 use agg_reading::Role;
 use serde_json::{Map, Value};
 use std::alloc::{AllocError, Global};
@@ -128,13 +128,12 @@ fn around(alloc: Global, place: u32, row: RowDraft, ended: Walked) -> Result<Wal
 #[cycle(walk)]
 fn value(
     alloc: Global,
-    mapping: &Mapping,
+    mapping: &OrderedMapping<'_>,
     role: Role,
     context: u32,
     walked: Walked,
     value: &Value,
 ) -> Result<Walked, ItemFault>
-    requires ordered { IsOrdered mapping.now }
     requires role { IsRoleIn mapping.now role }
     ensures value { Gives state_of result (value_at mapping.now role context (string_bytes walked.path) (state_of walked) (view value.now)) }
     ensures path { IfOk result (λ w. string_bytes w.path ≡ string_bytes walked.path) }
@@ -151,13 +150,12 @@ fn value(
 #[cycle(walk)]
 fn items(
     alloc: Global,
-    mapping: &Mapping,
+    mapping: &OrderedMapping<'_>,
     role: Role,
     context: u32,
     before: Walked,
     items: &Vec<Value>,
 ) -> Result<Walked, ItemFault>
-    requires ordered { IsOrdered mapping.now }
     requires role { IsRoleIn mapping.now role }
     ensures value { Gives state_of result (items_at mapping.now role context (string_bytes before.path) (state_of before) (items_view items.now.items)) }
     ensures path { IfOk result (λ w. string_bytes w.path ≡ string_bytes before.path) }
@@ -173,13 +171,12 @@ fn items(
 #[cycle(walk)]
 fn object(
     alloc: Global,
-    mapping: &Mapping,
+    mapping: &OrderedMapping<'_>,
     role: Role,
     context: u32,
     walked: Walked,
     members: &Map<String, Value>,
 ) -> Result<Walked, ItemFault>
-    requires ordered { IsOrdered mapping.now }
     requires role { IsRoleIn mapping.now role }
     ensures value { Gives state_of result (value_at mapping.now role context (string_bytes walked.path) (state_of walked) (object (members_view members.now.entries))) }
     ensures path { IfOk result (λ w. string_bytes w.path ≡ string_bytes walked.path) }
@@ -196,12 +193,11 @@ fn object(
 #[cycle(walk)]
 fn inner(
     alloc: Global,
-    mapping: &Mapping,
+    mapping: &OrderedMapping<'_>,
     context: u32,
     walked: Walked,
     found: &Map<String, Value>,
 ) -> Result<Walked, ItemFault>
-    requires { IsOrdered mapping.now }
     ensures value { Gives state_of result (members_at mapping.now context (string_bytes walked.path ++ 46 ∷ []) (state_of walked) (members_view found.now.entries)) }
     ensures path { IfOk result (λ w. string_bytes w.path ≡ string_bytes walked.path) }
 {
@@ -215,13 +211,12 @@ fn inner(
 #[cycle(walk)]
 fn nested(
     alloc: Global,
-    mapping: &Mapping,
+    mapping: &OrderedMapping<'_>,
     place: u32,
     walked: Walked,
     members: &Map<String, Value>,
 ) -> Result<Walked, ItemFault>
-    requires ordered { IsOrdered mapping.now }
-    requires place { place < length mapping.now.nested }
+    requires { place < length mapping.now.nested }
     ensures value { Gives state_of result (nested_at mapping.now place (string_bytes walked.path) (state_of walked) (members_view members.now.entries)) }
     ensures path { IfOk result (λ w. string_bytes w.path ≡ string_bytes walked.path) }
 {
@@ -234,7 +229,8 @@ fn nested(
         met: met + 1,
         path,
     };
-    let ended = inner(alloc, &*mapping, place + 1, begun, members)?;
+    let context = mapping.context_of(place);
+    let ended = inner(alloc, &*mapping, context, begun, members)?;
     around(alloc, place, row, ended)
 }
 
@@ -242,18 +238,17 @@ fn nested(
 #[cycle(walk)]
 fn member(
     alloc: Global,
-    mapping: &Mapping,
+    mapping: &OrderedMapping<'_>,
     context: u32,
     walked: Walked,
     found: &Value,
 ) -> Result<Walked, ItemFault>
-    requires { IsOrdered mapping.now }
     ensures value { Gives state_of result (member_at mapping.now context (string_bytes walked.path) (state_of walked) (view found.now)) }
     ensures path { IfOk result (λ w. string_bytes w.path ≡ string_bytes walked.path) }
 {
     match role_of(&*mapping, context, walked.path.as_bytes()) {
         Role::Unmapped => {
-            if mapping.strict {
+            if mapping.is_strict() {
                 return refuse(alloc, STRICT_MAPPING, walked.path.as_str());
             }
             Ok(walked)
@@ -266,12 +261,11 @@ fn member(
 #[cycle(walk)]
 pub(crate) fn members(
     alloc: Global,
-    mapping: &Mapping,
+    mapping: &OrderedMapping<'_>,
     context: u32,
     before: Walked,
     members: &Map<String, Value>,
 ) -> Result<Walked, ItemFault>
-    requires { IsOrdered mapping.now }
     ensures value { Gives state_of result (members_at mapping.now context (string_bytes before.path) (state_of before) (members_view members.now.entries)) }
     ensures path { IfOk result (λ w. string_bytes w.path ≡ string_bytes before.path) }
 {

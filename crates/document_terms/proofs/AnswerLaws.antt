@@ -1,7 +1,9 @@
 -- What a shard answers to a terms search over documents with one keyword each is its terms, cut.
 use Rattle.std.specs.Prelude.{◌≡◌, refl, ℕ, ◌+◌, true, false, List, [], ◌∷◌, ◌++◌, map, flat_map, length, sum_by, None}
 use Rattle.std.proofs.Common.{sym, ◌∙◌, ap, arith}
+use Rattle.std.proofs.lemmas.List.{length-map}
 use Rattle.std.proofs.lemmas.List.Sums.{sum_by-cons}
+use Rattle.list_laws.proofs.Lists.{length-flat_map, map-map, sum_by-map}
 use Rattle.agg_model.specs.declared.key.Key.{Key}
 use Rattle.agg_model.specs.declared.key.Key.TheVariants.{Word}
 use Rattle.agg_model.specs.declared.partial.Bucket.{Bucket}
@@ -20,8 +22,7 @@ use Rattle.agg_evaluation.specs.Counters.{raised_by}
 use Rattle.agg_evaluation.specs.Shard.{bucket_of, node_of, trimmed_node, shard_node, shard_answer}
 use Rattle.agg_evaluation.specs.Whole.{parts_at, whole}
 use Rattle.agg_evaluation.proofs.Computing.{computing}
-use Rattle.agg_evaluation.proofs.CounterLaws.{counters-groups}
-use Rattle.agg_evaluation.proofs.ListLaws.{map-map, sum_by-map}
+use Rattle.agg_evaluation.proofs.CounterLaws.{counters-groups, raised_by-sum}
 use Rattle.agg_evaluation.proofs.NodeForms.{out-Keyed}
 use Rattle.agg_evaluation.proofs.SearchLaws.{whole-alone}
 use Rattle.agg_evaluation.proofs.TreeLaws.{shard_answer-is_result}
@@ -30,7 +31,7 @@ use Rattle.terms_agg.proofs.TrimLaws.{trimmed-Terms}
 use Rattle.keyword_documents.specs.SmallForm.{keyword_field}
 use Rattle.document_terms.specs.Terms.{words_of, times, counted_bucket, term_node}
 use Rattle.document_terms.specs.SmallSearch.{terms_kind, terms_aggregation, IsTermsSearch, HaveKeywords}
-use Rattle.document_terms.proofs.CountLaws.{raised_by-sum, raised-times, length-map}
+use Rattle.document_terms.proofs.CountLaws.{raised-times}
 use Rattle.document_terms.proofs.RowLaws.{rows_in, matched-all, keys-of, length-rows}
 
 abbrev pub bucket_of_counter : Key × ℕ → Bucket
@@ -51,18 +52,10 @@ counters-buckets words =
 pub sum-buckets : (words : List (List ℕ)) → sum_by bucket_count (term_buckets words) ≡ length words
 sum-buckets words =
     ap (sum_by bucket_count) (sym (counters-buckets words)) ∙ sum_by-map bucket_count bucket_of_counter (raised_by (map Word words) [])
-    ∙ raised_by-sum (map Word words) [] ∙ omega (arith, length-map Word words)
+    ∙ raised_by-sum (map Word words) [] ∙ omega (arith, length-map words Word)
 
 pub buckets-of-terms : (words : List (List ℕ)) → node_buckets (term_node words) ≡ term_buckets words
 buckets-of-terms words = ap (λ n. (parts_at n).buckets) (out-Keyed (term_buckets words) 0 0 0)
-
-length-append : {A : Type 0} (xs ys : List A) → length (xs ++ ys) ≡ length xs + length ys
-length-append [] ys = omega arith
-length-append (x ∷ xs) ys = omega (arith, length-append xs ys)
-
-length-flat_map : {A B : Type 0} (f : A → List B) (xs : List A) → length (flat_map f xs) ≡ sum_by (λ x. length (f x)) xs
-length-flat_map f [] = refl
-length-flat_map f (x ∷ xs) = omega (arith, length-append (f x) (flat_map f xs), length-flat_map f xs, sum_by-cons (λ x. length (f x)) x xs)
 
 abbrev default_order : List Order
 default_order = record { by = by.Count; descending = true } ∷ []
@@ -85,7 +78,7 @@ module _ (ds : List Document) (h : HaveKeywords ds) where
 
   total-terms : total_key_count rows terms_kind rows ≡ sum_by bucket_count (term_buckets words)
   total-terms =
-      sym (length-flat_map (keys rows terms_kind) rows) ∙ ap length (keys-of ds h) ∙ length-map Word words ∙ sym (sum-buckets words)
+      sym (length-flat_map (keys rows terms_kind) rows) ∙ ap length (keys-of ds h) ∙ length-map words Word ∙ sym (sum-buckets words)
 
   node-terms : node_of true rows (roots rows) [] terms_kind rows ≡ trimmed_node [] 25 default_order (sum_by bucket_count (term_buckets words)) (term_buckets words)
   node-terms = ap (λ n. trimmed_node [] 25 default_order n groups) total-terms ∙ ap (trimmed_node [] 25 default_order (sum_by bucket_count (term_buckets words))) groups-terms

@@ -11,6 +11,7 @@ use Rattle.std.specs.BTreeMap.{insert_entry, is_at}
 use Rattle.std.proofs.Common.{Bor, sym, ◌∙◌, ap, arith}
 use Rattle.std.proofs.lemmas.List.Sums.{sum_by-cons}
 use Rattle.std.proofs.lemmas.Map.Keys.{sorted_tail}
+use Rattle.list_laws.proofs.Booleans.{or_false}
 use Rattle.agg_model.specs.declared.key.Key.{Key}
 use Rattle.agg_model.specs.declared.key.Key.TheVariants.{Word}
 use Rattle.agg_model.specs.declared.row.Scalar.TheVariants as scalar
@@ -21,8 +22,8 @@ use Rattle.agg_evaluation.specs.Keys.{keys, distinct_keys}
 use Rattle.agg_evaluation.specs.Groups.{group}
 use Rattle.agg_evaluation.specs.Counters.{raised, raised_by}
 use Rattle.agg_evaluation.proofs.Computing.{computing}
-use Rattle.agg_evaluation.proofs.CounterLaws.{counters-groups}
-use Rattle.agg_evaluation.proofs.ListLaws.{map-append, filter_map-append}
+use Rattle.agg_evaluation.proofs.CounterLaws.{counters-groups, raised_by-sum}
+use Rattle.list_laws.proofs.Lists.{map-append, filter_map-append}
 use Rattle.document_terms.specs.Terms.{word_of, words_of, times}
 use Rattle.document_terms.specs.SmallSearch.{terms_kind}
 use Rattle.keyword_documents.specs.SmallForm.{keyword_field}
@@ -70,20 +71,6 @@ found-le k (e ∷ es) =
       | false ↦ omega (arith, whole, rest)
     ]
 
-raised-sum : (k : Key) (cs : List (Key × ℕ)) → sum_by number (raised k cs) ≡ 1 + sum_by number cs
-raised-sum k [] = refl
-raised-sum k (c ∷ cs) =
-    elim (key_cmp k c.0) as (λ r. sum_by number (match_ordering r ((k, 1) ∷ c ∷ cs) ((c.0, c.1 + 1) ∷ cs) (c ∷ raised k cs)) ≡ 1 + sum_by number (c ∷ cs)) [
-      | Less ↦ sum_by-cons number (k, 1) (c ∷ cs)
-      | Equal ↦ omega (arith, sum_by-cons number (c.0, c.1 + 1) cs, sum_by-cons number c cs)
-      | Greater ↦ omega (arith, sum_by-cons number c (raised k cs), raised-sum k cs, sum_by-cons number c cs)
-    ]
-
--- each key adds one to all counters together
-pub raised_by-sum : (ks : List Key) (cs : List (Key × ℕ)) → sum_by number (raised_by ks cs) ≡ length ks + sum_by number cs
-raised_by-sum [] cs = omega arith
-raised_by-sum (k ∷ ks) cs = omega (arith, raised_by-sum ks (raised k cs), raised-sum k cs)
-
 pub raised_by-append : (js ks : List Key) (cs : List (Key × ℕ)) → raised_by (js ++ ks) cs ≡ raised_by ks (raised_by js cs)
 raised_by-append [] ks cs = refl
 raised_by-append (j ∷ js) ks cs = raised_by-append js ks (raised j cs)
@@ -102,17 +89,9 @@ length-words field (d ∷ ds) =
       | Some w ↦ omega (arith, rest)
     ]
 
-pub length-map : {A B : Type 0} (f : A → B) (xs : List A) → length (map f xs) ≡ length xs
-length-map f [] = refl
-length-map f (x ∷ xs) = omega (arith, length-map f xs)
-
 -- a row that has a word alone
 abbrev row_with : List ℕ → PlacedRow
 row_with w = record { place = []; context = 0; id = []; values = record { field = keyword_field; values = scalar.Word w ∷ [] } ∷ [] }
-
-or-false : (b : Bool) → (b || false) ≡ b
-or-false true = refl
-or-false false = refl
 
 keys-rows : (ws : List (List ℕ)) → flat_map (keys [] terms_kind) (map row_with ws) ≡ map Word ws
 unfolding computing
@@ -124,7 +103,7 @@ unfolding computing
 group-times key [] = refl
 group-times key (w ∷ ws) =
     let rows = group [] terms_kind (map row_with ws) key in
-    ap (λ b. length (cond b (row_with w ∷ rows) rows)) (or-false (key_eq key (Word w)))
+    ap (λ b. length (cond b (row_with w ∷ rows) rows)) (or_false (key_eq key (Word w)))
     ∙ elim (key_eq key (Word w)) as (λ b. length (cond b (row_with w ∷ rows) rows) ≡ length (cond b (Word w ∷ filter (key_eq key) (map Word ws)) (filter (key_eq key) (map Word ws)))) [
       | true ↦ omega (arith, group-times key ws)
       | false ↦ group-times key ws

@@ -4,6 +4,7 @@ use Rattle.std.specs.List.{list_all, list_any, last_or}
 use Rattle.std.specs.Option.{option_map_or}
 use Rattle.std.specs.Ordering.{is_gt}
 use Rattle.std.proofs.Common.{sym, ◌∙◌, ap, subst, arith, mul_assoc, mul-le-mul_right}
+use Rattle.std.proofs.lemmas.List.{length-map}
 use Rattle.std.proofs.Math.Nat.{add-mul}
 use Rattle.std.proofs.lemmas.List.Sums.{sum_by-cons}
 use Rattle.std.proofs.lemmas.List.Concat.{length-flat_map}
@@ -20,7 +21,7 @@ use Rattle.agg_model.specs.declared.aggregation.Kind.{Kind}
 use Rattle.agg_model.specs.declared.aggregation.Kind.TheVariants as kind
 use Rattle.agg_evaluation.specs.Folds.{fold_aggs}
 use Rattle.agg_evaluation.specs.KeyOrder.{key_cmp, has_key}
-use Rattle.agg_evaluation.specs.Sorting.{sorted}
+use Rattle.list_laws.specs.Sorting.{sorted}
 use Rattle.agg_evaluation.specs.Rows.{PlacedRow, is_within, beneath}
 use Rattle.agg_evaluation.specs.Keys.{keys, values_or}
 use Rattle.agg_evaluation.specs.Groups.{under, group, all_keys, total_key_count}
@@ -32,10 +33,11 @@ use Rattle.agg_evaluation.specs.Trace.{is_global}
 use Rattle.agg_evaluation.specs.Trees.{is_ascending}
 use Rattle.agg_evaluation.specs.Placement.{is_placed, is_placed_at}
 use Rattle.agg_evaluation.specs.Ceiling.{Reached, path_count, counted_from, bucket_bound, key_bound, node_bound, node_bound_at}
-use Rattle.agg_evaluation.proofs.KeyLists.{and_left, and_right, ascending-distinct_keys}
+use Rattle.agg_evaluation.proofs.KeyLists.{ascending-distinct_keys}
+use Rattle.list_laws.proofs.Booleans.{and_left, and_right}
 use Rattle.evaluation_laws.proofs.CostLaws.{bytes, cost-Keyed, cost-Fixed, cost-Number}
-use Rattle.agg_evaluation.proofs.ListLaws.{sum_by-flat_map, sum_by-map}
-use Rattle.agg_evaluation.proofs.SumLaws.{sum_by-filter, sum_by-take, sum_by-sorted, sum_by-at_most, sum_by-plus, sum_by-zero}
+use Rattle.list_laws.proofs.Lists.{sum_by-flat_map, sum_by-map}
+use Rattle.list_laws.proofs.Sums.{sum_by-filter, sum_by-take, sum_by-sorted, sum_by-at_most, sum_by-plus, sum_by-zero}
 use Rattle.agg_evaluation.proofs.UnionLaws.{ascending-fixed_keys}
 use Rattle.evaluation_laws.proofs.KeyBounds.{Each, each-filter, each-map, each-flat_map, each-then, each-all, Short, Known, known-all, short-keys}
 use Rattle.evaluation_laws.proofs.CoverLaws.{Covers, over_paths, handed, counted-covers, groups-cover, path_count-handed, distinct-at_most}
@@ -64,10 +66,6 @@ sum_by-each f g (x ∷ xs) h =
 length-ones : {A : Type 0} (xs : List A) → sum_by (λ x. 1) xs ≡ length xs
 length-ones [] = refl
 length-ones (x ∷ xs) = let whole = sum_by-cons (λ x. 1) x xs in let rest = length-ones xs in omega arith
-
-length-map : {A B : Type 0} (f : A → B) (xs : List A) → length (map f xs) ≡ length xs
-length-map f [] = refl
-length-map f (x ∷ xs) = ap suc (length-map f xs)
 
 mul_more : (a b c : ℕ) → a ≤ b → a * c ≤ b * c
 mul_more a b c h = mul-le-mul_right c h
@@ -133,7 +131,7 @@ module _ (kinds : List FieldKind) (all : List PlacedRow) where
     keyed-groups k hs rs covers =
         let counted = length-flat_map (λ rows. map (group all k rows) (all_keys all k rows)) hs in
         let each : sum_by (λ rows. length (map (group all k rows) (all_keys all k rows))) hs ≡ sum_by (λ rows. sum_by (λ q. 1) (all_keys all k rows)) hs
-        = (λ i. sum_by (λ rows. (length-map (group all k rows) (all_keys all k rows) ∙ sym (length-ones (all_keys all k rows))) i) hs) in
+        = (λ i. sum_by (λ rows. (length-map (all_keys all k rows) (group all k rows) ∙ sym (length-ones (all_keys all k rows))) i) hs) in
         let distinct = sum_by-at_most (λ rows. sum_by (λ q. 1) (all_keys all k rows)) (λ rows. sum_by (λ r. length (keys all k r)) rows) hs (λ rows.
         let fewer = distinct-at_most (λ q. 1) (flat_map (keys all k) rows) in
         let flat = sum_by-flat_map (λ q. 1) (keys all k) rows in
@@ -197,7 +195,7 @@ module _ (kinds : List FieldKind) (all : List PlacedRow) where
         let costs : sum_by (λ rows. node_cost (Fixed (map (made k rows) ks))) hs ≡ sum_by (λ rows. 512 + sum_by (λ q. bytes (made k rows q)) ks) hs
         = (λ i. sum_by (λ rows. (cost-Fixed (map (made k rows) ks) ∙ ap (λ n. 512 + n) (sum_by-map bytes (made k rows) ks)) i) hs) in
         let apart = sum_by-with 512 (λ rows. sum_by (λ q. bytes (made k rows q)) ks) hs in
-        let many : length (groups k (λ rows. ks) hs) ≡ length hs * length ks = length-flat_map (λ rows. map (group all k rows) ks) hs ∙ (λ i. sum_by (λ rows. length-map (group all k rows) ks i) hs) ∙ constant (length ks) hs in
+        let many : length (groups k (λ rows. ks) hs) ≡ length hs * length ks = length-flat_map (λ rows. map (group all k rows) ks) hs ∙ (λ i. sum_by (λ rows. length-map ks (group all k rows) i) hs) ∙ constant (length ks) hs in
         let most = mul_more (length hs) m (length ks) few in
         let buckets = buckets-bounded k (λ rows. ks) (λ rows. up) hs rs covers known (m * length ks) (omega arith) in
         let own : sum_by (λ rows. sum_by (λ q. 128 + key_bytes q) ks) hs ≡ length hs * sum_by (λ q. 128 + key_bytes q) ks = constant (sum_by (λ q. 128 + key_bytes q) ks) hs in
@@ -345,7 +343,7 @@ module _ (kinds : List FieldKind) (all : List PlacedRow) where
           let local = not_false (is_global k) (and_left (not (is_global k)) _ h) in
           let hs = map (under all root_rows k) gs in
           let listed = sum_by-map (λ rows. node_cost (node_of trims all root_rows (fold_aggs (collector_of trims all root_rows) children) k rows)) (under all root_rows k) gs in
-          let few_counted : length hs ≤ m = (let same = length-map (under all root_rows k) gs in omega arith) in
+          let few_counted : length hs ≤ m = (let same = length-map gs (under all root_rows k) in omega arith) in
           let known_counted = each-map (λ g. Each (Known all) g) (under all root_rows k) gs (each-then _ _ (known-under root_rows k local) gs known) in
           let counted = counted-bounded trims root_rows (fold_aggs (collector_of trims all root_rows) children) _ (each-bounded children (and_right (not (is_global k)) _ h)) k m hs (counted_from kinds all k rs) few_counted (counted-covers all kinds root_rows k local gs rs covers) known_counted in
           omega arith

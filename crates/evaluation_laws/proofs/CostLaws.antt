@@ -19,12 +19,14 @@ use Rattle.agg_evaluation.specs.Shard.{fixed_keys}
 use Rattle.agg_evaluation.specs.Cost.{key_bytes, bucket_cost, node_cost_at, node_cost}
 use Rattle.agg_evaluation.specs.Trees.{is_ascending, are_same_keys, pass_each, have_children, is_tree_at, is_tree_of}
 use Rattle.agg_evaluation.specs.Whole.{parts, parts_at, children_at, whole_bucket, whole_by, whole_node, shape_of, Shape, by_key, from_start, a_number, metric_sum}
-use Rattle.agg_evaluation.proofs.KeyLists.{and_left, and_right, both, holds, equal_is, key_eq-exact, key_eq-self, is_below, below-absent, ascending-distinct_keys, has_key-distinct_keys}
-use Rattle.evaluation_laws.proofs.NodeFolds.{fold_bucket, fold_node-Fixed, fold_node-Keyed, fold_node-Number}
+use Rattle.agg_evaluation.proofs.KeyLists.{key_eq-exact, key_eq-self, is_below, below-absent, ascending-distinct_keys, has_key-distinct_keys, key_eq-sym}
+use Rattle.list_laws.proofs.Booleans.{and_left, and_right, both, holds}
+use Rattle.list_laws.proofs.Orders.{equal_is}
+use Rattle.agg_evaluation.proofs.NodeFolds.{fold_bucket, fold_node-Fixed, fold_node-Keyed, fold_node-Number}
 use Rattle.agg_evaluation.proofs.NodeForms.{made-Keyed, made-Fixed, made-Number}
 use Rattle.std.specs.FinMap.{slice_cmp-IsAntisymmetric}
 use Rattle.agg_evaluation.proofs.KeyExact.{exact_keys}
-use Rattle.agg_evaluation.proofs.ListLaws.{map-append}
+use Rattle.list_laws.proofs.Lists.{map-append}
 use Rattle.agg_evaluation.proofs.UnionLaws.{ascending-fixed_keys, has_key-append}
 use Rattle.agg_evaluation.proofs.WholeLaws.{Union, tree_buckets, with_key}
 
@@ -105,16 +107,6 @@ children-save m (w ∷ ws) (t ∷ ts) h bs some pass =
     let costs = col.costs in
     omega arith
 
-eq_swap : (j k : Key) → key_eq j k ≡ key_eq k j
-eq_swap j k =
-    elim (key_eq j k) as (λ b. key_eq j k ≡ b → b ≡ key_eq k j) [
-      | true ↦ λ e. sym (ap (key_eq k) (key_eq-exact j k (holds _ e)) ∙ key_eq-self k)
-      | false ↦ λ e. elim (key_eq k j) as (λ c. key_eq k j ≡ c → false ≡ c) [
-        | true ↦ λ f. sym e ∙ ap (λ l. key_eq l k) (sym (key_eq-exact k j (holds _ f))) ∙ key_eq-self k
-        | false ↦ λ f. refl
-      ] refl
-    ] refl
-
 module _ (f : Bucket → ℕ) where
   abbrev pub part : List Bucket → Key → ℕ
   part bs q = sum_by f (with_key q bs)
@@ -141,7 +133,7 @@ module _ (f : Bucket → ℕ) where
   not_below j n (k ∷ ks) h =
       let cons = sum_by-cons (λ q. cond (key_eq q j) n 0) k ks in
       let rest = not_below j n ks (and_right _ _ h) in
-      let apart : key_eq k j ≡ false = eq_swap k j ∙ first_false (key_eq j k) (has_key j ks) (below-absent j (k ∷ ks) h) in
+      let apart : key_eq k j ≡ false = key_eq-sym k j ∙ first_false (key_eq j k) (has_key j ks) (below-absent j (k ∷ ks) h) in
       let none : cond (key_eq k j) n 0 ≡ 0 = ap (λ c. cond c n 0) apart in
       omega arith
     where

@@ -5,12 +5,13 @@ use Rattle.std.specs.declared.cmp.Ordering.TheVariants.{Less, Equal, Greater}
 use Rattle.std.specs.Ordering.{match_ordering}
 use Rattle.std.proofs.Common.{◌∙◌, subst, arith, mul_assoc}
 use Rattle.std.proofs.lemmas.List.Sums.{sum_by-cons, sum-map}
+use Rattle.list_laws.proofs.Booleans.{or_false}
 use Rattle.agg_model.specs.declared.key.Key.{Key}
 use Rattle.agg_model.specs.declared.mapping.FieldKind.{FieldKind}
 use Rattle.agg_model.specs.declared.aggregation.Kind.{Kind}
 use Rattle.agg_model.specs.declared.aggregation.Kind.TheVariants as kind
 use Rattle.agg_evaluation.specs.KeyOrder.{key_cmp, key_eq, has_key}
-use Rattle.agg_evaluation.specs.Sorting.{insert_once}
+use Rattle.list_laws.specs.Sorting.{insert_once}
 use Rattle.agg_evaluation.specs.Rows.{PlacedRow, is_within, beneath, enclosing}
 use Rattle.agg_evaluation.specs.Keys.{keys, distinct_keys}
 use Rattle.agg_evaluation.specs.Groups.{under, group}
@@ -18,8 +19,8 @@ use Rattle.agg_evaluation.specs.Trace.{is_global}
 use Rattle.agg_evaluation.specs.Trees.{is_ascending}
 use Rattle.agg_evaluation.specs.Ceiling.{Reached, path_count, counted_from}
 use Rattle.evaluation_laws.proofs.CostLaws.{at_most_once}
-use Rattle.agg_evaluation.proofs.ListLaws.{append-nil, sum_by-flat_map, sum_by-map}
-use Rattle.agg_evaluation.proofs.SumLaws.{sum_by-either, sum_by-at_most, sum_by-plus, sum_by-zero, sum_by-times, sum_by-exchange, sum_by-where}
+use Rattle.list_laws.proofs.Lists.{append-nil, sum_by-flat_map, sum_by-map}
+use Rattle.list_laws.proofs.Sums.{sum_by-either, sum_by-at_most, sum_by-plus, sum_by-zero, sum_by-times, sum_by-exchange, sum_by-where}
 
 -- a number of each row, over groups and over paths
 abbrev pub over_groups : (PlacedRow → ℕ) → List (List PlacedRow) → ℕ
@@ -39,10 +40,6 @@ module _ (all : List PlacedRow) where
   no_rows : (f : PlacedRow → ℕ) (p : PlacedRow → Bool) (xs : List PlacedRow) → sum_by f (filter (λ r. p r && false) xs) ≡ 0
   no_rows f p [] = refl
   no_rows f p (x ∷ xs) = elim (p x) as (λ b. sum_by f (cond (b && false) (x ∷ filter (λ r. p r && false) xs) (filter (λ r. p r && false) xs)) ≡ 0) [ true ↦ no_rows f p xs | false ↦ no_rows f p xs ]
-
-  or_false : (b : Bool) → (b || false) ≡ b
-  or_false true = refl
-  or_false false = refl
 
   enclosing-covers : (f : PlacedRow → ℕ) (context : ℕ) (rows : List PlacedRow) → sum_by f (enclosing all context rows) ≤ sum_by (λ r. sum_by f (enclosing all context (r ∷ []))) rows
   enclosing-covers f context [] = let none = no_rows f (λ r. r.context == context) all in omega arith

@@ -13,8 +13,9 @@ use Rattle.agg_model.specs.declared.row.Scalar.TheVariants as scalar
 use Rattle.agg_model.specs.declared.aggregation.CompositeSource.{CompositeSource}
 use Rattle.agg_model.specs.declared.aggregation.Kind.{Kind}
 use Rattle.agg_model.specs.declared.aggregation.Kind.TheVariants as kind
-use Rattle.agg_evaluation.specs.KeyOrder.{key_cmp, scalar_key}
-use Rattle.agg_evaluation.specs.Sorting.{insert_once}
+use Rattle.agg_evaluation.specs.KeyOrder.{key_cmp}
+use Rattle.agg_model.specs.ValueKeys.{scalar_key}
+use Rattle.list_laws.specs.Sorting.{insert_once}
 use Rattle.agg_evaluation.specs.Rows.{PlacedRow, values_of}
 use Rattle.agg_evaluation.specs.Keys.{keys, distinct_keys, or_missing, values_or, is_included, is_between, interval_key, histogram_keys, term_keys, or_null, no_bounds, source_keys, combinations, composite_keys}
 use Rattle.agg_evaluation.specs.Cost.{key_bytes, key_bytes_at}

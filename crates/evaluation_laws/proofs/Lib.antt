@@ -1,6 +1,5 @@
 pub mod Samples
 pub mod TraceLaws
-pub mod NodeFolds
 pub mod CostLaws
 pub mod SearchCosts
 pub mod CoverLaws

@@ -10,8 +10,8 @@ use Rattle.agg_model.specs.declared.aggregation.Search.{Search}
 use Rattle.agg_evaluation.specs.Cost.{cost, node_cost}
 use Rattle.agg_evaluation.specs.Trees.{pass_each, is_tree_of, is_result_of}
 use Rattle.agg_evaluation.specs.Whole.{children_at, whole_node, whole}
-use Rattle.agg_evaluation.proofs.KeyLists.{and_left, and_right, both}
-use Rattle.agg_evaluation.proofs.ListLaws.{sum_by-map}
+use Rattle.list_laws.proofs.Booleans.{and_left, and_right, both}
+use Rattle.list_laws.proofs.Lists.{sum_by-map}
 use Rattle.evaluation_laws.proofs.CostLaws.{EachSaves, children-save, whole_node-saves}
 
 -- a result's nodes as the children of a bucket

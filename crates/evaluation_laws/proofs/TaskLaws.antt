@@ -20,13 +20,13 @@ use Rattle.agg_evaluation.specs.Trace.{is_global, matched, global_roots, built, 
 use Rattle.agg_evaluation.specs.Placement.{is_placed, has_globals_at_top}
 use Rattle.agg_evaluation.specs.Ceiling.{Reached, counted_from, node_bound, collected_roots, task_bound, has_wide_row, greatest_ceiling, ceiling_by, ceiling}
 use Rattle.agg_evaluation.proofs.Computing.{computing}
-use Rattle.agg_evaluation.proofs.KeyLists.{and_left, and_right, both}
-use Rattle.agg_evaluation.proofs.ListLaws.{sum_by-map}
-use Rattle.agg_evaluation.proofs.SumLaws.{sum_by-take}
+use Rattle.list_laws.proofs.Booleans.{and_left, and_right, both}
+use Rattle.list_laws.proofs.Lists.{sum_by-map}
+use Rattle.list_laws.proofs.Sums.{sum_by-take}
 use Rattle.evaluation_laws.proofs.KeyBounds.{Each, each-filter, each-take, each-map, each-all, Known, known-all}
 use Rattle.evaluation_laws.proofs.CoverLaws.{Covers, over_paths, over_paths-counted}
 use Rattle.evaluation_laws.proofs.BoundLaws.{collected-bounded, counted-bounded, each-bounded, global-under}
-use Rattle.agg_evaluation.proofs.WholeLaws.{none_some, some_same}
+use Rattle.list_laws.proofs.Options.{none_some, some_same}
 use Rattle.evaluation_laws.proofs.TraceLaws.{no_amount, sum-none}
 
 kind_of : (name : List ℕ) (k : Kind) (n : _) (children : _) → (out-Agg (Agg' name k n children)).kind ≡ k

@@ -11,7 +11,7 @@ use Rattle.agg_evaluation.specs.Keys.{interval_start}
 use Rattle.agg_evaluation.specs.Orders.{bucket_key}
 use Rattle.agg_evaluation.specs.Trees.{is_ascending}
 use Rattle.agg_evaluation.proofs.KeyLists.{key_eq-self}
-use Rattle.agg_evaluation.proofs.ListLaws.{append-nil}
+use Rattle.list_laws.proofs.Lists.{append-nil}
 use Rattle.agg_model.specs.declared.aggregation.Bounds.{Bounds}
 use Rattle.agg_spec.specs.Filling.{bucket_at, filled_keys}
 use Rattle.agg_spec.specs.GapCount.{step_count}

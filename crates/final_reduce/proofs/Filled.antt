@@ -20,7 +20,7 @@ use Rattle.agg_evaluation.proofs.Computing.{computing}
 use Rattle.agg_evaluation.proofs.KeyLists.{key_eq-self}
 use Rattle.agg_spec.specs.Filling.{bucket_at}
 use Rattle.agg_spec.specs.GapCount.{step_count}
-use Rattle.partial_result.proofs.KeyLists.{less_is}
+use Rattle.list_laws.proofs.Orders.{less_of}
 use Rattle.final_reduce.specs.Steps.{keys_from}
 use Rattle.final_reduce.proofs.Intervals.{next_start, start-next, one_step}
 
@@ -37,7 +37,7 @@ apart m n less = ap is_eq (whole_cmp m n less)
 
 whole_less : (m n : ℤ) → is_lt (key_cmp (Whole m) (Whole n)) ≡ true → m <ℤ n
 unfolding computing
-whole_less m n e = int_ranked m n Less (sym (less_is _ e))
+whole_less m n e = int_ranked m n Less (sym (less_of _ e))
 
 module _ (interval offset : ℕ) where
   -- a bucket whose key is the start of an interval, from one number on and up to another

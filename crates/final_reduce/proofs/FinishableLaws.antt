@@ -20,12 +20,13 @@ use Rattle.agg_evaluation.specs.Shard.{fixed_keys}
 use Rattle.agg_evaluation.specs.Trees.{is_ascending, is_tree_at, have_children, pass_each}
 use Rattle.agg_evaluation.specs.Whole.{Shape, by_key, from_start, a_number, shape_of, Parts, parts, parts_at}
 use Rattle.agg_spec.specs.Final.{Finisher, finisher, finisher_of, finish_at, finish_bucket, buckets_answer, metric_answer}
-use Rattle.final_reduce.specs.Finishable.{is_finishable, is_finishable_at, fits_at, terms_fit, has_interval, has_intervals, has_histogram_keys}
+use Rattle.final_reduce.specs.Finishable.{is_finishable, is_finishable_at, fits_at, terms_fit, has_histogram_keys}
+use Rattle.agg_evaluation.specs.Conditions.{has_interval, has_intervals}
 use Rattle.final_reduce.specs.Planned.{has_composite_keys, returned_at}
 use Rattle.final_reduce.proofs.SelectLaws.{list_all-map, list_all-take, list_all-filter}
 use Rattle.bucket_order.proofs.SameOrder.{list_all-sorted}
 use Rattle.std.specs.List.{list_all}
-use Rattle.final_reduce.proofs.AggLaws.{fold_agg-level}
+use Rattle.agg_evaluation.proofs.AggFolds.{fold_agg-level}
 
 pub children_pass : (tests : List (Node → Bool)) (fixed : List Key) (shape : Shape) (n : Node-F Node Bucket) → is_tree_at tests fixed shape n ≡ true → have_children tests (parts_at n).buckets ≡ true
 children_pass tests fixed by_key (Node-F.Keyed buckets error full cut) h = (and_parts _ _ h).1

@@ -17,9 +17,10 @@ use Rattle.agg_evaluation.specs.Shard.{fixed_keys}
 use Rattle.agg_evaluation.specs.Trees.{is_ascending, have_children, is_tree_at}
 use Rattle.agg_evaluation.specs.Whole.{by_key, parts_at}
 use Rattle.agg_evaluation.proofs.NodeForms.{out-Keyed}
-use Rattle.final_reduce.specs.Finishable.{is_finishable, is_finishable_at, is_histogram_key, has_interval, has_intervals, fits_at}
+use Rattle.final_reduce.specs.Finishable.{is_finishable, is_finishable_at, is_histogram_key, fits_at}
+use Rattle.agg_evaluation.specs.Conditions.{has_interval, has_intervals}
 use Rattle.final_reduce.specs.SampleGaps.{counted_bucket, no_bounds, rises, IsHistogram}
-use Rattle.final_reduce.proofs.AggLaws.{fold_agg-level}
+use Rattle.agg_evaluation.proofs.AggFolds.{fold_agg-level}
 use Rattle.final_reduce.proofs.Filled.{whole_cmp}
 use Rattle.final_reduce.proofs.FinishableLaws.{is_finishable-level}
 use Rattle.final_reduce.proofs.SelectLaws.{list_all-map}

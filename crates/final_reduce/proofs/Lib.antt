@@ -1,5 +1,4 @@
 pub mod SumLaws
-pub mod AggLaws
 pub mod SelectLaws
 pub mod FinishableLaws
 pub mod CountLaws

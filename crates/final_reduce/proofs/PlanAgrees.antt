@@ -13,6 +13,7 @@ use Rattle.agg_model.specs.declared.key.Key.TheVariants as key
 use Rattle.agg_model.specs.declared.partial.Bucket.{Bucket}
 use Rattle.agg_model.specs.declared.partial.Metric.{Metric}
 use Rattle.agg_model.specs.declared.partial.Node.{Node, out-Node}
+use Rattle.agg_model.specs.declared.partial.Node.TheOpen.{Node-F}
 use Rattle.agg_model.specs.declared.partial.Partial.{Partial}
 use Rattle.agg_model.specs.declared.answer.BucketAnswer.{BucketAnswer, out-BucketAnswer, out-roll-BucketAnswer}
 use Rattle.agg_model.specs.declared.answer.BucketAnswer.TheOpen.{NodeAnswer-F, BucketAnswer-F}
@@ -26,13 +27,13 @@ use Rattle.agg_model.specs.declared.aggregation.Kind.{Kind}
 use Rattle.agg_model.specs.declared.aggregation.Kind.TheVariants as kind
 use Rattle.agg_model.specs.declared.aggregation.Search.{Search}
 use Rattle.agg_evaluation.specs.Folds.{fold_aggs}
-use Rattle.agg_evaluation.specs.Sorting.{sorted}
+use Rattle.list_laws.specs.Sorting.{sorted}
 use Rattle.agg_evaluation.specs.Orders.{bucket_cmp, bucket_key, bucket_count, composite_cmp}
 use Rattle.agg_evaluation.specs.Shard.{fixed_keys}
 use Rattle.agg_evaluation.specs.Trees.{are_same_keys, is_ascending, is_tree_at, have_children, pass_each}
 use Rattle.agg_evaluation.specs.Whole.{Parts, parts, parts_at, whole_by, whole_bucket, children_at, shape_of, by_key, from_start, a_number, metric_sum}
-use Rattle.agg_evaluation.proofs.KeyLists.{true_is}
-use Rattle.agg_evaluation.proofs.ListLaws.{sum_by-map}
+use Rattle.list_laws.proofs.Booleans.{true_is}
+use Rattle.list_laws.proofs.Lists.{sum_by-map}
 use Rattle.agg_evaluation.proofs.NodeForms.{out-Keyed, out-Fixed, out-Number}
 use Rattle.agg_evaluation.proofs.TreeLaws.{same-self}
 use Rattle.agg_evaluation.proofs.UnionLaws.{keys-whole}
@@ -43,11 +44,12 @@ use Rattle.agg_spec.specs.Final.{Finisher, finisher, finisher_of, finish_at, fin
 use Rattle.agg_spec.specs.GapCount.{Plan, plan, plan_of, plan_at, plan_each, below_empty, filled_count, planned_buckets}
 use Rattle.agg_spec.proofs.SumLaws.{sum_by-sorted}
 use Rattle.bucket_order.proofs.SameOrder.{list_all-sorted}
-use Rattle.final_reduce.specs.Finishable.{is_finishable, is_finishable_at, is_histogram_key, fits_at, has_interval, has_intervals, can_finish}
+use Rattle.final_reduce.specs.Finishable.{is_finishable, is_finishable_at, is_histogram_key, fits_at, can_finish}
+use Rattle.agg_evaluation.specs.Conditions.{has_interval, has_intervals}
 use Rattle.final_reduce.specs.Steps.{key_numbers}
 use Rattle.final_reduce.specs.Planned.{returned_at, gap_count, gaps_of, planned_below, planned_at, planned_of_nothing, member_number, fixed_count}
 use Rattle.bucket_order.specs.Kinds.{child_kinds}
-use Rattle.final_reduce.proofs.AggLaws.{fold_agg-level}
+use Rattle.agg_evaluation.proofs.AggFolds.{fold_agg-level}
 use Rattle.final_reduce.proofs.Filled.{adds_up}
 use Rattle.final_reduce.proofs.SpanLaws.{spans, span-count, span-keys, span-starts, span-holds}
 use Rattle.final_reduce.proofs.PlannedLaws.{plan_at-is, all_frequent}
@@ -303,12 +305,12 @@ module _ (name : List ℕ) (ps : List Plan) (fs : List Finisher) (cs : List Coun
       let all : list_all passes bs ≡ true = list_all-map passes (whole_bucket ws []) ks ∙ all_same (pass_each ts nodes) ks one in
       let keys : are_same_keys (map bucket_key bs) ks ≡ true = ap (λ js. are_same_keys js ks) (keys-whole ws [] ks) ∙ true_is _ (same-self ks) in
       subst (λ s. (is_tree_at ts ks s (out-Node (whole_by ws k s [])) && fits_at k (parts (whole_by ws k s []))) ≡ true) (sym is)
-      (subst (λ l. (is_tree_at ts ks from_start l && fits_at k (parts_at l)) ≡ true) (sym (out-Fixed bs)) (and_from _ _ (and_from _ _ keys all) (fits _)))
+      (subst (λ l. (is_tree_at ts ks from_start l && fits_at k (parts_at l)) ≡ true) (sym (out-Fixed bs)) (and_from _ _ (and_from _ _ keys all) (fits (parts_at (Node-F.Fixed bs)))))
 
   number-nothing : (k : Kind) → ((p : Parts) → fits_at k p ≡ true) → shape_of k ≡ a_number → is_finishable_at ts k (whole_by ws k (shape_of k) []) ≡ true
   number-nothing k fits is =
       subst (λ s. (is_tree_at ts (fixed_keys k) s (out-Node (whole_by ws k s [])) && fits_at k (parts (whole_by ws k s []))) ≡ true) (sym is)
-      (subst (λ l. (is_tree_at ts (fixed_keys k) a_number l && fits_at k (parts_at l)) ≡ true) (sym (out-Number (metric_sum []))) (fits _))
+      (subst (λ l. (is_tree_at ts (fixed_keys k) a_number l && fits_at k (parts_at l)) ≡ true) (sym (out-Number (metric_sum []))) (fits (parts_at (Node-F.Number (metric_sum [])))))
 
   nothing-at : (k : Kind) → is_finishable_at ts k (whole_by ws k (shape_of k) []) ≡ true
   nothing-at (kind.Terms f size ss m order i x ms sh) = keyed-nothing (kind.Terms f size ss m order i x ms sh) refl refl
@@ -393,7 +395,7 @@ module _ (ps : List Plan) where
   zeros b n = omega arith
 
   keyed-none : (k : Kind) → shape_of k ≡ by_key → planned_at ps k [] ≡ (member_number k (fixed_count k) + fixed_count k * below_empty ps) + gap_count k [] * (1 + below_empty ps) → Nothing k
-  keyed-none k is e = ap (λ s. plan_at ps k (parts (whole_by unions k s []))) is ∙ ap (λ l. plan_at ps k (parts_at l)) (out-Keyed [] 0 0 0) ∙ plan_at-is ps k _ ∙ e
+  keyed-none k is e = ap (λ s. plan_at ps k (parts (whole_by unions k s []))) is ∙ ap (λ l. plan_at ps k (parts_at l)) (out-Keyed [] 0 0 0) ∙ plan_at-is ps k (parts_at (Node-F.Keyed [] 0 0 0)) ∙ e
 
   taken-none : (k : Kind) (n : ℕ) → member_number k (fixed_count k) ≡ 0 → fixed_count k ≡ 0 → gap_count k [] ≡ 0
       → (length (take n (nil Bucket)) + planned_below ps (take n [])) + 0 * (1 + below_empty ps) ≡ (member_number k (fixed_count k) + fixed_count k * below_empty ps) + gap_count k [] * (1 + below_empty ps)
@@ -406,12 +408,12 @@ module _ (ps : List Plan) where
       let bs = map (whole_bucket unions []) (fixed_keys k) in
       let long : length bs ≡ fixed_count k = length-map (fixed_keys k) (whole_bucket unions []) ∙ number in
       let below : planned_below ps bs ≡ fixed_count k * below_empty ps = below-keys (fixed_keys k) ∙ ap (λ n. n * below_empty ps) number in
-      ap (λ s. plan_at ps k (parts (whole_by unions k s []))) is ∙ ap (λ l. plan_at ps k (parts_at l)) (out-Fixed bs) ∙ plan_at-is ps k _
+      ap (λ s. plan_at ps k (parts (whole_by unions k s []))) is ∙ ap (λ l. plan_at ps k (parts_at l)) (out-Fixed bs) ∙ plan_at-is ps k (parts_at (Node-F.Fixed bs))
       ∙ (λ i. (member_count k (all bs i) + planned_below ps (all bs i)) + (none bs ∙ sym (none [])) i * (1 + below_empty ps))
       ∙ (λ i. ((member_count-is k bs ∙ ap (member_number k) long) i + below i) + gap_count k [] * (1 + below_empty ps))
 
   number-none : (k : Kind) → shape_of k ≡ a_number → planned_at ps k [] ≡ (member_number k (fixed_count k) + fixed_count k * below_empty ps) + gap_count k [] * (1 + below_empty ps) → Nothing k
-  number-none k is e = ap (λ s. plan_at ps k (parts (whole_by unions k s []))) is ∙ ap (λ l. plan_at ps k (parts_at l)) (out-Number (metric_sum [])) ∙ plan_at-is ps k _ ∙ e
+  number-none k is e = ap (λ s. plan_at ps k (parts (whole_by unions k s []))) is ∙ ap (λ l. plan_at ps k (parts_at l)) (out-Number (metric_sum [])) ∙ plan_at-is ps k (parts_at (Node-F.Number (metric_sum []))) ∙ e
 
   pub nothing-planned : (k : Kind) → Nothing k
   nothing-planned (kind.Terms f size ss m order i x ms sh) = keyed-none (kind.Terms f size ss m order i x ms sh) refl (taken-none (kind.Terms f size ss m order i x ms sh) size refl refl refl)

@@ -5,10 +5,10 @@ use Rattle.std.proofs.lemmas.Bool.{eqb-true, le-leb}
 use Rattle.agg_model.specs.declared.partial.Bucket.{Bucket}
 use Rattle.agg_model.specs.declared.aggregation.Kind.{Kind}
 use Rattle.agg_model.specs.declared.aggregation.Kind.TheVariants as kind
-use Rattle.agg_evaluation.specs.Sorting.{sorted}
+use Rattle.list_laws.specs.Sorting.{sorted}
 use Rattle.agg_evaluation.specs.Orders.{bucket_cmp, bucket_key, bucket_count, composite_cmp}
 use Rattle.agg_evaluation.specs.Whole.{Parts}
-use Rattle.agg_evaluation.proofs.ListLaws.{sum_by-map}
+use Rattle.list_laws.proofs.Lists.{sum_by-map}
 use Rattle.agg_spec.specs.Filling.{frequent}
 use Rattle.agg_spec.specs.GapCount.{Plan, plan_each, plan_at, with_children, below_empty, filled_count}
 use Rattle.final_reduce.specs.Steps.{key_numbers}

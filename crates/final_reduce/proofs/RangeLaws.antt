@@ -7,7 +7,7 @@ use Rattle.agg_model.specs.declared.aggregation.Agg.{Agg, out-Agg}
 use Rattle.agg_model.specs.declared.aggregation.Agg.TheOpen.{Agg-F}
 use Rattle.agg_spec.specs.RangeCheck.{Checker, checker, first_path}
 use Rattle.final_reduce.specs.Paths.{path_bytes, checked_inside}
-use Rattle.final_reduce.proofs.AggLaws.{fold_agg-level}
+use Rattle.agg_evaluation.proofs.AggFolds.{fold_agg-level}
 
 pub first_path-some : (xs ys : List (List ℕ)) (path : List ℕ) → Some path ≡ first_path xs → Some path ≡ first_path (xs ++ ys)
 first_path-some [] ys path e = absurd (false≢true (sym (ap is_some e)))

@@ -10,9 +10,10 @@ use Rattle.agg_model.specs.declared.aggregation.Agg.{Agg, out-Agg}
 use Rattle.agg_evaluation.proofs.Computing.{computing}
 use Rattle.agg_evaluation.specs.Trees.{pass_each}
 use Rattle.std.specs.List.{list_all}
-use Rattle.final_reduce.specs.Finishable.{has_interval, has_intervals, is_finishable, is_finishable_at}
+use Rattle.final_reduce.specs.Finishable.{is_finishable, is_finishable_at}
+use Rattle.agg_evaluation.specs.Conditions.{has_interval, has_intervals}
 use Rattle.final_reduce.specs.SampleTerms.{IsTermsAlone, IsTermsKind, returned_bucket}
-use Rattle.final_reduce.proofs.AggLaws.{fold_agg-level}
+use Rattle.agg_evaluation.proofs.AggFolds.{fold_agg-level}
 use Rattle.final_reduce.proofs.FinishableLaws.{is_finishable-level}
 
 -- a search for one aggregation

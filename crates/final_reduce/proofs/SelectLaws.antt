@@ -6,10 +6,10 @@ use Rattle.std.proofs.lemmas.Bool.{cases_Bool, and_parts, and_from}
 use Rattle.agg_model.specs.declared.aggregation.Agg.{Agg}
 use Rattle.std.specs.declared.cmp.Ordering.{Ordering}
 use Rattle.std.specs.Ordering.{is_le}
-use Rattle.agg_evaluation.specs.Sorting.{sorted, insert_sorted}
+use Rattle.list_laws.specs.Sorting.{sorted, insert_sorted}
 use Rattle.agg_spec.specs.Final.{Finisher, finisher, finisher_of}
 use Rattle.bucket_order.specs.Kinds.{kind_of, child_kinds}
-use Rattle.final_reduce.proofs.AggLaws.{fold_agg-level}
+use Rattle.agg_evaluation.proofs.AggFolds.{fold_agg-level}
 
 pub map-map : {A B C : Type 0} (g : B → C) (f : A → B) (xs : List A) → map g (map f xs) ≡ map (λ x. g (f x)) xs
 map-map g f [] = refl

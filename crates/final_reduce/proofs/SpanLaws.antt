@@ -14,7 +14,7 @@ use Rattle.agg_model.specs.declared.partial.Bucket.{Bucket}
 use Rattle.agg_model.specs.declared.aggregation.Bounds.{Bounds}
 use Rattle.agg_evaluation.specs.Keys.{interval_start, is_between}
 use Rattle.agg_evaluation.specs.Orders.{bucket_key}
-use Rattle.agg_evaluation.proofs.ListLaws.{append-nil}
+use Rattle.list_laws.proofs.Lists.{append-nil}
 use Rattle.agg_spec.specs.Filling.{number_of_key, least_key, greatest_key, has_buckets, filled_keys, steps_between}
 use Rattle.agg_spec.specs.GapCount.{step_count, filled_count, key_from, keys_between}
 use Rattle.final_reduce.specs.Finishable.{is_histogram_key, is_near}

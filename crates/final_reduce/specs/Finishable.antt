@@ -10,7 +10,7 @@ use Rattle.agg_model.specs.declared.partial.Node.{Node, out-Node}
 use Rattle.agg_model.specs.declared.partial.Partial.{Partial}
 use Rattle.agg_model.specs.declared.aggregation.Bounds.{Bounds}
 use Rattle.agg_model.specs.declared.aggregation.Kind.{Kind}
-use Rattle.agg_model.specs.declared.aggregation.Kind.TheVariants as kind
+use Rattle.agg_model.specs.Options.{Options, options_of}
 use Rattle.agg_model.specs.declared.aggregation.Agg.{Agg}
 use Rattle.agg_model.specs.declared.aggregation.Search.{Search}
 use Rattle.agg_evaluation.specs.Folds.{fold_agg}
@@ -20,6 +20,7 @@ use Rattle.agg_evaluation.specs.Shard.{fixed_keys}
 use Rattle.agg_evaluation.specs.Trees.{is_tree_at, pass_each}
 use Rattle.bucket_order.specs.Composites.{is_composite_of}
 use Rattle.agg_evaluation.specs.Whole.{Parts, parts, shape_of}
+use Rattle.agg_evaluation.specs.Conditions.{has_intervals}
 
 -- all counts together are one, an error is a signed number, and no term was covered by more than all the shards' errors
 abbrev pub terms_fit : Parts → Bool
@@ -35,14 +36,18 @@ is_histogram_key interval offset hard (Whole key) = int_eq (interval_start inter
 is_histogram_key interval offset hard _ = false
 
 abbrev pub has_histogram_keys : Kind → List Bucket → Bool
-has_histogram_keys (kind.Histogram field interval offset min_doc_count extended hard keyed order missing) bs = list_all (λ b. is_histogram_key interval offset hard (bucket_key b)) bs
-has_histogram_keys _ bs = true
+has_histogram_keys k bs = elim (options_of k) [
+    Options.Histogram h ↦ list_all (λ b. is_histogram_key h.interval h.offset h.hard (bucket_key b)) bs
+  | _ ↦ true
+  ]
 
 abbrev pub fits_at : Kind → Parts → Bool
-fits_at (kind.Terms field size shard_size min_doc_count order include exclude missing show_error) p = terms_fit p
-fits_at (kind.Histogram field interval offset min_doc_count extended hard keyed order missing) p = has_histogram_keys (kind.Histogram field interval offset min_doc_count extended hard keyed order missing) p.buckets
-fits_at (kind.Composite sources size after) p = list_all (λ b. is_composite_of (length sources) (bucket_key b)) p.buckets
-fits_at _ p = true
+fits_at k p = elim (options_of k) [
+    Options.Terms t ↦ terms_fit p
+  | Options.Histogram h ↦ has_histogram_keys k p.buckets
+  | Options.Composite sources size after ↦ list_all (λ b. is_composite_of (length sources) (bucket_key b)) p.buckets
+  | _ ↦ true
+  ]
 
 -- the tests are those of the children
 abbrev pub is_finishable_at : List (Node → Bool) → Kind → Node → Bool
@@ -51,14 +56,6 @@ is_finishable_at tests k n = is_tree_at tests (fixed_keys k) (shape_of k) (out-N
 -- whether a node is a tree of the aggregation, and its numbers and keys are as those of shard answers
 abbrev pub is_finishable : Agg → Node → Bool
 is_finishable = fold_agg (λ a n. is_finishable_at a.children a.kind n)
-
-abbrev pub has_interval : Kind → Bool
-has_interval (kind.Histogram field interval offset min_doc_count extended hard keyed order missing) = nat_lt 0 interval
-has_interval _ = true
-
--- whether the interval of the aggregation, and of each below it, is above 0, as requests have it
-abbrev pub has_intervals : Agg → Bool
-has_intervals = fold_agg (λ a. has_interval a.kind && list_all (λ has. has) a.children)
 
 -- whether the search has intervals, and all nodes of a partial result can be finished
 abbrev pub can_finish : Search → Partial → Bool

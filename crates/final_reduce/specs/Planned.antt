@@ -7,7 +7,8 @@ use Rattle.agg_model.specs.declared.partial.Bucket.{Bucket}
 use Rattle.agg_model.specs.declared.aggregation.Agg.{Agg}
 use Rattle.agg_model.specs.declared.aggregation.Kind.{Kind}
 use Rattle.agg_model.specs.declared.aggregation.Kind.TheVariants as kind
-use Rattle.agg_evaluation.specs.Sorting.{sorted}
+use Rattle.list_laws.specs.Sorting.{sorted}
+use Rattle.agg_model.specs.Options.{Options, options_of}
 use Rattle.agg_evaluation.specs.Orders.{bucket_cmp, bucket_key, composite_cmp}
 use Rattle.bucket_order.specs.Composites.{is_composite_of}
 use Rattle.agg_spec.specs.BucketCount.{member_count}
@@ -17,11 +18,12 @@ use Rattle.final_reduce.specs.Steps.{key_numbers}
 
 -- the buckets that are returned, but for those that fill gaps
 abbrev pub returned_at : List Kind → Kind → List Bucket → List Bucket
-returned_at kinds (kind.Terms field size shard_size min_doc_count order include exclude missing show_error) bs =
-    take size (sorted (bucket_cmp kinds order) (frequent min_doc_count bs))
-returned_at kinds (kind.Histogram field interval offset min_doc_count extended hard keyed order missing) bs = frequent min_doc_count bs
-returned_at kinds (kind.Composite sources size after) bs = take size (sorted (λ a b. composite_cmp sources (bucket_key a) (bucket_key b)) bs)
-returned_at kinds _ bs = bs
+returned_at kinds k bs = elim (options_of k) [
+    Options.Terms t ↦ take t.size (sorted (bucket_cmp kinds t.order) (frequent t.min_doc_count bs))
+  | Options.Histogram h ↦ frequent h.min_doc_count bs
+  | Options.Composite sources size after ↦ take size (sorted (λ a b. composite_cmp sources (bucket_key a) (bucket_key b)) bs)
+  | _ ↦ bs
+  ]
 
 -- the keys of a composite aggregation have a part for each source
 abbrev pub has_composite_keys : Kind → List Bucket → Bool
@@ -35,8 +37,7 @@ gaps_of interval offset min_doc_count extended hard bs =
 
 -- how many buckets fill gaps
 abbrev pub gap_count : Kind → List Bucket → ℕ
-gap_count (kind.Histogram field interval offset min_doc_count extended hard keyed order missing) bs = gaps_of interval offset min_doc_count extended hard bs
-gap_count _ bs = 0
+gap_count k bs = elim (options_of k) [ Options.Histogram h ↦ gaps_of h.interval h.offset h.min_doc_count h.extended h.hard bs | _ ↦ 0 ]
 
 -- the buckets below some buckets
 abbrev pub planned_below : List Plan → List Bucket → ℕ

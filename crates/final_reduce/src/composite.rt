@@ -1,7 +1,7 @@
 // The composite keys that an answer returns.
 ghost use Rattle.std.specs.Prelude.{◌≡◌, IfOk, IsTrue, take, length};
 ghost use Rattle.std.specs.List.{list_all};
-ghost use Rattle.agg_evaluation.specs.Sorting.{sorted};
+ghost use Rattle.list_laws.specs.Sorting.{sorted};
 ghost use Rattle.agg_evaluation.specs.Orders.{bucket_key, composite_cmp};
 ghost use Rattle.bucket_order.specs.Composites.{is_composite_of};
 

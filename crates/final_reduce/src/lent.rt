@@ -1,7 +1,7 @@
 // Buckets of a whole, lent to be counted.
 ghost use Rattle.std.specs.Prelude.{◌≡◌, IfOk, OnOk, IsTrue, map, take, length};
 ghost use Rattle.std.specs.List.{list_all};
-ghost use Rattle.agg_evaluation.specs.Sorting.{sorted};
+ghost use Rattle.list_laws.specs.Sorting.{sorted};
 ghost use Rattle.agg_evaluation.specs.Orders.{bucket_cmp, bucket_key, composite_cmp};
 ghost use Rattle.agg_model.specs.declared.aggregation.Agg.{out-Agg};
 ghost use Rattle.agg_spec.specs.Filling.{frequent};

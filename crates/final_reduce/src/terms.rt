@@ -1,6 +1,6 @@
 // The terms that an answer returns.
 ghost use Rattle.std.specs.Prelude.{◌≡◌, ◌<◌, ◌≤◌, ◌^◌, IfOk, map, take, drop, sum_by};
-ghost use Rattle.agg_evaluation.specs.Sorting.{sorted};
+ghost use Rattle.list_laws.specs.Sorting.{sorted};
 ghost use Rattle.agg_evaluation.specs.Orders.{bucket_cmp, bucket_count};
 ghost use Rattle.agg_spec.specs.Filling.{frequent};
 ghost use Rattle.bucket_order.specs.Kinds.{child_kinds};

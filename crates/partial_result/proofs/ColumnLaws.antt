@@ -5,7 +5,7 @@ use Rattle.std.proofs.Common.{sym, ◌∙◌, ap, subst}
 use Rattle.agg_model.specs.declared.partial.Node.{Node}
 use Rattle.agg_evaluation.specs.Trees.{pass_each, node_fits}
 use Rattle.partial_result.specs.Merged.{merged, merged_children, other_node}
-use Rattle.partial_result.proofs.KeyLists.{and_first, and_second, and_both}
+use Rattle.list_laws.proofs.Booleans.{and_first, and_second, and_both}
 use Rattle.partial_result.proofs.Columns.{tail, heads, columns}
 
 -- what the whole of an aggregation keeps, whose trees pass the test

@@ -9,7 +9,7 @@ use Rattle.agg_model.specs.declared.partial.Node.TheVariants.{Keyed, Fixed}
 use Rattle.agg_evaluation.specs.Cost.{key_bytes, key_bytes_at, node_cost, node_cost_at, bucket_cost}
 use Rattle.agg_evaluation.proofs.FoldLaws.{fold_key-Many}
 use Rattle.partial_result.specs.Costs.{cost_of_bucket}
-use Rattle.partial_result.proofs.FoldLevels.{fold_bucket, fold_node-Fixed, fold_node-Keyed}
+use Rattle.agg_evaluation.proofs.NodeFolds.{fold_bucket, fold_node-Fixed, fold_node-Keyed}
 
 pub key_bytes-Many : (ks : List Key) → key_bytes (Many ks) ≡ sum_by key_bytes ks
 key_bytes-Many ks = fold_key-Many key_bytes_at ks ∙ sum-map key_bytes ks

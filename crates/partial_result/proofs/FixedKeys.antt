@@ -16,7 +16,7 @@ use Rattle.agg_evaluation.specs.Shard.{fixed_keys}
 use Rattle.agg_evaluation.specs.Trees.{is_ascending}
 use Rattle.agg_evaluation.proofs.KeyCompare.{key_cmp_total}
 use Rattle.agg_evaluation.proofs.Computing.{computing}
-use Rattle.partial_result.proofs.KeyLists.{and_both}
+use Rattle.list_laws.proofs.Booleans.{and_both}
 
 fixed_cmp : (m n : ℕ) → m < n → key_cmp (key.Fixed m) (key.Fixed n) ≡ Less
 unfolding computing

@@ -15,7 +15,8 @@ use Rattle.agg_evaluation.proofs.KeyCompare.{key_cmp_total}
 use Rattle.agg_evaluation.proofs.KeyExact.{exact_keys}
 use Rattle.partial_result.specs.Merged.{OtherBucket, put_in, united, other_bucket, merged_bucket}
 use Rattle.partial_result.proofs.MergeLevels.{merged_bucket_level}
-use Rattle.partial_result.proofs.KeyLists.{holds, is_true, and_first, and_second, and_both, less_is, equal_is}
+use Rattle.list_laws.proofs.Booleans.{holds, true_is, and_first, and_second, and_both}
+use Rattle.list_laws.proofs.Orders.{less_of, equal_of}
 
 abbrev pub entries : List Bucket → List (Key × Bucket)
 entries bs = map (λ b. (b.key, b)) bs
@@ -60,7 +61,7 @@ pub found-key : (q : Key) (bs : List Bucket) (b : Bucket) → found q bs ≡ Som
 found-key q [] b h = none_some b h
 found-key q (x ∷ xs) b h =
     elim (key_eq q x.key) as (λ r. key_eq q x.key ≡ r → cond r (Some x) (found q xs) ≡ Some b → q ≡ b.key) [
-      | true ↦ λ p g. exact_keys q x.key (equal_is _ p) ∙ ap (λ (y : Bucket). y.key) (same_some x b g)
+      | true ↦ λ p g. exact_keys q x.key (equal_of _ p) ∙ ap (λ (y : Bucket). y.key) (same_some x b g)
       | false ↦ λ p g. found-key q xs b g
     ] refl h
 
@@ -74,11 +75,11 @@ found-pass test q (x ∷ xs) b all h =
 
 pub found_below : (q : Key) (bs : List Bucket) → is_below q bs ≡ true → found q bs ≡ None
 found_below q [] h = refl
-found_below q (b ∷ bs) h = ap (λ r. cond (is_eq r) (Some b) (found q bs)) (less_is _ (and_first _ _ h)) ∙ found_below q bs (and_second _ _ h)
+found_below q (b ∷ bs) h = ap (λ r. cond (is_eq r) (Some b) (found q bs)) (less_of _ (and_first _ _ h)) ∙ found_below q bs (and_second _ _ h)
 
 pub below-less : (k j : Key) (bs : List Bucket) → key_cmp k j ≡ Less → is_below j bs ≡ true → is_below k bs ≡ true
 below-less k j [] p h = refl
-below-less k j (b ∷ bs) p h = and_both _ _ (ap is_lt (key_cmp_total.trans k j b.key p (less_is _ (and_first _ _ h)))) (below-less k j bs p (and_second _ _ h))
+below-less k j (b ∷ bs) p h = and_both _ _ (ap is_lt (key_cmp_total.trans k j b.key p (less_of _ (and_first _ _ h)))) (below-less k j bs p (and_second _ _ h))
 
 -- in a list that ascends, the buckets of a key are the one that is found
 pub same-found : (q : Key) (bs : List Bucket) → is_sorted key_cmp (entries bs) ≡ true → filter (λ b. key_eq q b.key) bs ≡ option_to_list (found q bs)
@@ -86,7 +87,7 @@ same-found q [] h = refl
 same-found q (b ∷ bs) h =
     elim (key_eq q b.key) as (λ r. key_eq q b.key ≡ r → cond r (b ∷ filter (λ x. key_eq q x.key) bs) (filter (λ x. key_eq q x.key) bs) ≡ option_to_list (cond r (Some b) (found q bs))) [
       | true ↦ λ p. ap (λ xs. b ∷ xs) (same-found q bs (and_second _ _ h)
-          ∙ ap option_to_list (found_below q bs (subst (λ k. is_below k bs ≡ true) (sym (exact_keys q b.key (equal_is _ p))) (and_first _ _ h))))
+          ∙ ap option_to_list (found_below q bs (subst (λ k. is_below k bs ≡ true) (sym (exact_keys q b.key (equal_of _ p))) (and_first _ _ h))))
       | false ↦ λ p. same-found q bs (and_second _ _ h)
     ] refl
 
@@ -152,7 +153,7 @@ module _ (c : Bucket) (cs : List Bucket) (below : is_below c.key cs ≡ true) wh
           | Less ↦ λ p.
               elim (key_eq q c.key) as (λ s. key_eq q c.key ≡ s → cond s (Some c) (found q (behind (b ∷ bs))) ≡ both_found (cond s (Some c) (found q cs)) (found q (b ∷ bs))) [
                 | true ↦ λ e.
-                    let same : q ≡ c.key = exact_keys q c.key (equal_is _ e) in
+                    let same : q ≡ c.key = exact_keys q c.key (equal_of _ e) in
                     ap (both_found (Some c)) (sym (found_below q (b ∷ bs) (ap (λ j. is_below j (b ∷ bs)) same ∙ and_both _ _ (ap is_lt p) (below-less c.key b.key bs p (and_first _ _ g)))))
                 | false ↦ λ e. rest (b ∷ bs) g
               ] refl
@@ -166,7 +167,7 @@ module _ (c : Bucket) (cs : List Bucket) (below : is_below c.key cs ≡ true) wh
               let less = greater_less c.key b.key p in
               elim (key_eq q b.key) as (λ s. key_eq q b.key ≡ s → cond s (Some b) (found q (put_in (other_bucket c) behind bs)) ≡ both_found (cond (key_eq q c.key) (Some c) (found q cs)) (cond s (Some b) (found q bs))) [
                 | true ↦ λ e.
-                    let same : q ≡ b.key = exact_keys q b.key (equal_is _ e) in
+                    let same : q ≡ b.key = exact_keys q b.key (equal_of _ e) in
                     ap (λ o. both_found o (Some b)) (sym (found_below q (c ∷ cs) (ap (λ j. is_below j (c ∷ cs)) same ∙ and_both _ _ (ap is_lt less) (below-less b.key c.key cs less below))))
                 | false ↦ λ e. found-put bs (and_second _ _ g)
               ] refl

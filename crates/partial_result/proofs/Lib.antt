@@ -1,4 +1,3 @@
-pub mod FoldLevels
 pub mod CostLevels
 pub mod MergeLevels
 pub mod PassingLaws

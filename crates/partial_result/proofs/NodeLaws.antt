@@ -22,9 +22,13 @@ use Rattle.agg_evaluation.specs.Whole.{Shape, by_key, from_start, a_number, Part
 use Rattle.agg_evaluation.specs.Trees.{is_ascending, are_same_keys, have_children, is_tree_at, fits_u64, fits_i128, node_fits, node_fits_at, bucket_fits}
 use Rattle.agg_evaluation.proofs.KeyExact.{exact_keys}
 use Rattle.partial_result.specs.Merged.{merged, united, merged_metric, sum_u64, sum_u32}
-use Rattle.partial_result.proofs.FoldLevels.{fold_node-Keyed, fold_node-Fixed}
+use Rattle.agg_evaluation.proofs.NodeFolds.{fold_node-Keyed, fold_node-Fixed}
 use Rattle.partial_result.proofs.MergeLevels.{merged-Keyed, merged-Fixed, merged-Number}
-use Rattle.partial_result.proofs.KeyLists.{and_first, and_second, and_both, equal_is, ascending-distinct, has_key-distinct, distinct-ascending, has_key-append}
+use Rattle.partial_result.proofs.KeyLists.{ascending-distinct, distinct-ascending}
+use Rattle.list_laws.proofs.Booleans.{and_first, and_second, and_both}
+use Rattle.list_laws.proofs.Orders.{equal_of}
+use Rattle.agg_evaluation.proofs.KeyLists.{has_key-distinct_keys}
+use Rattle.agg_evaluation.proofs.UnionLaws.{has_key-append}
 use Rattle.partial_result.proofs.FixedKeys.{ascending-fixed, slice_cmp-itself}
 use Rattle.partial_result.proofs.MetricLaws.{metric_sum-one, metric_sum-two}
 use Rattle.partial_result.proofs.ColumnLaws.{IsWhole, EachWhole, false_true}
@@ -114,7 +118,7 @@ module _ (ws : List (List Node → Node)) (tests : List (Node → Bool)) (each :
       let numbers : ((errors && fulls) && cuts) ≡ true = and_first ((errors && fulls) && cuts) below level in
       let firsts : (errors && fulls) ≡ true = and_first (errors && fulls) cuts numbers in
       let buckets = table-two ws tests each (distinct_keys (map bucket_key (bs ++ cs))) bs cs (ascending-distinct (map bucket_key (bs ++ cs)))
-      (λ key. has_key-distinct key (map bucket_key (bs ++ cs)) ∙ ap (has_key key) (map-append bs cs) ∙ has_key-append key (map bucket_key bs) (map bucket_key cs))
+      (λ key. has_key-distinct_keys key (map bucket_key (bs ++ cs)) ∙ ap (has_key key) (map-append bs cs) ∙ has_key-append key (map bucket_key bs) (map bucket_key cs))
       (sorted-entries bs ∙ up) (sorted-entries cs ∙ up') (and_second _ _ pass) (and_second _ _ pass')
       (sym (all-map (keyed_table (bs ++ cs))) ∙ and_second ((errors && fulls) && cuts) below level) in
       (λ i. merged ((node_of n (Node-F.Keyed cs e' f' c') is' ∙ rolls-Keyed cs e' f' c') i) ((node_of m (Node-F.Keyed bs e f c) is ∙ rolls-Keyed bs e f c) i))

@@ -19,9 +19,10 @@ use Rattle.agg_evaluation.specs.Whole.{Shape, by_key, from_start, a_number, Part
 use Rattle.agg_evaluation.specs.Trees.{is_ascending, are_same_keys, have_children, is_tree_at, fits_u64, fits_i128, node_fits, node_fits_at, bucket_fits}
 use Rattle.agg_evaluation.proofs.KeyExact.{exact_keys}
 use Rattle.partial_result.specs.Merged.{merged}
-use Rattle.partial_result.proofs.FoldLevels.{fold_node-Fixed}
+use Rattle.agg_evaluation.proofs.NodeFolds.{fold_node-Fixed}
 use Rattle.partial_result.proofs.MergeLevels.{merged-Fixed, merged-Number}
-use Rattle.partial_result.proofs.KeyLists.{and_first, and_second, and_both, equal_is}
+use Rattle.list_laws.proofs.Booleans.{and_first, and_second, and_both}
+use Rattle.list_laws.proofs.Orders.{equal_of}
 use Rattle.partial_result.proofs.FixedKeys.{ascending-fixed, slice_cmp-itself}
 use Rattle.partial_result.proofs.MetricLaws.{metric_sum-one, metric_sum-two}
 use Rattle.partial_result.proofs.ColumnLaws.{IsWhole, EachWhole, false_true}
@@ -47,7 +48,7 @@ module _ (ws : List (List Node → Node)) (tests : List (Node → Bool)) (each :
       (table-pass ws tests each (fixed_keys k) (buckets_in xs))
 
   keys_are : (bs : List Bucket) → are_same_keys (map bucket_key bs) (fixed_keys k) ≡ true → map bucket_key bs ≡ fixed_keys k
-  keys_are bs h = slice_cmp-IsAntisymmetric exact_keys (map bucket_key bs) (fixed_keys k) (equal_is _ h)
+  keys_are bs h = slice_cmp-IsAntisymmetric exact_keys (map bucket_key bs) (fixed_keys k) (equal_of _ h)
 
   rising : (bs : List Bucket) → are_same_keys (map bucket_key bs) (fixed_keys k) ≡ true → is_ascending (map bucket_key bs) ≡ true
   rising bs h = ap is_ascending (keys_are bs h) ∙ ascending-fixed k

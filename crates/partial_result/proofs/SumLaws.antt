@@ -6,7 +6,7 @@ use Rattle.agg_model.specs.declared.partial.Partial.{Partial}
 use Rattle.agg_evaluation.specs.Trees.{is_result_of}
 use Rattle.agg_evaluation.specs.Whole.{whole}
 use Rattle.agg_evaluation.proofs.SearchLaws.{whole-unites, whole-swaps, whole-alone}
-use Rattle.partial_result.proofs.KeyLists.{holds}
+use Rattle.list_laws.proofs.Booleans.{holds}
 
 module _ (search : Search) where
   alone : (p : Partial) → is_result_of search p ≡ true → whole search (p ∷ []) ≡ p

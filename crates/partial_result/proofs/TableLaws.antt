@@ -17,9 +17,11 @@ use Rattle.agg_evaluation.specs.Whole.{whole_bucket}
 use Rattle.agg_evaluation.specs.Trees.{is_ascending, pass_each, have_children, fits_u64, node_fits, node_fits_at, bucket_fits}
 use Rattle.agg_evaluation.proofs.KeyExact.{exact_keys}
 use Rattle.partial_result.specs.Merged.{united, merged_bucket, sum_u64}
-use Rattle.partial_result.proofs.FoldLevels.{fold_bucket}
+use Rattle.agg_evaluation.proofs.NodeFolds.{fold_bucket}
 use Rattle.partial_result.proofs.MergeLevels.{merged_bucket_level}
-use Rattle.partial_result.proofs.KeyLists.{and_first, and_second, and_both, equal_is, one_same}
+use Rattle.partial_result.proofs.KeyLists.{one_same}
+use Rattle.list_laws.proofs.Booleans.{and_first, and_second, and_both}
+use Rattle.list_laws.proofs.Orders.{equal_of}
 use Rattle.partial_result.proofs.Columns.{wholes, columns, wholes_are}
 use Rattle.partial_result.proofs.ColumnLaws.{EachWhole, columns-two}
 use Rattle.partial_result.proofs.Found.{entries, found, both_found, IsRising, others, same_found, sorted-entries, same-found, is_some-found, found-key, found-pass, rising-united, found-united}
@@ -42,7 +44,7 @@ module _ (ws : List (List Node → Node)) (tests : List (Node → Bool)) (each :
   found-table q [] bs = refl
   found-table q (k ∷ ks) bs =
       elim (key_eq q k) as (λ r. key_eq q k ≡ r → cond r (Some (whole_bucket ws bs k)) (found q (table ws tests each ks bs)) ≡ cond (r || has_key q ks) (Some (whole_bucket ws bs q)) None) [
-        | true ↦ λ e. ap (λ j. Some (whole_bucket ws bs j)) (sym (exact_keys q k (equal_is _ e)))
+        | true ↦ λ e. ap (λ j. Some (whole_bucket ws bs j)) (sym (exact_keys q k (equal_of _ e)))
         | false ↦ λ e. found-table q ks bs
       ] refl
 

@@ -17,7 +17,11 @@ use Rattle.agg_evaluation.specs.Whole.{whole_bucket}
 use Rattle.agg_evaluation.specs.Trees.{is_ascending, pass_each, have_children}
 use Rattle.agg_evaluation.proofs.KeyCompare.{key_cmp_total}
 use Rattle.agg_evaluation.proofs.KeyExact.{exact_keys}
-use Rattle.partial_result.proofs.KeyLists.{and_first, and_second, and_both, equal_is, has_key-append, absent_below, one_same, ascending-distinct, has_key-distinct}
+use Rattle.partial_result.proofs.KeyLists.{absent_below, one_same, ascending-distinct}
+use Rattle.list_laws.proofs.Booleans.{and_first, and_second, and_both}
+use Rattle.list_laws.proofs.Orders.{equal_of}
+use Rattle.agg_evaluation.proofs.UnionLaws.{has_key-append}
+use Rattle.agg_evaluation.proofs.KeyLists.{has_key-distinct_keys}
 use Rattle.partial_result.proofs.Columns.{wholes, columns, wholes_are}
 use Rattle.partial_result.proofs.ColumnLaws.{IsWhole, EachWhole, columns-pass, columns-one}
 
@@ -89,6 +93,6 @@ module _ (ws : List (List Node → Node)) (tests : List (Node → Bool)) (each :
       other : (q : Key) → has_key q (map bucket_key bs) ≡ true → key_eq q b.key ≡ false
       other q there =
           elim (key_eq q b.key) as (λ r. key_eq q b.key ≡ r → r ≡ false) [
-            | true ↦ λ e. absurd (subst T (sym there ∙ ap (λ k. has_key k (map bucket_key bs)) (exact_keys q b.key (equal_is _ e)) ∙ absent_below b.key (map bucket_key bs) (and_first _ _ rising)) tt)
+            | true ↦ λ e. absurd (subst T (sym there ∙ ap (λ k. has_key k (map bucket_key bs)) (exact_keys q b.key (equal_of _ e)) ∙ absent_below b.key (map bucket_key bs) (and_first _ _ rising)) tt)
             | false ↦ λ e. refl
           ] refl

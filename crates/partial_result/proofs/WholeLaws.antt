@@ -15,7 +15,7 @@ use Rattle.agg_evaluation.specs.Shard.{fixed_keys}
 use Rattle.agg_evaluation.specs.Whole.{shape_of, whole_by, whole_node, whole}
 use Rattle.agg_evaluation.specs.Trees.{is_tree_at, is_tree_of, is_result_of, pass_each, fits_u64, node_fits, numbers_fit}
 use Rattle.partial_result.specs.Merged.{merged_partial, sum_u64}
-use Rattle.partial_result.proofs.KeyLists.{and_first, and_second}
+use Rattle.list_laws.proofs.Booleans.{and_first, and_second}
 use Rattle.partial_result.proofs.Columns.{wholes, columns, wholes_are}
 use Rattle.partial_result.proofs.ColumnLaws.{IsWhole, EachWhole, columns-pass, columns-one, columns-two}
 use Rattle.partial_result.proofs.ShapeLaws.{shape_is}

@@ -6,7 +6,8 @@ ghost use Rattle.serde_json.specs.View.{view, members_view};
 ghost use Rattle.json_walk.specs.Places.{pointer};
 ghost use Rattle.agg_reading.specs.Reading.{Gives};
 ghost use Rattle.agg_reading.specs.Json.{optional, is_among};
-ghost use Rattle.agg_reading.specs.After.{probe_key, part_at, source_of, parts_from, names_of, has_names, after_at, source_names, after_rule, after_key};
+ghost use Rattle.agg_reading.specs.After.{part_at, source_of, parts_from, names_of, has_names, after_at, source_names, after_rule, after_key};
+ghost use Rattle.agg_model.specs.ValueKeys.{probe_key};
 ghost use Rattle.request_kinds.specs.Pages.{after_view, part_named};
 
 use crate::sources::Source;

@@ -7,15 +7,15 @@ use Rattle.std.proofs.lemmas.List.Sums.{sum-map, sum_by-cons, sum_by-append}
 use Rattle.std.proofs.Math.Facts.{eqb_yes}
 use Rattle.std.specs.List.{zip}
 use Rattle.agg_model.specs.declared.row.FieldValues.{FieldValues}
-use Rattle.agg_evaluation.specs.Rows.{PlacedRow}
+use Rattle.agg_evaluation.specs.Rows.{PlacedRow, no_row, row_of}
 use Rattle.shard_columns.specs.declared.layout.Entry.{Entry}
 use Rattle.shard_columns.specs.declared.layout.Laid.{Laid}
 use Rattle.shard_columns.specs.declared.values.Values.{Values}
-use Rattle.shard_columns.specs.Layout.{placed, flat_rows, row_at, values_of_laid, entries_of_laid, context_of, no_row, row_of}
+use Rattle.shard_columns.specs.Layout.{placed, flat_rows, row_at, values_of_laid, entries_of_laid, context_of}
 use Rattle.shard_columns.specs.Values.{Words, words_in, words_for, FieldsBelow, HasAllWords, AllAscend, IsAscending, cut, fields_of, row_values, total_count, IsWithin, WithinReach, SpansWithin}
 use Rattle.shard_columns.specs.Words.{AllFieldsBelow, AreDictionaries, row_words}
 use Rattle.shard_columns.specs.Given.{RowsBelow}
-use Rattle.shard_columns.specs.Dictionary.{value_count}
+use Rattle.agg_evaluation.specs.ColumnBytes.{value_count}
 use Rattle.shard_columns.proofs.Dictionaries.{sum-cons}
 use Rattle.shard_columns.proofs.Storing.{Contains-flat_map}
 use Rattle.shard_columns.proofs.Noting.{AllFieldsBelow-at}

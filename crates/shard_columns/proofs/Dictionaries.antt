@@ -13,21 +13,25 @@ use Rattle.std.proofs.lemmas.List.Folds.{flat_map-map}
 use Rattle.std.proofs.lemmas.List.Sums.{sum-map, sum_by-cons}
 use Rattle.std.proofs.lemmas.Grind.{flat_map-append}
 use Rattle.std.proofs.Math.Facts.{eqb_yes}
+use Rattle.list_laws.proofs.Booleans.{same_truth, and_left, and_right, both}
 use Rattle.agg_model.specs.declared.key.Key.{Key}
 use Rattle.agg_model.specs.declared.key.Key.TheVariants as key
 use Rattle.agg_model.specs.declared.row.Scalar.{Scalar}
 use Rattle.agg_model.specs.declared.row.Scalar.TheVariants as scalar
 use Rattle.agg_model.specs.declared.row.FieldValues.{FieldValues}
-use Rattle.agg_evaluation.specs.KeyOrder.{key_cmp, key_eq, has_key, scalar_key}
+use Rattle.agg_evaluation.specs.KeyOrder.{key_cmp, key_eq, has_key}
+use Rattle.agg_model.specs.ValueKeys.{scalar_key}
 use Rattle.agg_evaluation.specs.Keys.{distinct_keys}
-use Rattle.agg_evaluation.specs.Rows.{PlacedRow, values_of}
-use Rattle.agg_evaluation.specs.Sorting.{ascending, insert_once}
+use Rattle.agg_evaluation.specs.Rows.{PlacedRow, values_of, row_of, no_row}
+use Rattle.list_laws.specs.Sorting.{ascending, insert_once}
 use Rattle.agg_evaluation.specs.Trees.{is_ascending}
 use Rattle.agg_evaluation.proofs.Computing.{computing}
-use Rattle.agg_evaluation.proofs.KeyLists.{and_left, and_right, both, key_eq-self, key_eq-exact, less_is, same_keys, ascending-distinct_keys, has_key-distinct_keys}
+use Rattle.agg_evaluation.proofs.KeyLists.{key_eq-self, key_eq-exact, same_keys, ascending-distinct_keys, has_key-distinct_keys}
+use Rattle.list_laws.proofs.Orders.{less_is}
 use Rattle.shard_columns.specs.declared.layout.Laid.{Laid}
-use Rattle.shard_columns.specs.Dictionary.{all_words, words_of, word_bytes, dictionary_bytes}
-use Rattle.shard_columns.specs.Layout.{values_of_laid, row_of, no_row}
+use Rattle.shard_columns.specs.Dictionary.{all_words, words_of}
+use Rattle.agg_evaluation.specs.ColumnBytes.{word_bytes, dictionary_bytes}
+use Rattle.shard_columns.specs.Layout.{values_of_laid}
 use Rattle.shard_columns.specs.Values.{Words, word_in, words_in, words_for, AllAmong}
 use Rattle.shard_columns.specs.Words.{SameWords, row_words}
 use Rattle.shard_columns.proofs.Storing.{Contains-flat_map}
@@ -106,12 +110,6 @@ has-among q vs ws among h =
     let there = among found.0 found.1.0 in
     subst (λ (k : Key). T (has_key k (as_keys ws))) (sym found.1.1) (has-word found.0 ws there.0 there.1 there.2)
 
-pub same-test : (a b : Bool) → (T a → T b) → (T b → T a) → a ≡ b
-same-test true true f g = refl
-same-test true false f g = absurd (f tt)
-same-test false true f g = absurd (g tt)
-same-test false false f g = refl
-
 words-back : (vs ws : Words) → as_keys vs ≡ as_keys ws → vs ≡ ws
 words-back [] [] e = refl
 words-back [] (w ∷ ws) e = absurd (cc e)
@@ -126,7 +124,7 @@ pub SameWords-ascending : (ws ds : Words) → SameWords ws ds → ds ≡ ascendi
 SameWords-ascending ws ds same =
     words-back ds (ascending (slice_cmp nat_cmp) ws)
     (same_keys (as_keys ds) (distinct_keys (as_keys ws)) (ascending-keys ds same.strict) (ascending-distinct_keys (as_keys ws))
-    (λ q. same-test (has_key q (as_keys ds)) (has_key q (as_keys ws)) (has-among q ds ws same.nothing_else) (has-among q ws ds same.kept) ∙ sym (has_key-distinct_keys q (as_keys ws)))
+    (λ q. same_truth (has_key q (as_keys ds)) (has_key q (as_keys ws)) (has-among q ds ws same.nothing_else) (has-among q ws ds same.kept) ∙ sym (has_key-distinct_keys q (as_keys ws)))
     ∙ distinct-words ws)
 
 -- the words of a field in a row, where each field stands once

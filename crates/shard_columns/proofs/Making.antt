@@ -5,14 +5,14 @@ use Rattle.std.specs.Ordering.{nat_cmp}
 use Rattle.std.specs.Cmp.Lexicographic.{slice_cmp}
 use Rattle.std.proofs.lemmas.List.{length-map, get_or-map, get_or_past}
 use Rattle.std.proofs.lemmas.Bool.{cases_lt}
-use Rattle.agg_evaluation.specs.Rows.{PlacedRow}
-use Rattle.agg_evaluation.specs.Sorting.{ascending}
+use Rattle.agg_evaluation.specs.Rows.{PlacedRow, no_row, row_of}
+use Rattle.list_laws.specs.Sorting.{ascending}
 use Rattle.shard_columns.specs.declared.layout.Entry.{Entry}
 use Rattle.shard_columns.specs.declared.layout.Laid.{Laid}
 use Rattle.shard_columns.specs.Contexts.{ContextsBelow, AreEnclosed}
 use Rattle.shard_columns.specs.Dictionary.{words_of}
 use Rattle.shard_columns.specs.Given.{FieldsRise}
-use Rattle.shard_columns.specs.Layout.{flat_rows, values_of_laid, entries_of_laid, context_of, no_row, row_of}
+use Rattle.shard_columns.specs.Layout.{flat_rows, values_of_laid, entries_of_laid, context_of}
 use Rattle.shard_columns.specs.Values.{Words}
 use Rattle.shard_columns.specs.Words.{AllFieldsBelow, AreDictionaries, row_words}
 use Rattle.shard_columns.proofs.Building.{values-placed, pair, pairs-values, rows-stored, contexts-are, words_for-none}

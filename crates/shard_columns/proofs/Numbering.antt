@@ -6,10 +6,10 @@ use Rattle.std.proofs.lemmas.List.{append-nil, length-set, get_or-set_same, get_
 use Rattle.std.proofs.lemmas.Bool.{cases_lt}
 use Rattle.std.proofs.Math.Facts.{eqb_yes}
 use Rattle.std.proofs.Math.Seq.{get_or-append_seam}
-use Rattle.agg_evaluation.specs.Rows.{PlacedRow, is_within}
+use Rattle.agg_evaluation.specs.Rows.{PlacedRow, is_within, no_row, row_of}
 use Rattle.shard_columns.specs.declared.layout.Entry.{Entry}
 use Rattle.shard_columns.specs.Contexts.{AreNumbered}
-use Rattle.shard_columns.specs.Layout.{context_of, numbers_at, no_row, row_of}
+use Rattle.shard_columns.specs.Layout.{context_of, numbers_at}
 
 choose : (all : List PlacedRow) (b : Bool) (n : ℕ) (ns : List ℕ) → map (row_of all) (cond b (n ∷ ns) ns) ≡ cond b (row_of all n ∷ map (row_of all) ns) (map (row_of all) ns)
 choose all true n ns = refl

@@ -6,18 +6,17 @@ use Rattle.std.proofs.lemmas.List.{append-nil, get_or-map, length-map, get_or-ta
 use Rattle.std.proofs.lemmas.Bool.{cases_lt}
 use Rattle.std.proofs.Math.Facts.{eqb_yes, leb_yes}
 use Rattle.std.proofs.Math.Seq.{get_or-append_seam}
+use Rattle.list_laws.proofs.Booleans.{or_left, or_right, and_left, and_right, both, same_truth}
 use Rattle.agg_model.specs.declared.row.FieldValues.{FieldValues}
-use Rattle.agg_evaluation.specs.Rows.{PlacedRow, is_within}
-use Rattle.agg_evaluation.proofs.KeyLists.{and_left, and_right, both}
+use Rattle.agg_evaluation.specs.Rows.{PlacedRow, is_within, no_row, row_of}
 use Rattle.shard_columns.specs.declared.layout.Entry.{Entry}
 use Rattle.shard_columns.specs.declared.layout.Origin.TheVariants.{Root, Nested}
 use Rattle.shard_columns.specs.declared.shard.Shard.TheInside.{Inside}
 use Rattle.shard_columns.specs.Columns.{Columns}
-use Rattle.shard_columns.specs.Layout.{placed, row_at, place_at, no_row, row_of}
+use Rattle.shard_columns.specs.Layout.{placed, row_at, place_at}
 use Rattle.shard_columns.specs.Shard.{columns_of, placed_rows, IsSound}
 use Rattle.shard_columns.specs.Values.{row_values}
 use Rattle.shard_columns.proofs.Building.{zip-first}
-use Rattle.shard_columns.proofs.Dictionaries.{same-test}
 use Rattle.shard_columns.proofs.Enclosing.{begins-self}
 use Rattle.shard_columns.proofs.Reading.{rows-are, in-range, enclosed-are}
 
@@ -76,14 +75,6 @@ root-prefix : (k : ℕ) (x : List ℕ) → length x % 2 ≡ 1 → T (starts_with
 root-prefix k [] parity h = absurd (omega (arith, parity))
 root-prefix k (y ∷ []) parity h = ap (λ (z : ℕ). z ∷ []) (eqb_yes (and_left (nat_eq y k) _ h))
 root-prefix k (y ∷ z ∷ zs) parity h = absurd (and_right (nat_eq y k) _ h)
-
-or_left : (a b : Bool) → T a → T (a || b)
-or_left true b h = tt
-or_left false b h = absurd h
-
-or_right : (a b : Bool) → T b → T (a || b)
-or_right true b h = tt
-or_right false b h = h
 
 or_cases : (a b : Bool) → T (a || b) → T a ⊎ T b
 or_cases true b h = inl tt
@@ -150,7 +141,7 @@ module _ (s : Inside) (v : Columns) (view : columns_of s ≡ v) (sound : IsSound
       let m_odd = odd-at m m_below in
       let p_odd = odd-at p p_below in
       let parity : (length x + length outer) % 2 ≡ 0 = omega (arith, m_odd, p_odd) in
-      same-test (is_within (row_of v.rows n) (row_of v.rows m)) (eqb m n || is_within (row_of v.rows p) (row_of v.rows m))
+      same_truth (is_within (row_of v.rows n) (row_of v.rows m)) (eqb m n || is_within (row_of v.rows p) (row_of v.rows m))
       (λ h. elim (nested-prefix outer path number x parity (subst (λ (q : List ℕ). T (starts_with nat_eq q x)) place h)) [
         | inl t ↦ or_right (eqb m n) _ t
         | inr same ↦ or_left (eqb m n) _ (T-same m n (same-number m n m_below below (same ∙ sym place)))
@@ -165,7 +156,7 @@ module _ (s : Inside) (v : Columns) (view : columns_of s ≡ v) (sound : IsSound
   enclosed-root n e below is origin m m_below =
       let place : (row_of v.rows n).place ≡ e.document ∷ [] = place-is n e below is ∙ ap (place_at (take n v.rows) e.document) origin in
       let x = (row_of v.rows m).place in
-      same-test (is_within (row_of v.rows n) (row_of v.rows m)) (eqb m n || false)
+      same_truth (is_within (row_of v.rows n) (row_of v.rows m)) (eqb m n || false)
       (λ h. or_left (eqb m n) false (T-same m n (same-number m n m_below below (root-prefix e.document x (odd-at m m_below) (subst (λ (q : List ℕ). T (starts_with nat_eq q x)) place h) ∙ sym place))))
       (λ h. elim (or_cases (eqb m n) false h) [
         | inl same ↦ subst (λ (q : List ℕ). T (starts_with nat_eq q x)) (ap (λ (k : ℕ). (row_of v.rows k).place) (eqb_yes same)) (subst T (sym (begins-self x)) tt)

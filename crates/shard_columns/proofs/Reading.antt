@@ -6,7 +6,7 @@ use Rattle.std.proofs.lemmas.Option.{slice_get-get_or, same_Some}
 use Rattle.std.specs.List.{slice_get, list_all, range_with_len}
 use Rattle.std.proofs.Math.Facts.{eqb_yes}
 use Rattle.std.specs.List.Sorted.{IsStrictlyIncreasing}
-use Rattle.agg_evaluation.specs.Rows.{PlacedRow, roots, values_of, beneath, is_within}
+use Rattle.agg_evaluation.specs.Rows.{PlacedRow, roots, values_of, beneath, is_within, row_of, no_row}
 use Rattle.shard_columns.specs.declared.values.Span.{Span}
 use Rattle.shard_columns.specs.Contexts.{AreEnclosed}
 use Rattle.shard_columns.specs.declared.layout.Entry.{Entry}
@@ -16,13 +16,14 @@ use Rattle.shard_columns.specs.declared.values.Stored.{Stored}
 use Rattle.shard_columns.specs.declared.values.Stored.TheVariants as stored
 use Rattle.agg_model.specs.declared.mapping.FieldKind.{FieldKind}
 use Rattle.agg_model.specs.declared.mapping.FieldKind.TheVariants.{Keyword}
-use Rattle.shard_columns.specs.Dictionary.{words_of, as_values, value_count, dictionary_bytes}
-use Rattle.shard_columns.specs.Kinds.{is_of_kind}
-use Rattle.agg_evaluation.proofs.KeyLists.{and_left, and_right, true_is}
+use Rattle.shard_columns.specs.Dictionary.{words_of, as_values}
+use Rattle.agg_evaluation.specs.ColumnBytes.{value_count, dictionary_bytes}
+use Rattle.agg_model.specs.FieldKinds.{is_of_kind}
+use Rattle.list_laws.proofs.Booleans.{and_left, and_right, true_is}
 use Rattle.agg_model.specs.declared.row.Scalar.{Scalar}
 use Rattle.agg_model.specs.declared.row.FieldValues.{FieldValues}
 use Rattle.shard_columns.specs.Columns.{Columns}
-use Rattle.shard_columns.specs.Layout.{row_of, no_row, context_of, numbers_at}
+use Rattle.shard_columns.specs.Layout.{context_of, numbers_at}
 use Rattle.shard_columns.specs.Values.{Words, row_values, fields_of, field_at, cut, shown, held_in, no_span, IsPart, FieldsAscend}
 use Rattle.shard_columns.specs.Weight.{rows_weight}
 use Rattle.shard_columns.specs.Shard.{columns_of, placed_rows, IsSound}

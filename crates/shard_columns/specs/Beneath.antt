@@ -1,8 +1,7 @@
 -- Rows within rows, by their numbers.
 use Rattle.std.specs.Prelude.{◌≡◌, ℕ, ◌+◌, ◌<◌, ◌==◌, ◌||◌, false, List, [], ◌∷◌, ◌++◌, length, Option}
 use Rattle.std.specs.Option.{option_map_or}
-use Rattle.agg_evaluation.specs.Rows.{PlacedRow, is_within}
-use Rattle.shard_columns.specs.Layout.{row_of}
+use Rattle.agg_evaluation.specs.Rows.{PlacedRow, is_within, row_of}
 
 -- the inner row is one of those directly beneath the outer one at a nested path
 pub record IsDirectlyBeneath (inner outer : PlacedRow) : Type 0 where

@@ -1,8 +1,8 @@
 -- Rows by their context, and what encloses what, by numbers.
 use Rattle.std.specs.Prelude.{◌≡◌, ℕ, ◌<◌, ◌≤◌, ◌&&◌, nat_le, nat_lt, List, [], length, slice_index_or}
-use Rattle.agg_evaluation.specs.Rows.{PlacedRow, is_within}
+use Rattle.agg_evaluation.specs.Rows.{PlacedRow, is_within, row_of}
 use Rattle.shard_columns.specs.declared.layout.Entry.{Entry}
-use Rattle.shard_columns.specs.Layout.{context_of, numbers_at, row_of}
+use Rattle.shard_columns.specs.Layout.{context_of, numbers_at}
 
 abbrev pub ContextsBelow : ℕ → List Entry → Type 0
 ContextsBelow count rows = (n : ℕ) (d : Entry) → n < length rows → context_of (slice_index_or rows n d).origin < count

@@ -1,18 +1,12 @@
--- The words of a field in a shard, and what the columns of a shard weigh.
-use Rattle.std.specs.Prelude.{ℕ, ◌+◌, ◌*◌, List, map, flat_map, length, sum, Contains}
-use Rattle.std.specs.List.{range_with_len}
+-- The words of a field in a shard.
+use Rattle.std.specs.Prelude.{ℕ, List, map, flat_map, length, Contains}
 use Rattle.std.specs.Ordering.{nat_cmp}
 use Rattle.std.specs.Cmp.Lexicographic.{slice_cmp}
-use Rattle.agg_model.specs.declared.key.Key.{Key}
-use Rattle.agg_model.specs.declared.key.Key.TheVariants as key
 use Rattle.agg_model.specs.declared.row.Scalar.{Scalar}
 use Rattle.agg_model.specs.declared.row.Scalar.TheVariants.{Word}
-use Rattle.agg_evaluation.specs.Rows.{PlacedRow, values_of}
-use Rattle.agg_evaluation.specs.KeyOrder.{scalar_key}
-use Rattle.agg_evaluation.specs.Keys.{distinct_keys}
-use Rattle.agg_evaluation.specs.Sorting.{ascending}
+use Rattle.agg_evaluation.specs.Rows.{PlacedRow, values_of, row_of}
+use Rattle.list_laws.specs.Sorting.{ascending}
 use Rattle.agg_evaluation.specs.Ceiling.{greatest_of}
-use Rattle.shard_columns.specs.Layout.{row_of}
 use Rattle.shard_columns.specs.Values.{Words, words_in}
 
 -- all words of a field, row by row
@@ -35,17 +29,3 @@ NoRowHas field word rows = (n : ℕ) → ¬ (Contains (values_of field (row_of r
 abbrev pub longest_word : ℕ → List PlacedRow → ℕ
 longest_word field rows = greatest_of (map length (all_words field rows))
 
-abbrev pub value_count : PlacedRow → ℕ
-value_count row = sum (map (λ v. length v.values) row.values)
-
-abbrev pub word_bytes : Key → ℕ
-word_bytes (key.Word w) = length w
-word_bytes _ = 0
-
--- the bytes of a field's distinct words
-abbrev pub dictionary_bytes : List PlacedRow → ℕ → ℕ
-dictionary_bytes rows field = sum (map word_bytes (distinct_keys (map scalar_key (flat_map (values_of field) rows))))
-
--- eight for each value, and the words
-abbrev pub shard_bytes : ℕ → List PlacedRow → ℕ
-shard_bytes fields rows = 8 * sum (map value_count rows) + sum (map (dictionary_bytes rows) (range_with_len 0 fields))

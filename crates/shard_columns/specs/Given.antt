@@ -4,9 +4,9 @@ use Rattle.std.specs.List.Sorted.{IsStrictlyIncreasing}
 use Rattle.agg_model.specs.declared.mapping.FieldKind.{FieldKind}
 use Rattle.agg_model.specs.declared.mapping.Mapping.{Mapping}
 use Rattle.agg_model.specs.declared.row.Document.{Document}
-use Rattle.agg_evaluation.specs.Rows.{PlacedRow}
+use Rattle.agg_evaluation.specs.Rows.{PlacedRow, row_of}
 use Rattle.shard_columns.specs.Columns.{Columns}
-use Rattle.shard_columns.specs.Layout.{rows_of_documents, row_of}
+use Rattle.shard_columns.specs.Layout.{rows_of_documents}
 use Rattle.shard_columns.specs.Values.{FieldsBelow}
 use Rattle.shard_columns.specs.Kinds.{AreOfKind}
 use Rattle.shard_columns.specs.Rising.{documents_rise}

@@ -5,14 +5,11 @@ use Rattle.agg_model.specs.declared.row.Row.{Row}
 use Rattle.agg_model.specs.declared.row.Children.{Children}
 use Rattle.agg_model.specs.declared.row.Document.{Document}
 use Rattle.agg_evaluation.specs.Folds.{fold_children}
-use Rattle.agg_evaluation.specs.Rows.{PlacedRow, Walk, walk_children, walk_row, rows_of, shard_rows}
+use Rattle.agg_evaluation.specs.Rows.{PlacedRow, Walk, walk_children, walk_row, rows_of, shard_rows, no_row}
 use Rattle.shard_columns.specs.declared.layout.Origin.{Origin}
 use Rattle.shard_columns.specs.declared.layout.Origin.TheVariants.{Root, Nested}
 use Rattle.shard_columns.specs.declared.layout.Entry.{Entry}
 use Rattle.shard_columns.specs.declared.layout.Laid.{Laid}
-
-abbrev pub no_row : PlacedRow
-no_row = record { place = []; context = 0; id = []; values = [] }
 
 -- the place of a row of this origin, after the rows before it
 abbrev pub place_at : List PlacedRow → ℕ → Origin → List ℕ
@@ -64,6 +61,3 @@ unfoldable pub numbers_at : ℕ → ℕ → List Entry → List ℕ
 numbers_at context n [] = []
 numbers_at context n (e ∷ es) = if context_of e.origin == context then n ∷ numbers_at context (n + 1) es else numbers_at context (n + 1) es
 
--- the row of this number
-abbrev pub row_of : List PlacedRow → ℕ → PlacedRow
-row_of rows n = slice_index_or rows n no_row

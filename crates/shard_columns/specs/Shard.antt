@@ -1,13 +1,14 @@
 -- What the fields of a shard stand for, and what is always so of them.
 use Rattle.std.specs.Prelude.{◌≡◌, ℕ, ◌+◌, ◌^◌, ◌<◌, ◌≤◌, ◌%◌, List, [], length, map, sum, slice_index_or}
 use Rattle.std.specs.List.{zip}
-use Rattle.agg_evaluation.specs.Rows.{PlacedRow}
+use Rattle.agg_evaluation.specs.Rows.{PlacedRow, row_of}
 use Rattle.shard_columns.specs.declared.shard.Shard.TheInside.{Inside}
 use Rattle.shard_columns.specs.Columns.{Columns}
 use Rattle.shard_columns.specs.Contexts.{AreNumbered, AreEnclosed}
-use Rattle.shard_columns.specs.Dictionary.{words_of, value_count}
+use Rattle.shard_columns.specs.Dictionary.{words_of}
+use Rattle.agg_evaluation.specs.ColumnBytes.{value_count}
 use Rattle.shard_columns.specs.Given.{FieldsRise, KindsHold}
-use Rattle.shard_columns.specs.Layout.{placed, row_of}
+use Rattle.shard_columns.specs.Layout.{placed}
 use Rattle.shard_columns.specs.Values.{row_values, IsWithin}
 use Rattle.shard_columns.specs.Weight.{rows_weight}
 

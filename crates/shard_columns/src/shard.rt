@@ -1,9 +1,10 @@
 ghost use Rattle.std.specs.Prelude.{◌≡◌, ◌↔◌, ◌<◌, ◌+◌, ◌^◌, ℕ, slice_index, IfOk, IfSome, IfNone, IsNone, length, map, sum_by, [], Some, slice_get, slice_index_or};
 ghost use Rattle.shard_columns.specs.Values.{shown, row_values, IsWithin, total_count};
 ghost use Rattle.shard_columns.specs.Words.{AllFieldsBelow, AreDictionaries};
-ghost use Rattle.shard_columns.specs.Layout.{ids_of, values_of_laid, entries_of_laid, row_of};
-ghost use Rattle.agg_evaluation.specs.Rows.{roots, values_of, beneath};
-ghost use Rattle.shard_columns.specs.Dictionary.{words_of, as_values, NoRowHas, longest_word, shard_bytes};
+ghost use Rattle.shard_columns.specs.Layout.{ids_of, values_of_laid, entries_of_laid};
+ghost use Rattle.agg_evaluation.specs.Rows.{row_of, roots, values_of, beneath};
+ghost use Rattle.shard_columns.specs.Dictionary.{words_of, as_values, NoRowHas, longest_word};
+ghost use Rattle.agg_evaluation.specs.ColumnBytes.{shard_bytes};
 ghost use Rattle.shard_columns.specs.Kinds.{AreOfKind};
 ghost use Rattle.shard_columns.specs.Beneath.{IsDirectlyBeneath, IsEnclosedBy};
 ghost use Rattle.agg_model.specs.declared.mapping.FieldKind.TheVariants.{Keyword};
@@ -266,7 +267,7 @@ impl Shard {
         text_at(self.ids.as_slice(), self.rows[row as usize].document)
     }
 
-    /// The number of values that a row has of a field; none of a field of another context.
+    /// The number of values that a row has of a field, 0 where it has none.
     pub fn value_count(&self, row: u32, field: u32) -> u32
         requires { row < length self.now.rows }
         ensures { result ≡ length (values_of field (row_of self.now.rows row)) }
@@ -277,7 +278,7 @@ impl Shard {
         }
     }
 
-    /// The value of a field at this place of its ascending values in a row.
+    /// The value at this place among those that a row has of a field, in the order of its document.
     pub fn value(&self, row: u32, field: u32, place: u32) -> Cell<'_>
         requires in_range { row < length self.now.rows }
         requires there { place < length (values_of field (row_of self.now.rows row)) }
@@ -318,7 +319,7 @@ impl Shard {
         }
     }
 
-    /// The place in its field's dictionary of the word that a row has at this place of its ascending words.
+    /// The place in its field's dictionary of the word at this place among those that a row has of the field.
     pub fn ordinal(&self, row: u32, field: u32, place: u32) -> u32
         requires keyword { slice_get self.now.kinds field ≡ Some Keyword }
         requires in_range { row < length self.now.rows }

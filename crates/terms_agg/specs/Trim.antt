@@ -4,14 +4,12 @@ use Rattle.std.specs.List.{last_or}
 use Rattle.agg_model.specs.declared.partial.Bucket.{Bucket}
 use Rattle.agg_model.specs.declared.partial.Node.{Node, out-Node}
 use Rattle.agg_model.specs.declared.partial.Node.TheOpen.{Node-F}
-use Rattle.agg_model.specs.declared.partial.Node.TheVariants.{Fixed, Number}
 use Rattle.agg_model.specs.declared.aggregation.Kind.{Kind}
-use Rattle.agg_model.specs.declared.aggregation.Kind.TheVariants as kind
+use Rattle.agg_model.specs.Options.{Options, TermsOptions, options_of}
 use Rattle.agg_model.specs.declared.aggregation.Agg.{Agg, out-Agg}
-use Rattle.agg_model.specs.declared.aggregation.Agg.TheOpen.{Agg-F}
 use Rattle.agg_evaluation.specs.Orders.{bucket_count}
 use Rattle.agg_evaluation.specs.Shard.{trimmed_node}
-use Rattle.agg_evaluation.specs.Whole.{Parts, parts}
+use Rattle.agg_evaluation.specs.Whole.{parts}
 use Rattle.bucket_order.specs.Kinds.{child_kinds}
 
 abbrev pub node_buckets : Node → List Bucket
@@ -21,11 +19,14 @@ node_buckets n = (parts n).buckets
 abbrev pub last_count : List Bucket → ℕ
 last_count buckets = unwrap_or (last_or None (map bucket_count buckets)) 0
 
--- terms are cut to `shard_size`, and other nodes stay as they are
+-- buckets of terms, cut to `shard_size`
+abbrev pub trimmed_terms : List Kind → TermsOptions → Node-F Node Bucket → Node → Node
+trimmed_terms kinds t (Node-F.Keyed buckets error full cut) n = trimmed_node kinds t.shard_size t.order (sum_by bucket_count buckets) buckets
+trimmed_terms kinds t _ n = n
+
+-- nodes of other kinds stay as they are
 abbrev pub trimmed_at : List Kind → Kind → Node-F Node Bucket → Node → Node
-trimmed_at kinds (kind.Terms field size shard_size min_doc_count order include exclude missing show_error) (Node-F.Keyed buckets error full cut) n =
-    trimmed_node kinds shard_size order (sum_by bucket_count buckets) buckets
-trimmed_at kinds _ _ n = n
+trimmed_at kinds k level n = elim (options_of k) [ Options.Terms t ↦ trimmed_terms kinds t level n | _ ↦ n ]
 
 -- a shard's answer of the terms of all its documents
 abbrev pub trimmed : Agg → Node → Node

@@ -25,7 +25,8 @@ fn last_kept_count(kept: &[Bucket]) -> u64
     }
 }
 
-// Where as many terms are kept as may be, one that is left out may have as many documents as the last of them.
+// The count of the last term kept, where as many are kept as may be. By descending count, no term that is left out has more
+// documents; in another order it may.
 fn error_of(kept: &[Bucket], is_full: bool) -> u64
     ensures { result ≡ (if is_full then last_count kept.now else 0) }
 {
@@ -67,8 +68,9 @@ fn trim_buckets(
 }
 
 /// What a shard answers of the terms in `node`: the first `shard_size` in the order of the aggregation, ascending
-/// by key, with the number of documents that it left out and how far a count may be too low. The node holds all
-/// terms of the shard; nothing is cut of a node without terms, and of a kind other than terms.
+/// by key, with the number of documents that it left out. Where as many terms are kept as may be, the error is the
+/// count of the last one in the order: by descending count, no term that is left out has more documents. The node
+/// holds all terms of the shard; nothing is cut of a node without terms, and of a kind other than terms.
 pub fn trim(_alloc: Global, agg: &Agg, node: Node) -> Result<Node, AllocError>
     requires { sum_by bucket_count (node_buckets node) < 2 ^ 64 }
     ensures { IfOk result (λ n. n ≡ trimmed agg.now node) }

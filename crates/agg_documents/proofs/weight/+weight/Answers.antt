@@ -3,7 +3,8 @@ use Rattle.std.specs.List.{sum_by}
 use Rattle.std.proofs.lemmas.List.{take_all}
 use Rattle.agg_model.specs.declared.row.Row.{Row, out-Row}
 use Rattle.agg_model.specs.declared.row.Children.{Children}
-use Rattle.agg_reading.specs.Store.{field_weight, row_weight, children_weight}
+use Rattle.agg_reading.specs.Store.{row_weight, children_weight}
+use Rattle.agg_model.specs.Weight.{field_weight}
 use Rattle.agg_documents.proofs.Weighing.{row_weight-out, children_weight-out}
 use Rattle.agg_documents.proofs.weight.+weight.Goals as goal
 

@@ -1,7 +1,8 @@
 use Rattle.std.proofs.Common.{◌≡◌, ◌+◌, ◌-◌, ◌^◌, min, take}
 use Rattle.std.specs.List.{sum_by}
 use Rattle.agg_model.specs.declared.row.Row.{out-Row}
-use Rattle.agg_reading.specs.Store.{field_weight, row_weight, children_weight}
+use Rattle.agg_reading.specs.Store.{row_weight, children_weight}
+use Rattle.agg_model.specs.Weight.{field_weight}
 use Rattle.agg_documents.proofs.weight.+weight.Given as goal
 
 -- the weight is that of the row itself, its values, and the children so far

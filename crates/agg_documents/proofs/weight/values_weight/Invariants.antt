@@ -1,6 +1,6 @@
 use Rattle.std.proofs.Common.{◌≡◌, ◌-◌, ◌^◌, min, take}
 use Rattle.std.specs.List.{sum_by}
-use Rattle.agg_reading.specs.Store.{field_weight}
+use Rattle.agg_model.specs.Weight.{field_weight}
 use Rattle.agg_documents.proofs.weight.values_weight.Given as goal
 
 -- the weight is that of the fields so far

@@ -1,5 +1,5 @@
 use Rattle.agg_model.specs.declared.breaker.Which.TheVariants.{Parent}
-use Rattle.breaker_words.specs.Breakers.{which_of}
+use Rattle.agg_model.specs.Breakers.{which_of}
 use Rattle.breaker_words.specs.Moves.{run}
 use Rattle.breaker_words.proofs.Runs.{sound_run}
 use Rattle.breaker_words.proofs.OneMove.{try_step, parent_step, take_step, take_parent_step, give_parent_step, give_child_step, split_step, word_small}

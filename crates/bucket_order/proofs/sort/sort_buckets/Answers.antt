@@ -2,7 +2,7 @@ use Rattle.std.proofs.Common.{rules}
 use Rattle.std.proofs.lemmas.Result.{on_ok_weaker}
 use Rattle.agg_evaluation.specs.Orders.{bucket_cmp}
 use Rattle.bucket_order.specs.Kinds.{child_kinds}
-use Rattle.bucket_order.proofs.SortLaws.{sorted_from_sort_by}
+use Rattle.list_laws.proofs.StableSort.{sorted_from_sort_by}
 use Rattle.bucket_order.proofs.TotalLaws.{bucket_cmp_total}
 use Rattle.bucket_order.proofs.sort.sort_buckets.Goals as goal
 

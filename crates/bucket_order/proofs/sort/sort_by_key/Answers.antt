@@ -4,7 +4,7 @@ use Rattle.std.proofs.lemmas.Cmp.{on_total}
 use Rattle.agg_evaluation.specs.KeyOrder.{key_cmp}
 use Rattle.agg_evaluation.specs.Orders.{bucket_key}
 use Rattle.agg_evaluation.proofs.KeyCompare.{key_cmp_total}
-use Rattle.bucket_order.proofs.SortLaws.{sorted_from_sort_by}
+use Rattle.list_laws.proofs.StableSort.{sorted_from_sort_by}
 use Rattle.bucket_order.proofs.sort.sort_by_key.Goals as goal
 
 pub returns-clause-sorted : goal.returns-clause-sorted

@@ -5,7 +5,7 @@ use Rattle.std.proofs.lemmas.Cmp.{on_total}
 use Rattle.agg_model.specs.declared.partial.Bucket.{Bucket}
 use Rattle.agg_evaluation.specs.Orders.{bucket_key, composite_cmp}
 use Rattle.bucket_order.specs.Composites.{is_composite_of, key_parts, any_parts_cmp}
-use Rattle.bucket_order.proofs.SortLaws.{sorted_from_sort_by}
+use Rattle.list_laws.proofs.StableSort.{sorted_from_sort_by}
 use Rattle.bucket_order.proofs.SameOrder.{sorted_same}
 use Rattle.bucket_order.proofs.CompositeLaws.{any_parts_total, same_composites}
 use Rattle.bucket_order.proofs.sort.sort_composites.Goals as goal

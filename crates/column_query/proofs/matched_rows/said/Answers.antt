@@ -1,6 +1,5 @@
 use Rattle.std.proofs.Common.{◌++◌, ◌∷◌, [], sym, ◌∙◌}
-use Rattle.agg_evaluation.specs.Rows.{roots}
-use Rattle.shard_columns.specs.Layout.{row_of}
+use Rattle.agg_evaluation.specs.Rows.{roots, row_of}
 use Rattle.column_query.specs.Prepared.{says}
 use Rattle.column_query.proofs.Lists.{map_step}
 use Rattle.column_query.proofs.matched_rows.said.Goals as goal

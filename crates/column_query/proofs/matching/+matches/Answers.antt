@@ -1,8 +1,7 @@
 use Rattle.std.proofs.Common.{◌+◌, sym, ◌∙◌, ap, arith}
 use Rattle.agg_model.specs.declared.query.Query.{Query}
-use Rattle.agg_evaluation.specs.Rows.{beneath}
+use Rattle.agg_evaluation.specs.Rows.{beneath, row_of}
 use Rattle.agg_evaluation.specs.Matching.{matches}
-use Rattle.shard_columns.specs.Layout.{row_of}
 use Rattle.column_query.proofs.Lists.{none_more, none_at_all, one_is_enough, count_at_most}
 use Rattle.column_query.proofs.Cases.{without_must, with_must_not, by_should, by_beneath, by_terms, by_value}
 use Rattle.column_query.proofs.matching.+matches.Goals as goal

@@ -1,8 +1,7 @@
 use Rattle.std.proofs.Common.{◌≡◌, ◌+◌, true, false, length, filter, take}
 use Rattle.std.specs.List.{list_any, list_all}
-use Rattle.agg_evaluation.specs.Rows.{beneath}
+use Rattle.agg_evaluation.specs.Rows.{beneath, row_of}
 use Rattle.agg_evaluation.specs.Matching.{matches}
-use Rattle.shard_columns.specs.Layout.{row_of}
 use Rattle.column_query.proofs.matching.+matches.Given as goal
 
 abbrev pub invariant-count_matching-loop-query : goal.invariant-count_matching-loop-query

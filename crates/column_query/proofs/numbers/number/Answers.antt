@@ -2,8 +2,7 @@ use Rattle.std.proofs.Common.{Some, sym, ◌∙◌, ap, rules}
 use mir.Syntax.{w64, w128}
 use Rattle.std.proofs.lemmas.Int.{to_z-of_z}
 use Rattle.agg_model.specs.declared.row.Scalar.TheVariants as scalar
-use Rattle.agg_evaluation.specs.Rows.{values_of}
-use Rattle.shard_columns.specs.Layout.{row_of}
+use Rattle.agg_evaluation.specs.Rows.{values_of, row_of}
 use Rattle.shard_columns.specs.Cell.{scalar_of}
 use Rattle.shard_columns.specs.Dictionary.{words_of}
 use Rattle.shard_columns.proofs.Dictionaries.{words_of-strict}

@@ -1,7 +1,6 @@
 use Rattle.std.proofs.Common.{◌≡◌, ◌+◌, ◌*◌, true, false, length, filter, take}
 use Rattle.std.specs.List.{list_any, list_all}
-use Rattle.agg_evaluation.specs.Rows.{beneath}
-use Rattle.shard_columns.specs.Layout.{row_of}
+use Rattle.agg_evaluation.specs.Rows.{beneath, row_of}
 use Rattle.column_query.specs.Prepared.{says}
 use denote.Param.Weighed.{most}
 use Rattle.column_query.specs.declared.prepared.Prepared.{size-Prepared}

@@ -1,7 +1,7 @@
 use Rattle.std.proofs.Common.{sym, ◌∙◌, ap, rules}
 use mir.Syntax.{w128}
 use Rattle.std.proofs.lemmas.Int.{to_z-of_z}
-use Rattle.shard_columns.specs.Layout.{row_of}
+use Rattle.agg_evaluation.specs.Rows.{row_of}
 use Rattle.column_query.specs.Numbers.{numbers_of}
 use Rattle.column_query.specs.Prepared.{passes_number}
 use Rattle.column_query.proofs.Lists.{none_more, one_is_enough}

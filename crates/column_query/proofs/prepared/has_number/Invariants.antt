@@ -1,6 +1,6 @@
 use Rattle.std.proofs.Common.{◌≡◌, false, take}
 use Rattle.std.specs.List.{list_any}
-use Rattle.shard_columns.specs.Layout.{row_of}
+use Rattle.agg_evaluation.specs.Rows.{row_of}
 use Rattle.column_query.specs.Numbers.{numbers_of}
 use Rattle.column_query.specs.Prepared.{passes_number}
 use Rattle.column_query.proofs.prepared.has_number.Given as goal

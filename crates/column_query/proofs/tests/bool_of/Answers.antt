@@ -2,9 +2,9 @@ use Rattle.std.proofs.Common.{◌≡◌, Bool, true, List, map, ◌∙◌}
 use Rattle.std.specs.Prelude.{◌&&◌}
 use Rattle.std.specs.List.{list_all}
 use Rattle.agg_model.specs.declared.query.Query.{Query}
-use Rattle.column_query.specs.Prepared.{looks_below, looks_below_at}
+use Rattle.agg_evaluation.specs.Conditions.{looks_below, looks_below_at}
 use Rattle.column_query.proofs.Lists.{all_mapped}
-use Rattle.column_query.proofs.QueryLevels.{fold_query-Bool}
+use Rattle.agg_evaluation.proofs.QueryFolds.{fold_query-Bool}
 use Rattle.column_query.proofs.tests.bool_of.Goals as goal
 
 all-look : (qs : List Query) → list_all (looks_below 4) qs ≡ true → list_all (λ b. b) (map (looks_below 4) qs) ≡ true

@@ -1,8 +1,8 @@
 use Rattle.std.proofs.Common.{sym, ◌∙◌, ap}
 use Rattle.agg_model.specs.declared.query.Query.{Query}
 use Rattle.agg_model.specs.declared.query.Query.TheVariants as query
-use Rattle.column_query.specs.Prepared.{looks_below, looks_below_at}
-use Rattle.column_query.proofs.QueryLevels.{fold_query-Nested}
+use Rattle.agg_evaluation.specs.Conditions.{looks_below, looks_below_at}
+use Rattle.agg_evaluation.proofs.QueryFolds.{fold_query-Nested}
 use Rattle.column_query.proofs.tests.nested.Goals as goal
 
 pub returns : goal.returns

@@ -1,6 +1,5 @@
 use Rattle.std.proofs.Common.{sym, ◌∙◌}
-use Rattle.agg_evaluation.specs.Rows.{values_of}
-use Rattle.shard_columns.specs.Layout.{row_of}
+use Rattle.agg_evaluation.specs.Rows.{values_of, row_of}
 use Rattle.shard_columns.specs.Cell.{scalar_of}
 use Rattle.column_query.specs.Wanted.{wants}
 use Rattle.column_query.proofs.Lists.{none_more, one_is_enough}

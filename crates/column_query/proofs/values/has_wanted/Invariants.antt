@@ -1,7 +1,6 @@
 use Rattle.std.proofs.Common.{◌≡◌, false, take}
 use Rattle.std.specs.List.{list_any}
-use Rattle.agg_evaluation.specs.Rows.{values_of}
-use Rattle.shard_columns.specs.Layout.{row_of}
+use Rattle.agg_evaluation.specs.Rows.{values_of, row_of}
 use Rattle.column_query.specs.Wanted.{wants}
 use Rattle.column_query.proofs.values.has_wanted.Given as goal
 

@@ -1,5 +1,6 @@
 use Rattle.std.proofs.Common.{◌≡◌, ◌≤◌, sym, ◌∙◌, ap, subst, arith, Some, None, T}
-use Rattle.agg_evaluation.proofs.KeyLists.{true_is}
+use Rattle.list_laws.proofs.Options.{none_some}
+use Rattle.list_laws.proofs.Booleans.{true_is}
 use Rattle.agg_spec.specs.Final.{final}
 use Rattle.agg_spec.specs.BucketCount.{total_buckets}
 use Rattle.agg_spec.specs.RangeCheck.{out_of_range}
@@ -7,9 +8,6 @@ use Rattle.final_reduce.specs.Causes.{IsCause}
 use Rattle.final_reduce.specs.Finishable.{can_finish}
 use Rattle.document_answer.proofs.LimitLaws.{can-finish, none-out-of-range, at-most-ten, whole-is}
 use Rattle.document_answer.proofs.answer.answer_of.Goals as goal
-
-none_some : {A : Type 0} (x : A) → None ≡ Some x → ⊥
-none_some x e = subst (λ o. elim o as (λ _. Type 0) [ None ↦ Unit {0} | Some y ↦ ⊥ ]) e tt
 
 pub finish-requires : goal.finish-requires
 finish-requires c =

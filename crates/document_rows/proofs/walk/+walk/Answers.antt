@@ -1,4 +1,4 @@
-use Rattle.std.proofs.Common.{◌+◌, sym, ◌∙◌, ap, subst, length, string_bytes}
+use Rattle.std.proofs.Common.{sym, ◌∙◌, ap, subst, length, string_bytes}
 use Rattle.std.specs.Str.{IsCharBoundary}
 use Rattle.std.proofs.lemmas.Str.{IsCharBoundary-at_seam}
 use Rattle.document_rows.proofs.Typed.{ends_typed}
@@ -11,4 +11,4 @@ members-back-walked-requires t c =
     (IsCharBoundary-at_seam path (string_bytes c.loop-name.walked.path) c.as_str.result.now (c.in_ok-member.ensures.path ∙ c.in_ok-below.ensures.path) c.as_str.utf8)
 
 pub nested-around-requires : goal.nested-around-requires
-nested-around-requires t c = (c.args.mapping.now.fields, ends_typed c.args.mapping.now (c.args.place + 1) _ _ _ _ c.new.ensures c.in_ok-ended.ensures.value)
+nested-around-requires t c = (c.args.mapping.now.fields, ends_typed c.args.mapping.now c.context_of-context.result _ _ _ _ c.new.ensures c.in_ok-ended.ensures.value)

@@ -1,7 +1,7 @@
 use Rattle.std.proofs.Common.{sym, ◌∙◌, ap, arith, map, sum_by}
 use Rattle.agg_model.specs.declared.partial.Node.TheVariants.{Keyed}
 use Rattle.agg_evaluation.specs.Orders.{bucket_count}
-use Rattle.agg_evaluation.proofs.ListLaws.{map-map, sum_by-map}
+use Rattle.list_laws.proofs.Lists.{map-map, sum_by-map}
 use Rattle.agg_evaluation.proofs.NodeForms.{out-Keyed}
 use Rattle.agg_evaluation.specs.Whole.{parts_at}
 use Rattle.document_terms.specs.Terms.{words_of}

@@ -1,10 +1,12 @@
 use Rattle.std.proofs.Common.{sym, ◌∙◌, ap, arith, ◌++◌, ◌∷◌, [], map, take, sum_by}
+use Rattle.std.proofs.lemmas.List.{length-map}
 use Rattle.std.proofs.lemmas.List.{take_more, length-take}
 use Rattle.agg_model.specs.declared.key.Key.TheVariants.{Word}
 use Rattle.agg_evaluation.specs.Counters.{raised_by}
-use Rattle.agg_evaluation.proofs.ListLaws.{sum_by-map}
+use Rattle.list_laws.proofs.Lists.{sum_by-map}
 use Rattle.document_terms.specs.Terms.{words_of}
-use Rattle.document_terms.proofs.CountLaws.{number, shown, raised_by-sum, raised_by-append, words-more, length-words, length-map}
+use Rattle.document_terms.proofs.CountLaws.{number, shown, raised_by-append, words-more, length-words}
+use Rattle.agg_evaluation.proofs.CounterLaws.{raised_by-sum}
 use Rattle.document_terms.proofs.count.word_counts.Goals as goal
 
 pub count_document-requires : goal.count_document-requires
@@ -14,7 +16,7 @@ count_document-requires c =
     omega (
       arith,
       sym (sum_by-map number shown c.loop-document.counts.entries) ∙ ap (sum_by number) c.loop-document.invariant ∙ raised_by-sum (map Word words) [],
-      length-map Word words,
+      length-map words Word,
       length-words c.args.field before,
       length-take c.loop-document.document-index c.as_slice-document-items.result.now,
       c.loop-document-test.true,
@@ -39,7 +41,7 @@ returns-clause-fits c =
     omega (
       arith,
       sym (sum_by-map number shown c.loop-document.counts.entries) ∙ ap (sum_by number) c.loop-document.invariant ∙ raised_by-sum (map Word words) [],
-      length-map Word words,
+      length-map words Word,
       length-words c.args.field before,
       length-take c.loop-document.document-index c.as_slice-document-items.result.now,
       c.loop-document-test.false,

@@ -2,7 +2,7 @@ use Rattle.std.proofs.Common.{◌≡◌, map, drop, true}
 use Rattle.std.specs.List.{list_all}
 use Rattle.agg_spec.specs.GapCount.{plan}
 use Rattle.final_reduce.specs.Counts.{nothing_from}
-use Rattle.final_reduce.specs.Finishable.{has_intervals}
+use Rattle.agg_evaluation.specs.Conditions.{has_intervals}
 use Rattle.final_reduce.proofs.count.+nothing.Given as goal
 
 -- the count so far, and then what is left

@@ -2,7 +2,7 @@ use Rattle.std.proofs.Common.{◌∙◌, ap, map}
 use Rattle.std.specs.Prelude.{take, length}
 use Rattle.std.specs.List.{list_all}
 use Rattle.agg_model.specs.declared.partial.Bucket.{Bucket}
-use Rattle.agg_evaluation.specs.Sorting.{sorted}
+use Rattle.list_laws.specs.Sorting.{sorted}
 use Rattle.agg_evaluation.specs.Orders.{bucket_key, composite_cmp}
 use Rattle.bucket_order.specs.Composites.{is_composite_of}
 use Rattle.final_reduce.proofs.PlannedLaws.{all_frequent}

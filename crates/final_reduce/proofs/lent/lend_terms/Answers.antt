@@ -1,7 +1,7 @@
 use Rattle.std.proofs.Common.{◌∙◌, ap, map}
 use Rattle.std.specs.Prelude.{take}
 use Rattle.agg_model.specs.declared.partial.Bucket.{Bucket}
-use Rattle.agg_evaluation.specs.Sorting.{sorted}
+use Rattle.list_laws.specs.Sorting.{sorted}
 use Rattle.agg_evaluation.specs.Orders.{bucket_cmp}
 use Rattle.bucket_order.specs.Kinds.{child_kinds}
 use Rattle.final_reduce.proofs.SelectLaws.{map-take}

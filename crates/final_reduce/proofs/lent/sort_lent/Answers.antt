@@ -4,7 +4,7 @@ use Rattle.std.proofs.lemmas.Cmp.{on_total}
 use Rattle.agg_model.specs.declared.partial.Bucket.{Bucket}
 use Rattle.agg_evaluation.specs.Orders.{bucket_cmp}
 use Rattle.bucket_order.specs.Kinds.{child_kinds}
-use Rattle.bucket_order.proofs.SortLaws.{sorted_from_sort_by}
+use Rattle.list_laws.proofs.StableSort.{sorted_from_sort_by}
 use Rattle.bucket_order.proofs.TotalLaws.{bucket_cmp_total}
 use Rattle.final_reduce.proofs.SelectLaws.{sorted-map}
 use Rattle.final_reduce.proofs.lent.sort_lent.Goals as goal

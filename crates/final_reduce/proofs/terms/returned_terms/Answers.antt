@@ -3,7 +3,7 @@ use Rattle.std.specs.Prelude.{sum_by, take, nat_le}
 use Rattle.std.proofs.lemmas.List.Sums.{sum_by-take-drop}
 use Rattle.std.proofs.lemmas.List.Sorted.{sum_by-IsPermutation}
 use Rattle.agg_evaluation.specs.Orders.{bucket_cmp, bucket_count}
-use Rattle.agg_evaluation.specs.Sorting.{sorted}
+use Rattle.list_laws.specs.Sorting.{sorted}
 use Rattle.agg_spec.specs.Filling.{frequent}
 use Rattle.bucket_order.specs.Kinds.{child_kinds}
 use Rattle.final_reduce.proofs.SumLaws.{sum_by-filter_le}

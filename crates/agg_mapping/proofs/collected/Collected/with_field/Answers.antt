@@ -3,7 +3,7 @@ use Rattle.std.proofs.lemmas.List.{length_push}
 use Rattle.agg_reading.specs.declared.parts.FoundField.{FoundField}
 use Rattle.agg_mapping.specs.Arranged.{arranged}
 use Rattle.agg_mapping.proofs.CollectedLemmas.{room}
-use Rattle.agg_mapping.proofs.Placing.{placed-push}
+use Rattle.agg_mapping.proofs.PathOrder.{sorted-last}
 use Rattle.agg_mapping.proofs.collected.Collected.with_field.Goals as goal
 
 pub invariant_of-result : goal.invariant_of-result
@@ -13,4 +13,4 @@ invariant_of-result c =
 
 pub returns : goal.returns
 unfolding arranged
-returns c = rw (c.in_ok-push.ensures.ok, placed-push (λ (f : FoundField). f.path) [] c.args.self.fields c.args.field)
+returns c = rw (c.in_ok-push.ensures.ok, sorted-last (λ (f : FoundField). f.path) c.args.self.fields c.args.field)

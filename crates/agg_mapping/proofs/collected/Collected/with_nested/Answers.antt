@@ -3,7 +3,7 @@ use Rattle.std.proofs.lemmas.List.{length_push}
 use Rattle.agg_reading.specs.declared.parts.FoundPath.{FoundPath}
 use Rattle.agg_mapping.specs.Arranged.{arranged}
 use Rattle.agg_mapping.proofs.CollectedLemmas.{room}
-use Rattle.agg_mapping.proofs.Placing.{placed-push}
+use Rattle.agg_mapping.proofs.PathOrder.{sorted-last}
 use Rattle.agg_mapping.proofs.collected.Collected.with_nested.Goals as goal
 
 pub invariant_of-result : goal.invariant_of-result
@@ -13,4 +13,4 @@ invariant_of-result c =
 
 pub returns : goal.returns
 unfolding arranged
-returns c = rw (c.in_ok-push.ensures.ok, placed-push (λ (p : FoundPath). p.path) [] c.args.self.nested, c.in_ok-of.ensures, c.in_ok-of-2.ensures)
+returns c = rw (c.in_ok-push.ensures.ok, sorted-last (λ (p : FoundPath). p.path) c.args.self.nested, c.in_ok-of.ensures, c.in_ok-of-2.ensures)

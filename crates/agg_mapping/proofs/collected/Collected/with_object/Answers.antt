@@ -1,8 +1,8 @@
 use Rattle.std.proofs.Common.{ℕ, List, []}
 use Rattle.agg_mapping.specs.Arranged.{arranged}
-use Rattle.agg_mapping.proofs.Placing.{placed-push}
+use Rattle.agg_mapping.proofs.PathOrder.{sorted-last}
 use Rattle.agg_mapping.proofs.collected.Collected.with_object.Goals as goal
 
 pub returns : goal.returns
 unfolding arranged
-returns c = rw (c.in_ok-push.ensures.ok, placed-push (λ (p : List ℕ). p) [] c.args.self.objects, c.in_ok-of.ensures)
+returns c = rw (c.in_ok-push.ensures.ok, sorted-last (λ (p : List ℕ). p) c.args.self.objects, c.in_ok-of.ensures)

@@ -1,4 +1,4 @@
-use Rattle.agg_evaluation.proofs.KeyLists.{holds}
+use Rattle.list_laws.proofs.Booleans.{holds}
 use Rattle.evaluation_laws.proofs.TaskLaws.{twice-peak, twice-cost}
 use Rattle.evaluation_laws.proofs.laws.charges.tasks_stay_below_their_ceilings.Goals as goal
 

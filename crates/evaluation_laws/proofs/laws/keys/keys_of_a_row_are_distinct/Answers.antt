@@ -1,5 +1,5 @@
 use Rattle.agg_evaluation.proofs.DistinctKeys.{ascending-keys}
-use Rattle.agg_evaluation.proofs.KeyLists.{true_is}
+use Rattle.list_laws.proofs.Booleans.{true_is}
 use Rattle.evaluation_laws.proofs.laws.keys.keys_of_a_row_are_distinct.Goals as goal
 
 pub returns : goal.returns

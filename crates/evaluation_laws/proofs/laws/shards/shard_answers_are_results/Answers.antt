@@ -1,4 +1,4 @@
-use Rattle.agg_evaluation.proofs.KeyLists.{true_is}
+use Rattle.list_laws.proofs.Booleans.{true_is}
 use Rattle.agg_evaluation.proofs.TreeLaws.{shard_answer-is_result, built-is_result}
 use Rattle.evaluation_laws.proofs.laws.shards.shard_answers_are_results.Goals as goal
 

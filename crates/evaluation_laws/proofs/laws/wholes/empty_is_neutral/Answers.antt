@@ -1,4 +1,4 @@
-use Rattle.agg_evaluation.proofs.KeyLists.{holds}
+use Rattle.list_laws.proofs.Booleans.{holds}
 use Rattle.agg_evaluation.proofs.SearchLaws.{node-neutral, whole-neutral}
 use Rattle.evaluation_laws.proofs.laws.wholes.empty_is_neutral.Goals as goal
 

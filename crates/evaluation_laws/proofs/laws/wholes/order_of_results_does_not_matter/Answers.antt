@@ -1,5 +1,5 @@
 use Rattle.agg_evaluation.specs.Whole.{whole_node}
-use Rattle.agg_evaluation.proofs.AnyOrder.{any_order}
+use Rattle.list_laws.proofs.Permutations.{any_order}
 use Rattle.agg_evaluation.proofs.UnionLaws.{whole_node-unites}
 use Rattle.agg_evaluation.proofs.SwapLaws.{whole_node-swaps}
 use Rattle.agg_evaluation.proofs.SearchLaws.{whole-any_order}

@@ -1,5 +1,5 @@
 use Rattle.agg_evaluation.proofs.AloneLaws.{whole_node-alone}
-use Rattle.agg_evaluation.proofs.KeyLists.{holds}
+use Rattle.list_laws.proofs.Booleans.{holds}
 use Rattle.agg_evaluation.proofs.SearchLaws.{whole-alone}
 use Rattle.evaluation_laws.proofs.laws.wholes.whole_of_one_is_that_one.Goals as goal
 

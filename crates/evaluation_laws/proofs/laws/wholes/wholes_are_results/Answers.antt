@@ -1,5 +1,5 @@
 use Rattle.agg_evaluation.proofs.AloneLaws.{whole_node-is_tree}
-use Rattle.agg_evaluation.proofs.KeyLists.{true_is}
+use Rattle.list_laws.proofs.Booleans.{true_is}
 use Rattle.agg_evaluation.proofs.SearchLaws.{whole-is_result}
 use Rattle.evaluation_laws.proofs.laws.wholes.wholes_are_results.Goals as goal
 

@@ -1,7 +1,7 @@
 use Rattle.std.proofs.Common.{arith}
 use Rattle.std.specs.Prelude.{◌∷◌, ◌<◌, length}
 use Rattle.evaluation_laws.proofs.CostLaws.{whole_node-saves}
-use Rattle.agg_evaluation.proofs.KeyLists.{holds}
+use Rattle.list_laws.proofs.Booleans.{holds}
 use Rattle.evaluation_laws.proofs.SearchCosts.{whole-saves}
 use Rattle.evaluation_laws.proofs.laws.wholes.wholes_cost_at_most_their_parts.Goals as goal
 

@@ -1,5 +1,5 @@
 use Rattle.std.proofs.Common.{◌+◌, arith}
-use Rattle.shard_columns.specs.Layout.{row_of}
+use Rattle.agg_evaluation.specs.Rows.{row_of}
 use Rattle.shard_columns.proofs.Reading.{child-row}
 use Rattle.shard_columns.proofs.shard.Shard.child.Goals as goal
 

@@ -1,6 +1,6 @@
 use Rattle.std.proofs.Common.{◌+◌, length, sym, ◌∙◌, ap, arith}
 use Rattle.std.proofs.lemmas.List.{length-map}
-use Rattle.shard_columns.specs.Layout.{row_of}
+use Rattle.agg_evaluation.specs.Rows.{row_of}
 use Rattle.shard_columns.proofs.Reading.{beneath-few}
 use Rattle.shard_columns.proofs.shard.Shard.child_count.Goals as goal
 

@@ -1,0 +1,99 @@
+-- The options of an aggregation by their names (Elasticsearch Reference 8, 'Terms aggregation', 'Histogram aggregation',
+-- 'Metrics aggregations').
+use Rattle.std.specs.Prelude.{ℕ, Bool, List, Option}
+use Rattle.agg_model.specs.declared.key.Key.{Key}
+use Rattle.agg_model.specs.declared.row.Scalar.{Scalar}
+use Rattle.agg_model.specs.declared.query.Probe.{Probe}
+use Rattle.agg_model.specs.declared.query.Query.{Query}
+use Rattle.agg_model.specs.declared.aggregation.Bounds.{Bounds}
+use Rattle.agg_model.specs.declared.aggregation.Order.{Order}
+use Rattle.agg_model.specs.declared.aggregation.CompositeSource.{CompositeSource}
+use Rattle.agg_model.specs.declared.aggregation.Kind.{Kind}
+use Rattle.agg_model.specs.declared.aggregation.Kind.TheVariants as kind
+
+pub record TermsOptions : Type 0 where
+  pub field : ℕ
+  pub size : ℕ
+  pub shard_size : ℕ
+  pub min_doc_count : ℕ
+  pub order : List Order
+  pub include : Option (List Probe)
+  pub exclude : List Probe
+  pub missing : Option Scalar
+  pub show_error : Bool
+
+pub record HistogramOptions : Type 0 where
+  pub field : ℕ
+  pub interval : ℕ
+  pub offset : ℕ
+  pub min_doc_count : ℕ
+  pub extended : Bounds
+  pub hard : Bounds
+  pub keyed : Bool
+  pub order : List Order
+  pub missing : Option Scalar
+
+-- of a sum, minimum, maximum, average or value count
+pub record MetricOptions : Type 0 where
+  pub field : ℕ
+  pub missing : Option Scalar
+
+-- what an aggregation does: its kind with its options, the five metrics as one
+pub data Options : Type 0 where
+  Terms : TermsOptions → Options
+  Histogram : HistogramOptions → Options
+  Filters : Option (List (List ℕ)) → List Query → Option (List ℕ) → Options
+  Filter : Query → Options
+  Missing : ℕ → Options
+  Global : Options
+  Nested : ℕ → Options
+  ReverseNested : ℕ → Options
+  Composite : List CompositeSource → ℕ → Option Key → Options
+  Metric : MetricOptions → Options
+
+abbrev pub metric_over : ℕ → Option Scalar → Options
+metric_over field missing = Options.Metric (record { field = field; missing = missing })
+
+abbrev pub options_of : Kind → Options
+options_of (kind.Terms field size shard_size min_doc_count order include exclude missing show_error) = Options.Terms (record {
+  field = field;
+  size = size;
+  shard_size = shard_size;
+  min_doc_count = min_doc_count;
+  order = order;
+  include = include;
+  exclude = exclude;
+  missing = missing;
+  show_error = show_error;
+})
+options_of (kind.Histogram field interval offset min_doc_count extended hard keyed order missing) = Options.Histogram (record {
+  field = field;
+  interval = interval;
+  offset = offset;
+  min_doc_count = min_doc_count;
+  extended = extended;
+  hard = hard;
+  keyed = keyed;
+  order = order;
+  missing = missing;
+})
+options_of (kind.Filters names filters other) = Options.Filters names filters other
+options_of (kind.Filter query) = Options.Filter query
+options_of (kind.Missing field) = Options.Missing field
+options_of kind.Global = Options.Global
+options_of (kind.Nested context) = Options.Nested context
+options_of (kind.ReverseNested context) = Options.ReverseNested context
+options_of (kind.Composite sources size after) = Options.Composite sources size after
+options_of (kind.Sum field missing) = metric_over field missing
+options_of (kind.Min field missing) = metric_over field missing
+options_of (kind.Max field missing) = metric_over field missing
+options_of (kind.Avg field missing) = metric_over field missing
+options_of (kind.ValueCount field missing) = metric_over field missing
+
+-- the aggregation of terms with these options
+abbrev pub terms_kind : TermsOptions → Kind
+terms_kind t = kind.Terms t.field t.size t.shard_size t.min_doc_count t.order t.include t.exclude t.missing t.show_error
+
+-- the histogram with these options
+abbrev pub histogram_kind : HistogramOptions → Kind
+histogram_kind h = kind.Histogram h.field h.interval h.offset h.min_doc_count h.extended h.hard h.keyed h.order h.missing

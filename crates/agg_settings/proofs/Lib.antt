@@ -1,0 +1,5 @@
+pub mod Parsing
+pub mod Computing
+mod LimitTexts
+mod AcceptedWords
+mod RefusedWords

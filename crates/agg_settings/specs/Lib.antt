@@ -1,0 +1,10 @@
+pub mod Numbers
+pub mod Sizes
+pub mod Limits
+pub mod Usages
+pub mod Entries
+pub mod Words
+pub mod Generating
+pub mod Options
+pub mod Settings
+pub mod Ranges

@@ -1,0 +1,20 @@
+//! The words of the command line, read to the settings of a run or to the first word that is not in the grammar.
+//!
+//! The grammar and the settings that words give stand as definitions in `specs/`.
+#![tactic(auto)]
+
+mod amount;
+mod command;
+mod entries;
+mod fault;
+mod generate;
+mod numbers;
+mod options;
+mod settings;
+#[cfg(test)]
+mod tests;
+mod values;
+
+pub use amount::byte_size;
+pub use fault::SettingsFault;
+pub use settings::settings_of;

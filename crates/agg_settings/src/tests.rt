@@ -1,0 +1,223 @@
+use crate::amount::byte_size;
+use crate::fault::SettingsFault;
+use crate::settings::settings_of;
+use agg_model::{Generate, Limits, Settings, Text};
+use std::alloc::{AllocError, Global};
+use std::test::Fail;
+
+const LIMITS: Limits = Limits {
+    request: 644_245_094,
+    fielddata: 429_496_729,
+    inflight: 1_073_741_824,
+    parent: 751_619_276,
+};
+
+const PLAIN: Settings = Settings {
+    workers: 1,
+    batch: 512,
+    width: 1,
+    limits: LIMITS,
+    max_buckets: 65_536,
+    scan: false,
+    generate: None,
+};
+
+/// The words of a line, which stand between spaces.
+fn words(alloc: Global, line: &str) -> Result<Vec<Text>, AllocError> {
+    let mut words = Vec::new(alloc);
+    for word in line.split_whitespace() {
+        words.push(Text::of(alloc, word)?)?;
+    }
+    Ok(words)
+}
+
+fn is_usage(read: Result<Settings, SettingsFault>, key: &str, value: &str) -> bool {
+    match read {
+        Err(SettingsFault::Usage(usage)) => {
+            usage.key.as_str() == key && usage.value.as_str() == value
+        }
+        _ => false,
+    }
+}
+
+#[test]
+fn words_give_settings(rt: HostRuntime) -> Result<(), Fail> {
+    let all = Limits {
+        request: 1,
+        fielddata: 2_048,
+        inflight: 0,
+        parent: 1_125_899_906_842_624,
+    };
+    let of_100 = Limits {
+        request: 7,
+        fielddata: 40,
+        inflight: 100,
+        parent: 70,
+    };
+    let generate = Generate {
+        number: 18_446_744_073_709_551_615,
+        documents: 100_000,
+        shards: 64,
+    };
+    for (line, wanted) in [
+        ("", PLAIN),
+        ("--", PLAIN),
+        (
+            "--workers 007",
+            Settings {
+                workers: 7,
+                ..PLAIN
+            },
+        ),
+        (
+            "--concurrent-searches=64 --workers=64",
+            Settings {
+                workers: 64,
+                width: 64,
+                ..PLAIN
+            },
+        ),
+        ("--batched-reduce-size 2", Settings { batch: 2, ..PLAIN }),
+        (
+            "--scan",
+            Settings {
+                scan: true,
+                ..PLAIN
+            },
+        ),
+        (
+            "--generate 18446744073709551615:100000:64",
+            Settings {
+                generate: Some(generate),
+                ..PLAIN
+            },
+        ),
+        (
+            "-E indices.breaker.request.limit=1b -E indices.breaker.fielddata.limit=2KB \
+             -E network.breaker.inflight_requests.limit=0 -E indices.breaker.total.limit=1pB",
+            Settings {
+                limits: all,
+                ..PLAIN
+            },
+        ),
+        (
+            "-Eindices.breaker.request.limit=007% -E=heap_size=1gb -E heap_size=100b",
+            Settings {
+                limits: of_100,
+                ..PLAIN
+            },
+        ),
+        (
+            "-E search.max_buckets=1 -E search.max_buckets=1000000",
+            Settings {
+                max_buckets: 1_000_000,
+                ..PLAIN
+            },
+        ),
+        ("-E indices.breaker.total.use_real_memory=false", PLAIN),
+    ] {
+        let words = words(rt.alloc(), line)?;
+        let read = settings_of(rt.alloc(), words.as_slice(), true);
+        assert!(rt; read == Ok(wanted), "{line}");
+    }
+    Ok(())
+}
+
+#[test]
+fn words_outside_the_grammar_are_refused(rt: HostRuntime) -> Result<(), Fail> {
+    for (line, key, value) in [
+        ("x", "", ""),
+        ("-- x", "", ""),
+        ("--help", "", ""),
+        ("--workers", "", ""),
+        ("--workers -1", "", ""),
+        ("--workers 1 --workers 1", "", ""),
+        ("--scan --scan", "", ""),
+        ("--scan=x", "", ""),
+        ("-E --scan", "", ""),
+        ("--request-cache=8", "", ""),
+        ("--workers=", "--workers", ""),
+        ("--workers 0", "--workers", "0"),
+        ("--workers 65", "--workers", "65"),
+        ("--workers +1", "--workers", "+1"),
+        (
+            "--workers 000000000000000000001",
+            "--workers",
+            "000000000000000000001",
+        ),
+        ("--batched-reduce-size 1", "--batched-reduce-size", "1"),
+        (
+            "--batched-reduce-size 1025",
+            "--batched-reduce-size",
+            "1025",
+        ),
+        ("--concurrent-searches 65", "--concurrent-searches", "65"),
+        ("-E=", "", ""),
+        ("-E x=y=z", "x", "y=z"),
+        ("-E heap_size", "heap_size", ""),
+        ("-E heap_size=0b", "heap_size", "0b"),
+        ("-E heap_size=50%", "heap_size", "50%"),
+        ("-E heap_size=1025tb", "heap_size", "1025tb"),
+        ("-E heap_size=0 -E heap_size=1gb", "heap_size", "0"),
+        (
+            "-E indices.breaker.total.limit=00",
+            "indices.breaker.total.limit",
+            "00",
+        ),
+        (
+            "-E indices.breaker.total.limit=101%",
+            "indices.breaker.total.limit",
+            "101%",
+        ),
+        (
+            "-E indices.breaker.total.limit=1",
+            "indices.breaker.total.limit",
+            "1",
+        ),
+        ("-E search.max_buckets=0", "search.max_buckets", "0"),
+        (
+            "-E indices.breaker.total.use_real_memory=true",
+            "indices.breaker.total.use_real_memory",
+            "true",
+        ),
+        ("--generate 1:2", "--generate", "1:2"),
+        ("--generate 1:100001:1", "--generate", "1:100001:1"),
+        (
+            "--generate 18446744073709551616:1:1",
+            "--generate",
+            "18446744073709551616:1:1",
+        ),
+        ("--generate x -E x=1 --workers x", "--workers", "x"),
+        (
+            "--generate x --scan --concurrent-searches 2 -E x=1",
+            "x",
+            "1",
+        ),
+        ("--generate x --scan --concurrent-searches 2", "--scan", ""),
+    ] {
+        let words = words(rt.alloc(), line)?;
+        let read = settings_of(rt.alloc(), words.as_slice(), true);
+        assert!(rt; is_usage(read, key, value), "{line}");
+    }
+    Ok(())
+}
+
+#[test]
+fn one_worker_and_one_search_where_no_more_are_answered(rt: HostRuntime) -> Result<(), Fail> {
+    for (line, key) in [
+        ("--workers 2", "--workers"),
+        ("--concurrent-searches 2", "--concurrent-searches"),
+    ] {
+        let words = words(rt.alloc(), line)?;
+        let read = settings_of(rt.alloc(), words.as_slice(), false);
+        assert!(rt; is_usage(read, key, "2"), "{line}");
+    }
+    Ok(())
+}
+
+#[test]
+fn a_limit_is_in_bytes_or_a_share_of_the_heap(rt: HostRuntime) {
+    assert!(rt; byte_size(b"007%", 1_999) == Some(139));
+    assert!(rt; byte_size(b"3Mb", 1_999) == Some(3_145_728));
+    assert!(rt; byte_size(b"00", 1_999) == None);
+}

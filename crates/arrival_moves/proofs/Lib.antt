@@ -1,0 +1,31 @@
+pub mod Lists
+pub mod OneIf
+pub mod SlotStates
+pub mod Sums
+pub mod Cases
+pub mod CloseGuards
+pub mod Claims
+pub mod Items
+pub mod Shapes
+pub mod Quiet
+pub mod Loads
+pub mod Words
+pub mod Places
+pub mod Results
+pub mod Reached
+pub mod Counts
+pub mod Runs
+pub mod NumberLists
+pub mod Each
+pub mod BatchRanges
+pub mod LabelsFit
+pub mod Unbatched
+pub mod Batches
+pub mod Everywhere
+pub mod TasksOnce
+pub mod Stops
+pub mod Fair
+pub mod Closing
+pub mod Alone
+mod MergeExamples
+mod StopExamples

@@ -1,0 +1,12 @@
+pub mod AfterMove
+pub mod Closing
+pub mod Fairness
+pub mod Guards
+pub mod Hands
+pub mod Holding
+pub mod Items
+pub mod Labels
+pub mod Lists
+pub mod Moves
+pub mod Plans
+pub mod Slots

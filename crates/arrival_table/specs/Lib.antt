@@ -1,0 +1,4 @@
+pub mod Holding
+pub mod Models
+pub mod Outs
+pub mod Steps

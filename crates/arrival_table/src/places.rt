@@ -1,0 +1,98 @@
+// Where the words and slots of each search stand.
+ghost use Rattle.std.specs.Prelude.{◌≡◌, ℕ, ◌+◌, ◌≤◌, ◌<◌, length};
+ghost use mathlib.Core.Option.{some};
+ghost use lib.ListN.{get_elem?};
+ghost use Rattle.arrival_moves.specs.declared.plan.Plan.{Plan as PlanValue};
+ghost use Rattle.arrival_moves.specs.Plans.{task_count, search_of, tasks_of, first_of, place_of, batch_size, IsPlan};
+
+use arrival_moves::Plan;
+use std::marker::Model;
+
+/// The plan, with the number of tasks of the searches before each search and before none.
+#[derive(Drop)]
+pub(crate) struct Places {
+    pub(crate) plan: Plan,
+    pub(crate) starts: Vec<u64>,
+}
+
+impl Model for Places {
+    ghost Value = { PlanValue };
+
+    ghost view = { λ s. s.plan };
+
+    ghost invariant = { λ s. IsPlan s.plan × (length s.starts.items ≡ s.plan.searches + 1) × ((q : ℕ) → q ≤ s.plan.searches → get_elem? s.starts.items q ≡ some (first_of s.plan q)) };
+}
+
+impl Places {
+    pub(crate) fn task_count(&self) -> usize
+        ensures value { result ≡ task_count self.now }
+        ensures few { result ≤ 65536 }
+    {
+        self.plan.tasks.len()
+    }
+
+    /// The number of searches.
+    pub(crate) fn searches(&self) -> u32
+        ensures { result ≡ self.now.searches }
+    {
+        self.plan.searches
+    }
+
+    /// How many results a batch has at most.
+    pub(crate) fn batch(&self) -> u32
+        ensures value { result ≡ self.now.batch }
+        ensures least { 2 ≤ result }
+    {
+        self.plan.batch
+    }
+
+    /// The search of a task.
+    pub(crate) fn search_of(&self, task: u32) -> u32
+        requires range { task < task_count self.now }
+        ensures value { result ≡ search_of self.now task }
+        ensures range { result < self.now.searches }
+    {
+        self.plan.search_of(task)
+    }
+
+    /// The number of tasks of the searches before this one.
+    fn start(&self, search: u64) -> u64
+        requires range { search ≤ self.now.searches }
+        ensures value { result ≡ first_of self.now search }
+        ensures range { result ≤ task_count self.now }
+        ensures few { result ≤ 65536 }
+    {
+        self.starts[search as usize]
+    }
+
+    /// Where the result of a ticket stands among the results, and a batch among the batches.
+    pub(crate) fn place_of(&self, search: u32, number: u32) -> usize
+        requires range { number < tasks_of self.now search }
+        ensures value { result ≡ place_of self.now search number }
+        ensures range { result < task_count self.now }
+        ensures few { result ≤ 65536 }
+    {
+        self.starts[search as usize] as usize + number as usize
+    }
+
+    /// The number of tasks of a search.
+    pub(crate) fn tasks_of(&self, search: u32) -> u64
+        requires range { search < self.now.searches }
+        ensures value { result ≡ tasks_of self.now search }
+        ensures few { result ≤ 65536 }
+    {
+        self.start(search as u64 + 1) - self.start(search as u64)
+    }
+
+    /// The number of tickets of a batch; the last one of a search may be short.
+    pub(crate) fn batch_size(&self, search: u32, batch: u32) -> u64
+        requires range { search < self.now.searches }
+        ensures { result ≡ batch_size self.now search batch }
+    {
+        let size = self.plan.batch as u64;
+        let rest = self
+            .tasks_of(search)
+            .saturating_sub(batch as u64 * size);
+        size.min(rest)
+    }
+}
