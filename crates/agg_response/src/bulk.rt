@@ -8,15 +8,9 @@ ghost use Rattle.agg_spec.specs.Json.{with_members, object_of, count};
 ghost use Rattle.agg_spec.specs.BulkLine as definition;
 
 use crate::json::{Json, Object, flag_value};
+use agg_model::item_refusal::{INDEX_FULL, STRICT_MAPPING, VERSION_CONFLICT};
 use agg_model::{ActionKind, Applied, Item, ItemEnd, ItemRefusal, List, Text};
 use std::alloc::{AllocError, Global};
-
-/// The refusal of an action whose id is live.
-const ID_IS_LIVE: u8 = 26;
-/// The refusal of a document with a field that the mapping does not know.
-const STRICT_MAPPING: u8 = 27;
-/// The refusal of an action that the index has no room for.
-const INDEX_IS_FULL: u8 = 28;
 
 fn action_name(kind: ActionKind) -> &'static str
     ensures { result.now ≡ definition.action_name kind }
@@ -53,9 +47,9 @@ fn refusal_type(number: u8) -> &'static str
     ensures { result.now ≡ definition.refusal_type number }
 {
     match number {
-        ID_IS_LIVE => "version_conflict_engine_exception",
+        VERSION_CONFLICT => "version_conflict_engine_exception",
         STRICT_MAPPING => "strict_dynamic_mapping_exception",
-        INDEX_IS_FULL => "index_full_exception",
+        INDEX_FULL => "index_full_exception",
         _ => "mapper_parsing_exception",
     }
 }
@@ -63,7 +57,7 @@ fn refusal_type(number: u8) -> &'static str
 fn refusal_status(number: u8) -> u64
     ensures { result ≡ definition.refusal_status number }
 {
-    if number == ID_IS_LIVE { 409 } else { 400 }
+    if number == VERSION_CONFLICT { 409 } else { 400 }
 }
 
 /// The error of a refused item. A refusal of the action, and not of its document, has no path.
@@ -72,7 +66,7 @@ fn refusal_value(alloc: Global, refusal: &ItemRefusal) -> Result<Json, AllocErro
         ∷ (definition.refusal_path refusal.now ++ (codes "type", string (definition.refusal_type refusal.now.number)) ∷ []))) }
 {
     let members = Object::new(alloc).with_count(alloc, "number", u64::from(refusal.number))?;
-    let located = if refusal.number == ID_IS_LIVE || refusal.number == INDEX_IS_FULL {
+    let located = if refusal.number == VERSION_CONFLICT || refusal.number == INDEX_FULL {
         members
     } else {
         members.with_text(alloc, "path", refusal.path.as_str())?

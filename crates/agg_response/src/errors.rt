@@ -8,6 +8,10 @@ ghost use Rattle.agg_spec.specs.EndLines as definition;
 ghost use Rattle.agg_spec.specs.ErrorLines.{breaker_name as name_of_breaker, durability as durability_of, breaker_reason, exception_line, refusal_members as members_of_refusal, refusal_line};
 
 use crate::json::Object;
+use agg_model::script_refusal::{
+    BAD_HEADER, BAD_INDEX_LINE, INPUT_TOO_LONG, LINE_TOO_LONG, MALFORMED_ACTION, MISSING_BODY,
+    MISSING_SECTION, MISSING_SOURCE, NOT_BUILT, TOO_MANY_DOCUMENTS, UPDATE_NOT_SUPPORTED,
+};
 use agg_model::{Refused, Text, Tripped, Usage, Which};
 use std::alloc::{AllocError, Global};
 
@@ -127,26 +131,23 @@ fn script_type(number: u8) -> &'static str
     ensures { result.now ≡ definition.script_type number }
 {
     match number {
-        29 => "not_built",
-        30 => "line_too_long",
-        31 => "bad_index_line",
-        32 => "malformed_action",
-        33 => "update_not_supported",
-        34 => "missing_source",
-        35 => "too_many_documents",
-        36 => "missing_body",
-        37 => "input_too_long",
-        38 => "missing_section",
-        39 => "bad_header",
+        NOT_BUILT => "not_built",
+        LINE_TOO_LONG => "line_too_long",
+        BAD_INDEX_LINE => "bad_index_line",
+        MALFORMED_ACTION => "malformed_action",
+        UPDATE_NOT_SUPPORTED => "update_not_supported",
+        MISSING_SOURCE => "missing_source",
+        TOO_MANY_DOCUMENTS => "too_many_documents",
+        MISSING_BODY => "missing_body",
+        INPUT_TOO_LONG => "input_too_long",
+        MISSING_SECTION => "missing_section",
+        BAD_HEADER => "bad_header",
         _ => "",
     }
 }
 
-/// The refusal that tells where in the index line it lies.
-const BAD_INDEX_LINE: u8 = 31;
-
-/// The last line of a run whose script is refused: the refusal's number (29 to 39), the line where it was found, counted
-/// from 1, and the JSON pointer in the index line, which prints for number 31 alone.
+/// The last line of a run whose script is refused: the refusal's number in `agg_model::script_refusal`, the line where
+/// it was found, counted from 1, and the JSON pointer in the index line, which prints for `BAD_INDEX_LINE` alone.
 pub fn script_line(alloc: Global, number: u8, line: u64, path: &Text) -> Result<Text, AllocError>
     ensures { IfOk result (λ t. t ≡ definition.script_line number line path.now) }
 {
