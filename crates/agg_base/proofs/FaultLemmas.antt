@@ -4,7 +4,7 @@ use Rattle.std.proofs.lemmas.Bool.{cond-true, cond-false, lt-ltb, le-ltb, ltb-tr
 use Rattle.agg_base.specs.Cut.{newline, IsPlain, Answers, first_line, whole_line, next_of, fault_of, or_fault, as_result, whole_of}
 use Rattle.agg_base.specs.declared.lines.LineFault.{LineFault}
 use Rattle.agg_base.specs.declared.lines.LineFault.TheVariants.{Read, LineTooLong, InputTooLong, Memory}
-use Rattle.agg_base.specs.declared.limits.TheConstants.{MAX_LINE, MAX_INPUT}
+use Rattle.agg_model.specs.declared.limits.TheConstants.{MAX_LINE, MAX_INPUT}
 use Rattle.agg_base.proofs.CutLemmas.{first_line-append, whole_line-append, take-first_line, plain_first_line, plain-append, drop-first_line}
 
 module _ (before bytes whole : ℕ) where

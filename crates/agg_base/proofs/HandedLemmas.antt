@@ -2,7 +2,7 @@
 use Rattle.std.proofs.Common.{◌≡◌, ◌<◌, ◌≤◌, ◌+◌, ℕ, List, [], ◌∷◌, ◌++◌, Option, Some, None, Ok, refl, sym, ap, subst, ◌∙◌, append_assoc, append-nil, add-zero, length, IfSome, option_map, arith}
 use Rattle.std.specs.Io.KnownBytes.{prepend_known, IsAtEnd}
 use Rattle.agg_base.specs.Cut.{newline, IsPlain, Answers, lines_of, next_of, fault_of, or_fault}
-use Rattle.agg_base.specs.declared.limits.TheConstants.{MAX_LINE, MAX_INPUT}
+use Rattle.agg_model.specs.declared.limits.TheConstants.{MAX_LINE, MAX_INPUT}
 use Rattle.agg_base.specs.declared.lines.LineFault.{LineFault}
 use Rattle.agg_base.proofs.CutLemmas.{lines_of-line, lines_of-last}
 use Rattle.agg_base.proofs.FaultLemmas.{fault_of-none, next_of-append}

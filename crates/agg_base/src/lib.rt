@@ -14,7 +14,7 @@ mod source;
 mod tests;
 
 pub use adapters::{StdSink, StdSource};
-pub use limits::{BLOCK, MAX_INPUT, MAX_LINE};
+pub use limits::BLOCK;
 pub use lines::{Block, LineFault, Lines};
 pub use memory_sink::MemorySink;
 pub use memory_source::MemorySource;

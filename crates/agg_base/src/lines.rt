@@ -3,12 +3,14 @@ ghost use Rattle.std.specs.Result.{result_err};
 ghost use Rattle.std.specs.Io.KnownBytes.{prepend_known, IsAtEnd};
 ghost use Rattle.agg_base.specs.Cut.{IsPlain, Answers, IsLine, lines_of, first_line, next_of, fault_of, as_result, whole_of};
 ghost use Rattle.agg_base.specs.Outside.{Rose};
-ghost use Rattle.agg_base.specs.declared.limits.TheConstants.{BLOCK, MAX_INPUT, MAX_LINE};
+ghost use Rattle.agg_base.specs.declared.limits.TheConstants.{BLOCK};
+ghost use Rattle.agg_model.specs.declared.limits.TheConstants.{MAX_INPUT, MAX_LINE};
 ghost use Rattle.agg_base.specs.declared.lines.LineFault.TheVariants.{Memory};
 
-use crate::limits::{BLOCK, MAX_INPUT, MAX_LINE};
+use crate::limits::BLOCK;
 use crate::source::{Failed, Source};
 use agg_model::Bytes;
+use agg_model::limits::{MAX_INPUT, MAX_LINE};
 use memchr::memchr;
 use std::alloc::{AllocError, Global};
 use std::mem;

@@ -7,8 +7,8 @@ use Rattle.std.specs.Str.{bytes_eq}
 use Rattle.agg_base.specs.Cut.{newline, IsPlain, Answers, IsLine, first_line, whole_line, next_of, fault_of, or_fault}
 use Rattle.agg_base.specs.declared.lines.LineFault.{LineFault}
 use Rattle.agg_base.specs.declared.lines.LineFault.TheVariants.{Read, LineTooLong, InputTooLong, Memory}
-use Rattle.agg_base.specs.declared.limits.TheConstants.{MAX_LINE, MAX_INPUT}
-use Rattle.agg_reading.specs.Lines.{Line, Place, lines, with_byte, line_fault, is_beyond, past, max_line, max_input}
+use Rattle.agg_model.specs.declared.limits.TheConstants.{MAX_LINE, MAX_INPUT}
+use Rattle.agg_reading.specs.Lines.{Line, Place, lines, with_byte, line_fault, is_beyond, past}
 use Rattle.agg_program.specs.SmallForm.{within, not_built, unless_fault}
 use Rattle.agg_program.specs.Reading.{Reads, stop_of}
 use Rattle.agg_program.specs.declared.stop.Stop.{Stop}
@@ -87,9 +87,9 @@ module _ (number before : ℕ) (text : List ℕ) (size : ℕ) (inside : before �
   not_beyond : before + min size (MAX_LINE + 1) ≤ MAX_INPUT → is_beyond (place_at number before) (line_of text size) ≡ false
   not_beyond le =
       ⊎_elim
-      (λ lt. and_right (nat_le before max_input && nat_lt max_input (before + size)) _ (lt-leb (max_input - before) max_line (omega arith)))
-      (λ ge. and_left _ (nat_le (max_input - before) max_line) (and_right (nat_le before max_input) _ (le-ltb max_input (before + size) ge)))
-      (cases_lt max_input (before + size))
+      (λ lt. and_right (nat_le before MAX_INPUT && nat_lt MAX_INPUT (before + size)) _ (lt-leb (MAX_INPUT - before) MAX_LINE (omega arith)))
+      (λ ge. and_left _ (nat_le (MAX_INPUT - before) MAX_LINE) (and_right (nat_le before MAX_INPUT) _ (le-ltb MAX_INPUT (before + size) ge)))
+      (cases_lt MAX_INPUT (before + size))
 
   pub fits : fault_of before (length text) size ≡ None → line_fault (place_at number before) (line_of text size) ≡ None
   unfolding line_fault

@@ -4,14 +4,12 @@ use Rattle.std.specs.Prelude.{◌≡◌, ℕ, ◌+◌, List, [], ◌∷◌, ◌+
 use Rattle.std.specs.List.{enumerate_from}
 use Rattle.std.specs.Str.{bytes_eq}
 use Rattle.std.specs.Fmt.{decimal}
+use Rattle.agg_model.specs.declared.limits.TheConstants.{MAX_ACTIONS}
 use Rattle.agg_model.specs.declared.row.Document.{Document}
 use Rattle.agg_reading.specs.Reading.{◌>>◌}
 use Rattle.agg_reading.specs.Lines.{Script, Line, Place, start, past, is_empty_line}
 use Rattle.keyword_documents.specs.SmallForm.{keyword_of, keyword_document}
 use Rattle.agg_program.specs.SmallForm.{not_built, within, index_text, action_text}
-
-abbrev pub max_actions : ℕ
-max_actions = 1048576
 
 -- the keywords of the documents, and what is left of the script
 pub record Taken : Type 0 where
@@ -20,7 +18,7 @@ pub record Taken : Type 0 where
   pub rest : List Line
 
 abbrev pub is_action : ℕ → Line → Bool
-is_action taken l = bytes_eq l.text action_text && nat_lt taken max_actions
+is_action taken l = bytes_eq l.text action_text && nat_lt taken MAX_ACTIONS
 
 -- the next, where the source line has a keyword
 abbrev pub with_keyword : ℕ → Option (List ℕ) → (List ℕ → Script Taken) → Script Taken

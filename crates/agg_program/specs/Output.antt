@@ -2,6 +2,7 @@
 use Rattle.std.specs.Io.KnownBytes.{append_known}
 use Rattle.std.specs.Prelude.{◌≡◌, ◌<◌, length, take, ℕ, ◌+◌, List, [], ◌∷◌, ◌++◌, flat_map, Option, Some, None, Result, Ok, Err, if◌then◌else◌, ⊤}
 use Rattle.std.specs.Str.{bytes_eq}
+use Rattle.agg_model.specs.declared.script_refusal.TheConstants.{NOT_BUILT}
 use Rattle.agg_model.specs.declared.row.Document.{Document}
 use Rattle.agg_reading.specs.Lines.{Script, ScriptRefusal, Line, Place, lines, past, is_empty_line}
 use Rattle.agg_spec.specs.EndLines.{usage_line, script_line}
@@ -84,7 +85,7 @@ WroteLines before written all left =
 -- sink fails a front of it that is not all, and where the source fails or memory runs out whole lines of it.
 abbrev pub Ends : Option (List ℕ) → Option (List ℕ) → Output → Result ⊤ Stop → Type 0
 Ends before written output (Ok done) = (output.status ≡ 0) × (written ≡ append_known before (text_of output.lines))
-Ends before written output (Err (NotBuilt line)) = (output.status ≡ 5) × WroteLines before written output.lines (script_line 29 line [] ∷ [])
+Ends before written output (Err (NotBuilt line)) = (output.status ≡ 5) × WroteLines before written output.lines (script_line NOT_BUILT line [] ∷ [])
 Ends before written output (Err Write) = (n : ℕ) × (n < length (text_of output.lines)) × (written ≡ append_known before (take n (text_of output.lines)))
 Ends before written output (Err Read) = (left : List (List ℕ)) × WroteLines before written output.lines left
 Ends before written output (Err Memory) = (left : List (List ℕ)) × WroteLines before written output.lines left

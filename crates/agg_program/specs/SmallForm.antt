@@ -3,11 +3,13 @@
 use Rattle.std.specs.Prelude.{ℕ, ◌+◌, ◌-◌, List, [], ◌∷◌, ◌++◌, length, take, drop, Option, Some, None, option_and_then, Ok, Err, Bool, not, ◌&&◌, nat_le, if◌then◌else◌, codes, ⊤}
 use Rattle.std.specs.List.{list_all}
 use Rattle.std.specs.Str.{bytes_eq}
+use Rattle.agg_model.specs.declared.limits.TheConstants.{MAX_NAME}
+use Rattle.agg_model.specs.declared.script_refusal.TheConstants.{NOT_BUILT}
 use Rattle.agg_reading.specs.Lines.{Script, ScriptRefusal, Line, Place, line_fault}
 
 -- refused as not built, at a line counted from 1
 abbrev pub not_built_at : ℕ → ScriptRefusal
-not_built_at line = record { number = 29; line = line; path = [] }
+not_built_at line = record { number = NOT_BUILT; line = line; path = [] }
 
 abbrev pub not_built : {A : Type 0} → ℕ → Script A
 not_built line = Err (not_built_at line)
@@ -41,9 +43,9 @@ body_back = codes "\":{\"terms\":{\"field\":\"t\"}}}}"
 abbrev pub is_lowercase : ℕ → Bool
 is_lowercase b = nat_le 97 b && nat_le b 122
 
--- 1 to 512 lower-case letters, and no name that a bucket has for itself
+-- 1 to MAX_NAME lower-case letters, and no name that a bucket has for itself
 abbrev pub is_name : List ℕ → Bool
-is_name name = nat_le 1 (length name) && nat_le (length name) 512 && list_all is_lowercase name && not (bytes_eq name (codes "key"))
+is_name name = nat_le 1 (length name) && nat_le (length name) MAX_NAME && list_all is_lowercase name && not (bytes_eq name (codes "key"))
 
 -- what stands behind a front
 abbrev pub after_front : List ℕ → List ℕ → Option (List ℕ)

@@ -1,7 +1,6 @@
 //! The third section of a script: a search after each header.
 ghost use Rattle.std.specs.Prelude.{◌≡◌, ◌≢◌, ◌≤◌, ◌<◌, ◌+◌, ◌++◌, ◌∷◌, [], ℕ, List, None, Some, Ok, Err, if◌then◌else◌, length, take, option_map, ◌⊎◌, IfOk, IfErr, IfSome, OnOk, OnErr, IsTrue};
 ghost use Rattle.agg_base.specs.Lines.{source_of, source_name, kept, position};
-ghost use Rattle.agg_base.specs.declared.limits.TheConstants.{MAX_INPUT};
 ghost use Rattle.agg_program.specs.declared.answers.NextHeader.TheVariants.{End};
 ghost use Rattle.agg_base.specs.Outside.{Rose};
 ghost use Rattle.agg_model.specs.declared.row.Document.{Document as AnyDocument};
@@ -10,16 +9,15 @@ ghost use Rattle.std.specs.List.{list_all};
 ghost use Rattle.std.specs.Io.KnownBytes.{IsAtEnd, append_known};
 ghost use Rattle.agg_program.specs.Output.{refused, pairs, body, with_line, Ends};
 ghost use Rattle.document_terms.specs.SmallSearch.{HaveKeywords};
-ghost use Rattle.agg_program.specs.Documents.{max_actions};
-ghost use Rattle.agg_program.specs.declared.search.TheConstants.{MAX_NAME};
 ghost use Rattle.agg_program.specs.Answers.{search_line, loaded_line};
 ghost use Rattle.agg_program.specs.Reading.{place_of, rest_of, Follows, after_header};
 
 use crate::reading::{is_empty_line, next_line, not_built_here, take_line};
-use crate::search::{BODY_BACK, BODY_FRONT, MAX_NAME, loaded_line, search_line};
+use crate::search::{BODY_BACK, BODY_FRONT, loaded_line, search_line};
 use crate::stop::Stop;
 use crate::writing::write_line;
 use agg_base::{Failed, Lines, Sink, Source};
+use agg_model::limits::{MAX_ACTIONS, MAX_INPUT, MAX_NAME};
 use agg_model::{Document, List, Text};
 use std::alloc::{AllocError, Global};
 
@@ -38,7 +36,8 @@ fn are_lowercase(bytes: &[u8]) -> bool
     true
 }
 
-/// Whether an aggregation may have this name: 1 to 512 lower-case letters, and no name that a bucket has for itself.
+/// Whether an aggregation may have this name: 1 to `MAX_NAME` lower-case letters, and no name that a bucket has for
+/// itself.
 fn is_name(name: &[u8]) -> bool
     ensures { result ≡ is_name name.now }
 {
@@ -129,7 +128,7 @@ fn answer<K: Sink>(
     name: &Text,
 ) -> Result<(), Stop>
     requires keywords { HaveKeywords documents.now }
-    requires few { length documents.now ≤ max_actions }
+    requires few { length documents.now ≤ MAX_ACTIONS }
     requires short { length name.now ≤ MAX_NAME }
     ensures all { OnOk result (K.written sink.new ≡ append_known (K.written sink.old) (search_line documents.now name.now ++ 10 ∷ [])) }
     ensures front { result ≡ Err Stop.Write → (n : ℕ) × (n < length (search_line documents.now name.now) + 1) × (K.written sink.new ≡ append_known (K.written sink.old) (take n (search_line documents.now name.now ++ 10 ∷ []))) }
@@ -151,7 +150,7 @@ pub(crate) fn answer_actions<K: Sink>(
     sink: &mut K,
     documents: &List<Document>,
 ) -> Result<(), Stop>
-    requires { length documents.now ≤ max_actions }
+    requires { length documents.now ≤ MAX_ACTIONS }
     ensures all { OnOk result (K.written sink.new ≡ append_known (K.written sink.old) (loaded_line documents.now ++ 10 ∷ [])) }
     ensures front { result ≡ Err Stop.Write → (n : ℕ) × (n < length (loaded_line documents.now) + 1) × (K.written sink.new ≡ append_known (K.written sink.old) (take n (loaded_line documents.now ++ 10 ∷ []))) }
     ensures nothing { result ≡ Err Stop.Memory → K.written sink.new ≡ K.written sink.old }
@@ -175,7 +174,7 @@ pub(crate) fn answer_all<S: Source, K: Sink>(
 ) -> Result<(), Stop>
     requires kept { kept lines.old ≡ None }
     requires keywords { HaveKeywords documents.now }
-    requires few { length documents.now ≤ max_actions }
+    requires few { length documents.now ≤ MAX_ACTIONS }
     ensures output { IfSome (rest_of lines.old) (λ rest. Ends (K.written sink.old) (K.written sink.new) (pairs documents.now (place_of lines.old) rest) result) }
     ensures read_fault { result ≡ Err Stop.Read → Rose (S.faults (source_of lines.old)) (S.faults (source_of lines.new)) }
     ensures write_fault { result ≡ Err Stop.Write → Rose (K.faults sink.old) (K.faults sink.new) }

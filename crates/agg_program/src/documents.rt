@@ -6,12 +6,13 @@ ghost use Rattle.keyword_documents.specs.SmallForm.{keyword_of};
 ghost use Rattle.agg_model.specs.declared.bulk.ActionKind.TheVariants.{Index};
 ghost use Rattle.agg_reading.specs.Lines.{start};
 ghost use Rattle.agg_program.specs.SmallForm.{not_built};
-ghost use Rattle.agg_program.specs.Documents.{loaded, second_line, documents, sources, max_actions, document_id, documents_of, IsNumbered};
+ghost use Rattle.agg_program.specs.Documents.{loaded, second_line, documents, sources, document_id, documents_of, IsNumbered};
 ghost use Rattle.agg_program.specs.Reading.{place_of, rest_of, Follows, Indexes, Loads};
 
 use crate::reading::{is_empty_line, not_built_here, take_line};
 use crate::stop::Stop;
 use agg_base::{Lines, Source};
+use agg_model::limits::MAX_ACTIONS;
 use agg_model::{Action, ActionKind, Bytes, Copying, Text};
 use keyword_documents::{ItemFault, Store};
 use std::alloc::{AllocError, Global};
@@ -22,9 +23,6 @@ const INDEX_LINE: &[u8] =
 
 /// An index action whose id and routing are absent.
 const ACTION_LINE: &[u8] = b"{\"index\":{}}";
-
-/// The greatest number of actions of a script.
-const MAX_ACTIONS: usize = 1_048_576;
 
 /// Reads the index line.
 #[tactic(auto, unfolding(crate::specs::Documents::loaded))]
@@ -73,7 +71,7 @@ fn next_action<S: Source>(
 ) -> Result<bool, Stop>
     requires { kept lines.old ≡ None }
     ensures script { IfSome (rest_of lines.old) (λ rest. (words : List (List ℕ)) → length words ≡ taken → Follows not_built (documents words (place_of lines.old) rest) result (λ is_action ls. if is_action then sources words (place_of lines.new) ls else Ok (record { keywords = words; place = place_of lines.new; rest = ls })) (rest_of lines.new)) }
-    ensures room { IfOk result (λ is_action. IsTrue is_action → taken < max_actions) }
+    ensures room { IfOk result (λ is_action. IsTrue is_action → taken < MAX_ACTIONS) }
     ensures fault { result ≡ Err Stop.Read → Rose (S.faults (source_of lines.old)) (S.faults (source_of lines.new)) }
     ensures reads_only { result ≢ Err Stop.Write }
     ensures never_falls { S.faults (source_of lines.old) ≤ S.faults (source_of lines.new) }
@@ -147,7 +145,7 @@ fn load_documents<S: Source>(alloc: Global, lines: &mut Lines<'_, S>) -> Result<
     ensures never_falls { S.faults (source_of lines.old) ≤ S.faults (source_of lines.new) }
     ensures kept { OnOk result (kept lines.new ≡ None) }
     ensures numbered { IfOk result IsNumbered }
-    ensures few { IfOk result (λ store. length store ≤ max_actions) }
+    ensures few { IfOk result (λ store. length store ≤ MAX_ACTIONS) }
     ensures same_source { source_name lines.new ≡ source_name lines.old }
 {
     let mut store = Store::new(alloc);
@@ -167,7 +165,7 @@ pub(crate) fn load<S: Source>(alloc: Global, lines: &mut Lines<'_, S>) -> Result
     ensures never_falls { S.faults (source_of lines.old) ≤ S.faults (source_of lines.new) }
     ensures kept { OnOk result (kept lines.new ≡ None) }
     ensures numbered { IfOk result IsNumbered }
-    ensures few { IfOk result (λ store. length store ≤ max_actions) }
+    ensures few { IfOk result (λ store. length store ≤ MAX_ACTIONS) }
     ensures same_source { source_name lines.new ≡ source_name lines.old }
 {
     index_line(alloc, lines)?;

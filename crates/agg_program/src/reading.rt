@@ -2,7 +2,6 @@
 ghost use Rattle.std.specs.Prelude.{◌≡◌, ◌≢◌, ◌↔◌, ◌≤◌, ◌<◌, ◌++◌, ◌∷◌, [], ℕ, None, Some, Ok, Err, true, false, if◌then◌else◌, length, IfOk, IfErr, IfSome, IfNone, OnOk, OnErr, OnSome, IsTrue, option_map};
 ghost use Rattle.std.specs.Io.KnownBytes.{IsAtEnd};
 ghost use Rattle.agg_base.specs.Lines.{source_of, source_name, kept, handed, position};
-ghost use Rattle.agg_base.specs.declared.limits.TheConstants.{MAX_INPUT};
 ghost use Rattle.agg_base.specs.Outside.{Rose};
 ghost use Rattle.agg_model.specs.declared.row.Document.{Document as AnyDocument};
 ghost use Rattle.agg_reading.specs.Lines.{is_empty_line};
@@ -12,6 +11,7 @@ ghost use Rattle.agg_program.specs.declared.stop.Stop.TheVariants.{Read, Write, 
 use crate::stop::Stop;
 use agg_base::{LineFault, Lines, Source};
 use agg_model::Bytes;
+use agg_model::limits::MAX_INPUT;
 use std::alloc::Global;
 
 /// Whether a line has no byte, or only a carriage return.

@@ -15,12 +15,13 @@ use crate::stop::Stop;
 use crate::writing::write_line;
 use agg_base::{Failed, Sink, Source};
 use agg_model::Text;
+use agg_model::script_refusal::NOT_BUILT;
 use std::alloc::Global;
 
 /// Writes the refusal of a script as not built at a line.
 fn refuse<K: Sink>(alloc: Global, sink: &mut K, line: u64) -> Status
-    ensures refused { result ≡ status.Refused → K.written sink.new ≡ append_known (K.written sink.old) (script_line 29 line [] ++ 10 ∷ []) }
-    ensures front { result ≡ status.WriteFault → (n : ℕ) × (n < length (script_line 29 line []) + 1) × (K.written sink.new ≡ append_known (K.written sink.old) (take n (script_line 29 line [] ++ 10 ∷ []))) }
+    ensures refused { result ≡ status.Refused → K.written sink.new ≡ append_known (K.written sink.old) (script_line NOT_BUILT line [] ++ 10 ∷ []) }
+    ensures front { result ≡ status.WriteFault → (n : ℕ) × (n < length (script_line NOT_BUILT line []) + 1) × (K.written sink.new ≡ append_known (K.written sink.old) (take n (script_line NOT_BUILT line [] ++ 10 ∷ []))) }
     ensures nothing { result ≡ status.Memory → K.written sink.new ≡ K.written sink.old }
     ensures kinds { result ≡ status.Refused ⊎ (result ≡ status.WriteFault ⊎ result ≡ status.Memory) }
     ensures fault { result ≡ status.WriteFault → Rose (K.faults sink.old) (K.faults sink.new) }

@@ -3,8 +3,9 @@ ghost use Rattle.std.specs.Prelude.{◌≡◌, ◌≤◌, [], length, map, IfOk}
 ghost use Rattle.agg_spec.specs.EndLines as end;
 ghost use Rattle.document_terms.specs.SmallSearch.{HaveKeywords};
 ghost use Rattle.agg_program.specs.Answers.{search_named, search_line, item_of, loaded_line};
-ghost use Rattle.agg_program.specs.Documents.{max_actions};
 
+use agg_model::limits::{MAX_ACTIONS, MAX_NAME};
+use agg_model::script_refusal::NOT_BUILT;
 use agg_model::{ActionKind, Applied, Copying, Document, Item, ItemEnd, List, Search, Text, Usage};
 use agg_response::{bulk_line, response, script_line, usage_line};
 use document_answer::answer_of;
@@ -14,12 +15,6 @@ use std::alloc::{AllocError, Global};
 pub(crate) const BODY_FRONT: &[u8] = b"{\"aggs\":{\"";
 
 pub(crate) const BODY_BACK: &[u8] = b"\":{\"terms\":{\"field\":\"t\"}}}}";
-
-/// The longest name of an aggregation.
-pub(crate) const MAX_NAME: usize = 512;
-
-/// The refusal of what is not built yet.
-const NOT_BUILT: u8 = 29;
 
 /// The search of a body whose aggregation has this name.
 fn search_named(alloc: Global, name: &Text) -> Result<Search, AllocError>
@@ -37,7 +32,7 @@ pub(crate) fn search_line(
     name: &Text,
 ) -> Result<Text, AllocError>
     requires keywords { HaveKeywords documents.now }
-    requires few { length documents.now ≤ max_actions }
+    requires few { length documents.now ≤ MAX_ACTIONS }
     requires short { length name.now ≤ MAX_NAME }
     ensures { IfOk result (λ line. line ≡ search_line documents.now name.now) }
 {
@@ -78,7 +73,7 @@ pub(crate) fn loaded_line(alloc: Global, documents: &List<Document>) -> Result<T
 
 /// The line of a script that is not built yet from a line on.
 pub(crate) fn not_built_line(alloc: Global, line: u64) -> Result<Text, AllocError>
-    ensures { IfOk result (λ text. text ≡ end.script_line 29 line []) }
+    ensures { IfOk result (λ text. text ≡ end.script_line NOT_BUILT line []) }
 {
     script_line(alloc, NOT_BUILT, line, &Text::of(alloc, "")?)
 }

@@ -1,6 +1,6 @@
 use Rattle.std.proofs.Common.{◌≡◌, ◌≤◌, ◌+◌, ◌-◌, None}
 use Rattle.agg_base.specs.Lines.{source_of, source_name, kept, position}
-use Rattle.agg_base.specs.declared.limits.TheConstants.{MAX_INPUT}
+use Rattle.agg_model.specs.declared.limits.TheConstants.{MAX_INPUT}
 use Rattle.agg_program.specs.Reading.{place_of, rest_of}
 use Rattle.agg_program.proofs.AnswerLemmas.{Answered}
 use Rattle.agg_program.proofs.answers.answer_all.Given as goal

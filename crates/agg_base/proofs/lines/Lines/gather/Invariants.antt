@@ -1,6 +1,6 @@
 use Rattle.std.proofs.Common.{◌≡◌, ◌≤◌, ◌-◌, vec_len}
 use Rattle.agg_base.specs.Lines.{unread, bytes_read, KeepsCounts}
-use Rattle.agg_base.specs.declared.limits.TheConstants.{MAX_LINE}
+use Rattle.agg_model.specs.declared.limits.TheConstants.{MAX_LINE}
 use Rattle.agg_base.proofs.lines.Lines.gather.Given as goal
 
 abbrev pub invariant-loop-end : goal.invariant-loop-end

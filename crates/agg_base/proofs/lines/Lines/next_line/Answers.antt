@@ -1,6 +1,6 @@
 use Rattle.std.proofs.Common.{◌≡◌, ◌<◌, ◌+◌, ◌≤◌, ◌==◌, ℕ, zero, suc, false, vec_len, refl, arith}
 use Rattle.agg_base.specs.Lines.{position}
-use Rattle.agg_base.specs.declared.limits.TheConstants.{MAX_INPUT}
+use Rattle.agg_model.specs.declared.limits.TheConstants.{MAX_INPUT}
 use Rattle.agg_base.proofs.HandedLemmas.{whole_answer, whole_lines, last_answer, last_lines}
 use Rattle.agg_base.proofs.lines.Lines.next_line.Goals as goal
 
