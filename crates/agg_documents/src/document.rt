@@ -12,10 +12,9 @@ use std::alloc::Global;
 
 /// The document of a source line with this id and this routing ('Bulk API', 'Mapping' of Elasticsearch Reference 8).
 ///
-/// The first refusal in the walk of the source counts: 20 for what is no JSON object, 21 for a wrong type, 22 for a number
-/// out of range, 23 for a keyword above 32,766 bytes, 24 for more than 10,000 nested objects, 25 for more than 1,024 values
-/// of a field in a row, 27 for a name that a strict mapping lacks. JSON is that of RFC 8259. `Memory` may come in the
-/// place of any of them.
+/// The first refusal in the walk of the source counts: `SOURCE_NOT_OBJECT`, `WRONG_FIELD_TYPE`, `NUMBER_OUT_OF_RANGE`,
+/// `KEYWORD_TOO_LONG`, `TOO_MANY_NESTED_OBJECTS`, `TOO_MANY_FIELD_VALUES` or `STRICT_MAPPING`. JSON is that of RFC
+/// 8259. `Memory` may come in the place of any of them.
 pub fn document_of(
     alloc: Global,
     mapping: &Mapping,

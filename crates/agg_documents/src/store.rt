@@ -1,6 +1,6 @@
 //! The store of the live documents, and the bulk actions that change it.
 
-ghost use Rattle.std.specs.Prelude.{◌≡◌, ◌&&◌, ◌^◌, ◌<◌, ◌≤◌, [], length, map, option_copied, slice_get, IfOk, OnOk, OnErr};
+ghost use Rattle.std.specs.Prelude.{◌≡◌, ◌&&◌, ◌<◌, ◌≤◌, [], length, map, option_copied, slice_get, IfOk, OnOk, OnErr};
 ghost use Rattle.std.specs.List.{IsDistinct};
 ghost use Rattle.std.specs.Option.{option_map};
 ghost use Rattle.std.specs.Str.{bytes_eq};
@@ -14,20 +14,13 @@ use crate::shards::{deal, empty_lists};
 use crate::slot::Slot;
 use crate::weight::weight_of;
 use agg_mapping::OrderedMapping;
+use agg_model::item_refusal::{INDEX_FULL, VERSION_CONFLICT};
+use agg_model::limits::WEIGHT_LIMIT;
 use agg_model::{Action, ActionKind, Applied, Document, ItemRefusal, List, Mapping, Row, Text};
 use document_rows::{ItemFault, root_row_of};
 use indexmap::IndexSet;
 use std::alloc::{AllocError, Global};
 use std::marker::Model;
-
-/// The number of the refusal of a `create` whose id has a live document.
-const VERSION_CONFLICT: u8 = 26;
-
-/// The number of the refusal of a document that would fill the store.
-const INDEX_FULL: u8 = 28;
-
-/// The documents of a store weigh less than this, so that row numbers fit 32 bits.
-const WEIGHT_LIMIT: u64 = 4_294_967_296;
 
 fn refused(alloc: Global, number: u8) -> ItemFault
     ensures { result ≡ Refused (record { number = number; path = [] }) }
@@ -92,7 +85,7 @@ impl Store {
     /// The number of live documents.
     pub fn len(&self) -> usize
         ensures len { result ≡ length (live_documents self.now) }
-        ensures light { store_weight self.now < 2 ^ 32 }
+        ensures light { store_weight self.now < WEIGHT_LIMIT }
         ensures distinct { IsDistinct bytes_eq (map (λ e. e.0) self.now) }
     {
         self.live
@@ -132,7 +125,7 @@ impl Store {
     fn place(&mut self, slot: Slot, live: usize, weight: u64) -> Result<(), AllocError>
         requires live { live ≡ length (live_documents (with_document (id_of slot) (document_in slot) self.old)) }
         requires weight { weight ≡ store_weight (with_document (id_of slot) (document_in slot) self.old) }
-        requires light { weight < 2 ^ 32 }
+        requires light { weight < WEIGHT_LIMIT }
         ensures placed { OnOk result (self.new ≡ with_document (id_of slot) (document_in slot) self.old) }
         ensures as_before { OnErr result (self.new ≡ self.old) }
     {
@@ -201,10 +194,10 @@ impl Store {
     /// Does one bulk action on documents of this mapping. The time is that of reading its source and of going through the
     /// new document and the one that it replaces, whatever the number of documents.
     ///
-    /// A document's own refusals come first, 20 to 25 and 27. Then comes 26, exactly where a `create` names an id with a
-    /// live document, and then 28, exactly where the weights of the live documents would add up to 2^32 or more. A
-    /// document weighs one for each of its rows, one for each of its values, and the bytes of its words. After a refusal,
-    /// and after want of memory, the store is as before.
+    /// A document's own refusals come first. Then comes `VERSION_CONFLICT`, exactly where a `create` names an id with a
+    /// live document, and then `INDEX_FULL`, exactly where the weights of the live documents would add up to
+    /// `WEIGHT_LIMIT` or more. A document weighs one for each of its rows, one for each of its values, and the bytes of
+    /// its words. After a refusal, and after want of memory, the store is as before.
     #[tactic(auto, unfolding(agg_reading::specs::Store::applied))]
     pub fn apply(&mut self, mapping: &Mapping, action: Action) -> Result<Applied, ItemFault>
         requires { IsOrdered mapping.now }

@@ -2,6 +2,8 @@
 -- (Elasticsearch Reference 8, 'Circuit breaker settings' on limits that a request is tried against before it runs).
 use Rattle.std.specs.Prelude.{ℕ, ◌+◌, ◌*◌, ◌^◌, Bool, true, false, nat_lt, if◌then◌else◌, List, [], ◌∷◌, ◌++◌, map, flat_map, length, sum, Option, Some, None, option_map, option_and_then, option_to_list, slice_get}
 use Rattle.std.specs.List.{list_any}
+use Rattle.agg_model.specs.declared.costs.TheConstants.{BUCKET_BYTES, NODE_BYTES}
+use Rattle.agg_model.specs.declared.limits.TheConstants.{MAX_COMBINATIONS}
 use Rattle.agg_model.specs.declared.mapping.FieldKind.{FieldKind}
 use Rattle.agg_model.specs.declared.mapping.FieldKind.TheVariants.{Keyword}
 use Rattle.agg_model.specs.declared.row.Scalar.{Scalar}
@@ -28,7 +30,7 @@ greatest_ceiling = 2 ^ 50
 
 -- the most combinations of keys that one row may have at a composite aggregation
 abbrev pub greatest_combinations : ℕ
-greatest_combinations = 65536
+greatest_combinations = MAX_COMBINATIONS
 
 abbrev pub greatest_of : List ℕ → ℕ
 greatest_of [] = 0
@@ -94,7 +96,7 @@ module _ (kinds : List FieldKind) (all : List PlacedRow) where
   node_bound_at a nodes reached =
       let handed = handed_on a.kind reached in
       let buckets = bucket_bound a.kind (shape_of a.kind) nodes (path_count handed) in
-      nodes * 512 + buckets * (128 + key_bound a.kind) + sum (map (λ child. child buckets handed) a.children)
+      nodes * NODE_BYTES + buckets * (BUCKET_BYTES + key_bound a.kind) + sum (map (λ child. child buckets handed) a.children)
 
   abbrev pub node_bound : Agg → ℕ → List Reached → ℕ
   node_bound = fold_agg node_bound_at

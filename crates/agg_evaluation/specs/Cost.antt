@@ -1,6 +1,7 @@
 -- The cost of a tree in bytes, by which it is charged to a breaker (Elasticsearch Reference 8, 'Circuit breaker settings':
--- the request circuit breaker). A node costs 512, a bucket 128 and the bytes of its key.
+-- the request circuit breaker). A node costs NODE_BYTES, a bucket BUCKET_BYTES and the bytes of its key.
 use Rattle.std.specs.Prelude.{ℕ, ◌+◌, length, sum, sum_by}
+use Rattle.agg_model.specs.declared.costs.TheConstants.{BUCKET_BYTES, NODE_BYTES}
 use Rattle.agg_model.specs.declared.key.Key.{Key}
 use Rattle.agg_model.specs.declared.key.Key.TheOpen.{Key-F}
 use Rattle.agg_model.specs.declared.partial.Node.{Node}
@@ -21,12 +22,12 @@ abbrev pub key_bytes : Key → ℕ
 key_bytes = fold_key key_bytes_at
 
 abbrev pub bucket_cost : Bucket-F ℕ ℕ → ℕ
-bucket_cost b = 128 + key_bytes b.key + sum b.children
+bucket_cost b = BUCKET_BYTES + key_bytes b.key + sum b.children
 
 abbrev pub node_cost_at : Node-F ℕ ℕ → ℕ
-node_cost_at (Node-F.Keyed buckets error full cut) = 512 + sum buckets
-node_cost_at (Node-F.Fixed buckets) = 512 + sum buckets
-node_cost_at (Node-F.Number m) = 512
+node_cost_at (Node-F.Keyed buckets error full cut) = NODE_BYTES + sum buckets
+node_cost_at (Node-F.Fixed buckets) = NODE_BYTES + sum buckets
+node_cost_at (Node-F.Number m) = NODE_BYTES
 
 abbrev pub node_cost : Node → ℕ
 node_cost = fold_node node_cost_at bucket_cost

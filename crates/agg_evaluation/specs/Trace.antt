@@ -4,6 +4,7 @@ use Rattle.std.specs.Prelude.{ℕ, ℤ, pos, ◌-ℤ◌, ◌+◌, ◌-◌, not, 
 use Rattle.std.specs.List.{list_any, range_with_len}
 use Rattle.std.specs.Int.{int_max, is_positive}
 use Rattle.std.specs.Ordering.{int_eq}
+use Rattle.agg_model.specs.declared.costs.TheConstants.{TASK_BYTES}
 use Rattle.agg_model.specs.declared.partial.Partial.{Partial}
 use Rattle.agg_model.specs.declared.aggregation.Agg.{out-Agg}
 use Rattle.agg_model.specs.declared.aggregation.Kind.{Kind}
@@ -43,7 +44,7 @@ differences before (c ∷ cs) end = (pos c -ℤ pos before) ∷ differences c cs
 
 -- what a task holds besides its tree
 abbrev pub task_overhead : ℕ
-task_overhead = 4096
+task_overhead = TASK_BYTES
 
 -- What a task holds goes from nothing over the overhead with each tree to the answer alone. Amounts of 0 are left out.
 abbrev pub trace : Search → List PlacedRow → List ℤ

@@ -7,11 +7,12 @@ ghost use Rattle.agg_reading.specs.Json.{is_among};
 ghost use Rattle.agg_mapping.specs.Paths.{IsOrdered};
 
 use crate::paths::{first, is_beneath};
+use agg_model::limits::MAX_PATHS;
 use agg_model::{Field, Mapping, NestedPath};
 use std::marker::Model;
 
-/// A mapping that was read, lent: its paths ascend, so that each is found by binary search, and there are at most 1,000
-/// fields and nested paths. Contracts see the mapping.
+/// A mapping that was read, lent: its paths ascend, so that each is found by binary search, and there are at most
+/// `MAX_PATHS` fields and nested paths. Contracts see the mapping.
 #[derive(Drop)]
 pub struct OrderedMapping<'m> {
     mapping: &'m Mapping,
@@ -49,11 +50,11 @@ impl<'m> OrderedMapping<'m> {
         Some((place as u32, found))
     }
 
-    /// The nested path with this path and its place, which is below 1,000; none where there is none.
+    /// The nested path with this path and its place, which is below `MAX_PATHS`; none where there is none.
     pub fn find_nested(&self, path: &[u8]) -> Option<(u32, &'m NestedPath)>
         ensures value { option_map (λ p. (p.0, p.1.now)) result ≡ nested_from 0 self.now.nested path.now }
         ensures within { IfSome result (λ p. p.0 < length self.now.nested) }
-        ensures few { IfSome result (λ p. p.0 < 1000) }
+        ensures few { IfSome result (λ p. p.0 < MAX_PATHS) }
     {
         let (place, found) = first(self.mapping.nested.as_slice(), path)?;
         Some((place as u32, found))

@@ -35,7 +35,7 @@ pub enum Applied {
 /// Why an item was refused.
 #[derive(Drop, PartialEq, Eq)]
 pub struct ItemRefusal {
-    /// 20 to 28, and 29 for a form that is not built yet.
+    /// One of `item_refusal`, or `script_refusal::NOT_BUILT`.
     pub number: u8,
     /// The path of the member, its names joined by dots.
     pub path: Text,

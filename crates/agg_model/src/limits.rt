@@ -47,8 +47,7 @@ pub const MAX_NESTED_OBJECTS: u32 = 10_000;
 /// 32 bits; a limit of this engine.
 pub const WEIGHT_LIMIT: u64 = 4_294_967_296;
 
-/// Queries of a search, those in its aggregations too ('Search settings', `indices.query.bool.max_clause_count`, whose
-/// default was the same).
+/// Queries of a search, those in its aggregations too ('Search settings', `indices.query.bool.max_clause_count`).
 pub const MAX_QUERIES: u32 = 1_024;
 
 /// Levels of queries within queries; a limit of this engine.
@@ -89,4 +88,4 @@ pub const MAX_PAGE: u32 = 65_536;
 pub const MAX_COMBINATIONS: u64 = 65_536;
 
 /// Buckets of an answer where no other limit is set ('Search settings', `search.max_buckets`).
-pub const DEFAULT_MAX_BUCKETS: u64 = 65_535;
+pub const DEFAULT_MAX_BUCKETS: u64 = 65_536;

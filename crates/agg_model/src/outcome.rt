@@ -11,7 +11,7 @@ pub enum Refused {
     NotJson,
     /// The body breaks a rule of requests.
     Bad {
-        /// 100 to 113.
+        /// One of `body_refusal`.
         code: u16,
         /// The JSON pointer of the first thing refused (RFC 6901).
         path: Text,

@@ -1,5 +1,5 @@
 -- What bulk actions leave (Elasticsearch Reference 8, 'Bulk API', 'Index API').
-use Rattle.std.specs.Prelude.{ℕ, ◌+◌, ◌^◌, List, [], ◌∷◌, map, filter, sum_by, flat_map, nat_lt, Option, Some, None, Ok, Bool, true, false, ◌&&◌, ◌==◌, is_some, option_to_list, if◌then◌else◌}
+use Rattle.std.specs.Prelude.{ℕ, ◌+◌, List, [], ◌∷◌, map, filter, sum_by, flat_map, nat_lt, Option, Some, None, Ok, Bool, true, false, ◌&&◌, ◌==◌, is_some, option_to_list, if◌then◌else◌}
 use Rattle.std.specs.List.{range_with_len}
 use Rattle.std.specs.Str.{bytes_eq}
 use Rattle.agg_model.specs.declared.limits.TheConstants.{WEIGHT_LIMIT}

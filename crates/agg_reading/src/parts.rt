@@ -32,7 +32,7 @@ pub struct Found {
 pub struct IndexLine {
     pub name: Text,
     pub mapping: Mapping,
-    /// 1 to 1,024.
+    /// 1 to `MAX_SHARDS`.
     pub shards: u32,
 }
 

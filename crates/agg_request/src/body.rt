@@ -9,6 +9,8 @@ ghost use Rattle.agg_mapping.specs.Paths.{IsOrdered};
 
 use crate::parts::has_both;
 use crate::tree::aggregations_in;
+use agg_model::body_refusal::{BODY_NOT_OBJECT, NOT_ONE_MEMBER, UNKNOWN_MEMBER};
+use agg_model::limits::MAX_QUERIES;
 use agg_model::{Mapping, Query, Search};
 use agg_query::counted_query_at;
 use agg_reading::RequestFault;
@@ -24,7 +26,7 @@ fn query_or_all(
     members: &Map<String, Value>,
 ) -> Result<Query, RequestFault>
     requires ordered { IsOrdered mapping.now }
-    requires count { before ≤ 1024 }
+    requires count { before ≤ MAX_QUERIES }
     ensures { Gives (λ q. q) result (query_or_all mapping.now before (get_member (codes "query") (members_view members.now.entries))) }
 {
     match member(members, "query") {
@@ -70,13 +72,13 @@ fn search_value(
     ensures { Gives (λ s. s) result (search_value_at mapping.now body_bytes (view value.now)) }
 {
     let at = At::Start("");
-    let members = object(alloc, 100, &at, value)?;
+    let members = object(alloc, BODY_NOT_OBJECT, &at, value)?;
     if has_both(members) {
-        return at.refuse(alloc, 107);
+        return at.refuse(alloc, NOT_ONE_MEMBER);
     }
     check_names(
         alloc,
-        101,
+        UNKNOWN_MEMBER,
         &at,
         members,
         &[
@@ -102,8 +104,8 @@ fn search_value(
 }
 
 /// The search that the bytes of a body are: `aggs` or `aggregations`, and `query`. Bytes that `serde_json` does not read
-/// are `NotJson`. Else the first thing in the walk that breaks a rule is refused with its number, 100 to 113, and its
-/// pointer.
+/// are `NotJson`. Else the first thing in the walk that breaks a rule is refused with its number in
+/// `agg_model::body_refusal` and its pointer.
 #[tactic(auto, unfolding(agg_reading::specs::Request::search_of))]
 pub fn search_of(alloc: Global, body: &[u8], mapping: &Mapping) -> Result<Search, RequestFault>
     requires { IsOrdered mapping.now }

@@ -19,8 +19,8 @@ fn has_path_sign(name: &[u8]) -> bool
     false
 }
 
-/// Whether an aggregation may have this name: 1 to 512 bytes without `[`, `]` and `>`, and not a word that stands beside
-/// children in an answer.
+/// Whether an aggregation may have this name: 1 to `MAX_NAME` bytes without `[`, `]` and `>`, and not a word that
+/// stands beside children in an answer.
 #[tactic(auto, unfolding(agg_reading::specs::Aggregations::is_aggregation_name))]
 pub fn is_aggregation_name(name: &str) -> bool
     ensures { result ≡ is_aggregation_name name.now }

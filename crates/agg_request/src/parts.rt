@@ -8,6 +8,8 @@ ghost use Rattle.agg_reading.specs.Json.{sole_besides};
 ghost use Rattle.agg_reading.specs.Aggregations.{is_metric, is_top_kind, has_both, kind_member, children_name};
 ghost use Rattle.agg_reading.specs.Request.{is_childless, placed, assembled};
 
+use agg_model::body_refusal::{MISPLACED_AGGREGATION, NOT_ONE_MEMBER};
+use agg_model::limits::MAX_AGGREGATIONS;
 use agg_model::{Agg, List, Text};
 use agg_reading::{Counts, KindName, ReadKind, RequestFault};
 use json_walk::{At, member, sole_besides};
@@ -33,23 +35,24 @@ pub fn children_name(members: &Map<String, Value>) -> &'static str
     }
 }
 
-/// The only member beside the children; the object is refused with 107 where there is no such member or more than one.
+/// The only member beside the children; the object is refused with `NOT_ONE_MEMBER` where there is no such member or
+/// more than one.
 fn sole_kind<'v>(
     alloc: Global,
     at: &At<'_>,
     members: &'v Map<String, Value>,
 ) -> Result<(&'v str, &'v Value), RequestFault>
     ensures { Gives (λ x. (x.0.now, view x.1.now)) result
-        (or_refuse 107 (pointer at.now) (sole_besides (codes "aggregations" ∷ codes "aggs" ∷ []) None (members_view members.now.entries))) }
+        (or_refuse NOT_ONE_MEMBER (pointer at.now) (sole_besides (codes "aggregations" ∷ codes "aggs" ∷ []) None (members_view members.now.entries))) }
 {
     let Some((name, said)) = sole_besides(members, &["aggregations", "aggs"]) else {
-        return at.refuse(alloc, 107);
+        return at.refuse(alloc, NOT_ONE_MEMBER);
     };
     Ok((name, said))
 }
 
-/// The name of the one kind of an aggregation, and what is said of it. The object is refused with 107 where it has no
-/// kind or more than one, or both names of its children.
+/// The name of the one kind of an aggregation, and what is said of it. The object is refused with `NOT_ONE_MEMBER`
+/// where it has no kind or more than one, or both names of its children.
 #[tactic(auto, unfolding(agg_reading::specs::Aggregations::kind_member))]
 pub fn kind_member<'v>(
     alloc: Global,
@@ -59,7 +62,7 @@ pub fn kind_member<'v>(
     ensures { Gives (λ x. (x.0.now, view x.1.now)) result (kind_member (pointer at.now) (members_view members.now.entries)) }
 {
     if has_both(members) {
-        return at.refuse(alloc, 107);
+        return at.refuse(alloc, NOT_ONE_MEMBER);
     }
     sole_kind(alloc, at, members)
 }
@@ -88,7 +91,8 @@ fn is_childless(children: &[Agg]) -> bool
     children.is_empty()
 }
 
-/// Refuses, with 110, children of a metric at the member that holds them, and at `at` a kind that is for the top alone.
+/// Refuses, with `MISPLACED_AGGREGATION`, children of a metric at the member that holds them, and at `at` a kind that
+/// is for the top alone.
 #[tactic(auto, unfolding(agg_reading::specs::Request::placed))]
 fn check_place(
     alloc: Global,
@@ -101,10 +105,10 @@ fn check_place(
     ensures { Gives (λ u. u) result (placed top kind (pointer at.now) (members_view members.now.entries) children.now) }
 {
     if is_metric(kind) && !is_childless(children) {
-        return At::Member(at, children_name(members)).refuse(alloc, 110);
+        return At::Member(at, children_name(members)).refuse(alloc, MISPLACED_AGGREGATION);
     }
     if is_top_kind(kind) && !top {
-        return at.refuse(alloc, 110);
+        return at.refuse(alloc, MISPLACED_AGGREGATION);
     }
     Ok(())
 }
@@ -122,7 +126,7 @@ pub fn assembled(
     children: List<Agg>,
     counts: Counts,
 ) -> Result<(Agg, Counts), RequestFault>
-    requires { length children ≤ 256 }
+    requires { length children ≤ MAX_AGGREGATIONS }
     ensures value { Gives (λ x. x) result
         (assembled top kind name.now (pointer at.now) (members_view members.now.entries) found (children, counts)) }
     ensures counts { IfOk result (λ x. x.1 ≡ counts) }

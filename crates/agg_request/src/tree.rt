@@ -9,18 +9,14 @@ ghost use Rattle.agg_mapping.specs.Paths.{IsOrdered};
 
 use crate::names::is_aggregation_name;
 use crate::parts::{assembled, children_name, kind_member};
+use agg_model::body_refusal::{INVALID_NAME, LIMIT_EXCEEDED, UNKNOWN_KIND, WRONG_TYPE};
+use agg_model::limits::{MAX_AGGREGATION_LEVELS, MAX_AGGREGATIONS, MAX_QUERIES};
 use agg_model::{Agg, List, Mapping};
 use agg_reading::{Counts, RequestFault};
 use json_walk::{At, member, object};
 use request_kinds::{kind_at, kind_name};
 use serde_json::{Map, Value};
 use std::alloc::Global;
-
-/// At most so many aggregations in a search.
-const MAX_AGGREGATIONS: u32 = 256;
-
-/// So many levels of aggregations may nest.
-const MAX_LEVELS: u32 = 16;
 
 /// What the walk of aggregations always has in hand.
 #[derive(Drop)]
@@ -43,12 +39,12 @@ impl Reader<'_> {
         members: &Map<String, Value>,
     ) -> Result<(List<Agg>, Counts), RequestFault>
         requires ordered { IsOrdered self.now.mapping.now }
-        requires queries { before.queries ≤ 1024 }
-        requires aggregations { before.aggregations ≤ 256 }
+        requires queries { before.queries ≤ MAX_QUERIES }
+        requires aggregations { before.aggregations ≤ MAX_AGGREGATIONS }
         ensures value { Gives (λ x. x) result
             (aggregations_from (aggregation_at left self.now.mapping.now top) context (pointer at.now) [] before (members_view members.now.entries)) }
-        ensures queries { IfOk result (λ x. x.1.queries ≤ 1024) }
-        ensures aggregations { IfOk result (λ x. x.1.aggregations ≤ 256) }
+        ensures queries { IfOk result (λ x. x.1.queries ≤ MAX_QUERIES) }
+        ensures aggregations { IfOk result (λ x. x.1.aggregations ≤ MAX_AGGREGATIONS) }
         ensures added { IfOk result (λ x. before.aggregations + length x.0 ≤ x.1.aggregations) }
     {
         let mut done = List::new(self.alloc);
@@ -56,7 +52,7 @@ impl Reader<'_> {
         for (name, value) in members {
             let at = At::Member(&*at, name.as_str());
             if !is_aggregation_name(name.as_str()) {
-                return at.refuse(self.alloc, 112);
+                return at.refuse(self.alloc, INVALID_NAME);
             }
             let (agg, after) = self.aggregation(
                 left,
@@ -86,15 +82,15 @@ impl Reader<'_> {
         value: &Value,
     ) -> Result<(List<Agg>, Counts), RequestFault>
         requires ordered { IsOrdered self.now.mapping.now }
-        requires queries { before.queries ≤ 1024 }
-        requires aggregations { before.aggregations ≤ 256 }
+        requires queries { before.queries ≤ MAX_QUERIES }
+        requires aggregations { before.aggregations ≤ MAX_AGGREGATIONS }
         ensures value { Gives (λ x. x) result
             (aggregations_at (aggregation_at left self.now.mapping.now top) context (pointer at.now) before (view value.now)) }
-        ensures queries { IfOk result (λ x. x.1.queries ≤ 1024) }
-        ensures aggregations { IfOk result (λ x. x.1.aggregations ≤ 256) }
+        ensures queries { IfOk result (λ x. x.1.queries ≤ MAX_QUERIES) }
+        ensures aggregations { IfOk result (λ x. x.1.aggregations ≤ MAX_AGGREGATIONS) }
         ensures added { IfOk result (λ x. before.aggregations + length x.0 ≤ x.1.aggregations) }
     {
-        let members = object(self.alloc, 103, &*at, value)?;
+        let members = object(self.alloc, WRONG_TYPE, &*at, value)?;
         self.all(left, top, context, &*at, before, members)
     }
 
@@ -111,12 +107,12 @@ impl Reader<'_> {
         members: &Map<String, Value>,
     ) -> Result<(List<Agg>, Counts), RequestFault>
         requires ordered { IsOrdered self.now.mapping.now }
-        requires queries { before.queries ≤ 1024 }
-        requires aggregations { before.aggregations ≤ 256 }
+        requires queries { before.queries ≤ MAX_QUERIES }
+        requires aggregations { before.aggregations ≤ MAX_AGGREGATIONS }
         ensures value { Gives (λ x. x) result
             (children_in (aggregation_at left self.now.mapping.now top) context (pointer at.now) before (members_view members.now.entries)) }
-        ensures queries { IfOk result (λ x. x.1.queries ≤ 1024) }
-        ensures aggregations { IfOk result (λ x. x.1.aggregations ≤ 256) }
+        ensures queries { IfOk result (λ x. x.1.queries ≤ MAX_QUERIES) }
+        ensures aggregations { IfOk result (λ x. x.1.aggregations ≤ MAX_AGGREGATIONS) }
         ensures added { IfOk result (λ x. before.aggregations + length x.0 ≤ x.1.aggregations) }
     {
         let name = children_name(members);
@@ -143,19 +139,19 @@ impl Reader<'_> {
         value: &Value,
     ) -> Result<(Agg, Counts), RequestFault>
         requires ordered { IsOrdered self.now.mapping.now }
-        requires queries { before.queries ≤ 1024 }
-        requires aggregations { before.aggregations < 256 }
+        requires queries { before.queries ≤ MAX_QUERIES }
+        requires aggregations { before.aggregations < MAX_AGGREGATIONS }
         ensures value { Gives (λ x. x) result
             (aggregation_of (aggregation_at left self.now.mapping.now false) self.now.mapping.now top context name.now (pointer at.now) before (view value.now)) }
-        ensures queries { IfOk result (λ x. x.1.queries ≤ 1024) }
-        ensures aggregations { IfOk result (λ x. x.1.aggregations ≤ 256) }
+        ensures queries { IfOk result (λ x. x.1.queries ≤ MAX_QUERIES) }
+        ensures aggregations { IfOk result (λ x. x.1.aggregations ≤ MAX_AGGREGATIONS) }
         ensures added { IfOk result (λ x. before.aggregations < x.1.aggregations) }
     {
-        let members = object(self.alloc, 103, &*at, value)?;
+        let members = object(self.alloc, WRONG_TYPE, &*at, value)?;
         let (said, inner) = kind_member(self.alloc, &*at, members)?;
         let place = At::Member(&*at, said);
         let Some(kind) = kind_name(said) else {
-            return place.refuse(self.alloc, 106);
+            return place.refuse(self.alloc, UNKNOWN_KIND);
         };
         let found = kind_at(
             self.alloc,
@@ -183,7 +179,7 @@ impl Reader<'_> {
         )
     }
 
-    /// An aggregation, where so many levels may still nest. One too deep or too many is refused with 111.
+    /// An aggregation, where so many levels may still nest. One too deep or too many is refused with `LIMIT_EXCEEDED`.
     #[cycle(tree)]
     fn aggregation(
         &self,
@@ -196,22 +192,23 @@ impl Reader<'_> {
         value: &Value,
     ) -> Result<(Agg, Counts), RequestFault>
         requires ordered { IsOrdered self.now.mapping.now }
-        requires queries { before.queries ≤ 1024 }
-        requires aggregations { before.aggregations ≤ 256 }
+        requires queries { before.queries ≤ MAX_QUERIES }
+        requires aggregations { before.aggregations ≤ MAX_AGGREGATIONS }
         ensures value { Gives (λ x. x) result
             (aggregation_at left self.now.mapping.now top context name.now (pointer at.now) before (view value.now)) }
-        ensures queries { IfOk result (λ x. x.1.queries ≤ 1024) }
-        ensures aggregations { IfOk result (λ x. x.1.aggregations ≤ 256) }
+        ensures queries { IfOk result (λ x. x.1.queries ≤ MAX_QUERIES) }
+        ensures aggregations { IfOk result (λ x. x.1.aggregations ≤ MAX_AGGREGATIONS) }
         ensures added { IfOk result (λ x. before.aggregations < x.1.aggregations) }
     {
         if left == 0 || MAX_AGGREGATIONS <= before.aggregations {
-            return at.refuse(self.alloc, 111);
+            return at.refuse(self.alloc, LIMIT_EXCEEDED);
         }
         self.aggregation_of(left - 1, top, context, name, &*at, before, value)
     }
 }
 
-/// The aggregations of a search, at most 256, nested at most 16 deep, and how many queries and aggregations were begun.
+/// The aggregations of a search, at most `MAX_AGGREGATIONS`, nested at most `MAX_AGGREGATION_LEVELS` deep, and how many
+/// queries and aggregations were begun.
 pub fn aggregations_in(
     alloc: Global,
     mapping: &Mapping,
@@ -220,13 +217,13 @@ pub fn aggregations_in(
 ) -> Result<(List<Agg>, Counts), RequestFault>
     requires { IsOrdered mapping.now }
     ensures value { Gives (λ x. x) result
-        (children_in (aggregation_at 16 mapping.now true) 0 (pointer at.now) no_counts (members_view members.now.entries)) }
-    ensures queries { IfOk result (λ x. x.1.queries ≤ 1024) }
+        (children_in (aggregation_at MAX_AGGREGATION_LEVELS mapping.now true) 0 (pointer at.now) no_counts (members_view members.now.entries)) }
+    ensures queries { IfOk result (λ x. x.1.queries ≤ MAX_QUERIES) }
 {
     let reader = Reader { alloc, mapping };
     let none = Counts {
         queries: 0,
         aggregations: 0,
     };
-    reader.children_in(MAX_LEVELS, true, 0, at, none, members)
+    reader.children_in(MAX_AGGREGATION_LEVELS, true, 0, at, none, members)
 }

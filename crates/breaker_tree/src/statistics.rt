@@ -4,6 +4,7 @@ ghost use Rattle.breaker_words.specs.Passes.{IsOf};
 ghost use Rattle.breaker_tree.specs.Statistics.{stats_of, totals_of};
 ghost use Rattle.agg_model.specs.Breakers.{overhead_of};
 
+use agg_model::costs::{FIELDDATA_OVERHEAD, INFLIGHT_OVERHEAD, PARENT_OVERHEAD, REQUEST_OVERHEAD};
 use agg_model::{BreakerStats, Totals, Which};
 use breaker_words::{Pass, Trial, Words, look};
 
@@ -12,9 +13,10 @@ fn overhead(which: Which) -> u32
     ensures { result ≡ overhead_of which }
 {
     match which {
-        Which::Request | Which::Parent => 100,
-        Which::Fielddata => 103,
-        Which::Inflight => 200,
+        Which::Request => REQUEST_OVERHEAD,
+        Which::Fielddata => FIELDDATA_OVERHEAD,
+        Which::Inflight => INFLIGHT_OVERHEAD,
+        Which::Parent => PARENT_OVERHEAD,
     }
 }
 

@@ -1,6 +1,7 @@
 -- Documents such as a mapping gives, and what a shard that is built from them shows.
-use Rattle.std.specs.Prelude.{◌≡◌, ℕ, ◌^◌, ◌<◌, ◌≤◌, List, [], ◌∷◌, map, length, slice_get, Some, IsTrue}
+use Rattle.std.specs.Prelude.{◌≡◌, ℕ, ◌<◌, ◌≤◌, List, [], ◌∷◌, map, length, slice_get, Some, IsTrue}
 use Rattle.std.specs.List.Sorted.{IsStrictlyIncreasing}
+use Rattle.agg_model.specs.declared.limits.TheConstants.{MAX_PATHS, WEIGHT_LIMIT}
 use Rattle.agg_model.specs.declared.mapping.FieldKind.{FieldKind}
 use Rattle.agg_model.specs.declared.mapping.Mapping.{Mapping}
 use Rattle.agg_model.specs.declared.row.Document.{Document}
@@ -25,17 +26,17 @@ FieldsRise rows = (n : ℕ) → IsStrictlyIncreasing (map (λ v. v.field) (row_o
 abbrev pub KindsHold : List FieldKind → List PlacedRow → Type 0
 KindsHold kinds rows = (field : ℕ) (kind : FieldKind) → slice_get kinds field ≡ Some kind → AreOfKind kind field rows
 
--- The reader of documents gives such, with a mapping of an index line and a store that it accepts: at most 1,000 fields and
--- nested paths, and a weight below 2 ^ 32.
+-- The reader of documents gives such, with a mapping of an index line and a store that it accepts: at most MAX_PATHS fields
+-- and nested paths, and a weight below WEIGHT_LIMIT.
 pub record IsGiven (mapping : Mapping) (documents : List Document) : Type 0 where
   pub fields : RowsBelow (length mapping.fields) (rows_of_documents documents)
   pub rising : FieldsRise (rows_of_documents documents)
   pub kinds : KindsHold (map (λ f. f.kind) mapping.fields) (rows_of_documents documents)
   pub contexts : (n : ℕ) → (row_of (rows_of_documents documents) n).context ≤ length mapping.nested
   pub paths : IsTrue (documents_rise documents)
-  pub few_fields : length mapping.fields ≤ 1000
-  pub few_paths : length mapping.nested ≤ 1000
-  pub light : rows_weight (rows_of_documents documents) < 2 ^ 32
+  pub few_fields : length mapping.fields ≤ MAX_PATHS
+  pub few_paths : length mapping.nested ≤ MAX_PATHS
+  pub light : rows_weight (rows_of_documents documents) < WEIGHT_LIMIT
 
 abbrev pub columns_from : Mapping → List Document → Columns
 columns_from mapping documents = record {

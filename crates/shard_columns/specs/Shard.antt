@@ -1,6 +1,7 @@
 -- What the fields of a shard stand for, and what is always so of them.
-use Rattle.std.specs.Prelude.{◌≡◌, ℕ, ◌+◌, ◌^◌, ◌<◌, ◌≤◌, ◌%◌, List, [], length, map, sum, slice_index_or}
+use Rattle.std.specs.Prelude.{◌≡◌, ℕ, ◌+◌, ◌<◌, ◌≤◌, ◌%◌, List, [], length, map, sum, slice_index_or}
 use Rattle.std.specs.List.{zip}
+use Rattle.agg_model.specs.declared.limits.TheConstants.{MAX_PATHS, WEIGHT_LIMIT}
 use Rattle.agg_evaluation.specs.Rows.{PlacedRow, row_of}
 use Rattle.shard_columns.specs.declared.shard.Shard.TheInside.{Inside}
 use Rattle.shard_columns.specs.Columns.{Columns}
@@ -22,14 +23,14 @@ pub record IsSound (s : Inside) : Type 0 where
   pub aligned : length (row_values s.words.items s.values) ≡ length s.rows.items
   pub within : IsWithin s.values
   pub numbered : AreNumbered (length s.parents.items + 1) s.rows.items s.numbers.items
-  pub few_paths : length s.parents.items ≤ 1000
+  pub few_paths : length s.parents.items ≤ MAX_PATHS
   pub contexts : (n : ℕ) → (row_of (placed_rows s) n).context ≤ length s.parents.items
   pub enclosed : AreEnclosed (placed_rows s) s.ends.items
   pub odd : (n : ℕ) → n < length (placed_rows s) → length (row_of (placed_rows s) n).place % 2 ≡ 1
   pub dictionaries : (field : ℕ) → slice_index_or s.words.items field [] ≡ words_of field (placed_rows s)
   pub sizes : length s.words.items ≡ length s.kinds.items
-  pub few_fields : length s.kinds.items ≤ 1000
+  pub few_fields : length s.kinds.items ≤ MAX_PATHS
   pub rising : FieldsRise (placed_rows s)
   pub kinds : KindsHold s.kinds.items (placed_rows s)
   pub counted : length s.values.stored.items ≡ sum (map value_count (placed_rows s))
-  pub light : rows_weight (placed_rows s) < 2 ^ 32
+  pub light : rows_weight (placed_rows s) < WEIGHT_LIMIT

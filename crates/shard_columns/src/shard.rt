@@ -140,7 +140,8 @@ impl Shard {
     ghost use Rattle.shard_columns.specs.Given.{IsGiven, columns_from};
 
     /// The documents of a shard under their mapping, in time n log n and memory in proportion to rows and values. It takes up
-    /// to 1,000 fields and nested paths, and documents whose rows, values and bytes of words are fewer than 2 ^ 32 together.
+    /// to `MAX_PATHS` fields and nested paths, and documents whose rows, values and bytes of words are fewer than
+    /// `WEIGHT_LIMIT` together.
     pub fn build(
         alloc: Global,
         documents: &List<Document>,

@@ -1,10 +1,11 @@
 // The words of each field of a shard: distinct, and in ascending order.
-ghost use Rattle.std.specs.Prelude.{◌≡◌, ◌++◌, ◌∷◌, ◌<◌, ◌≤◌, ◌*◌, ◌^◌, ℕ, [], OnOk, IfOk, length, map, sum_by, slice_index_or};
+ghost use Rattle.std.specs.Prelude.{◌≡◌, ◌++◌, ◌∷◌, ◌<◌, ◌≤◌, ◌*◌, ℕ, [], OnOk, IfOk, length, map, sum_by, slice_index_or};
 ghost use Rattle.agg_evaluation.specs.Ceiling.{greatest_of};
 ghost use Rattle.shard_columns.specs.Values.{IsAscending, AllAmong, words_in, word_in, FieldsBelow};
 ghost use Rattle.shard_columns.specs.Words.{lent, lent_by_field, Notes, AllFieldsBelow, NotesRows, SameWords, AllSame, AreEmpty, AreDictionaries};
 
 use crate::layout::Laid;
+use agg_model::limits::{MAX_PATHS, WEIGHT_LIMIT};
 use agg_model::{Copying, FieldValues, List, Scalar, Text};
 use std::alloc::{AllocError, Global};
 
@@ -124,7 +125,7 @@ pub fn longest_of(words: &[Text]) -> usize
 }
 
 fn bytes_of(words: &[Text]) -> u64
-    requires { sum_by length words.now < 2 ^ 32 }
+    requires { sum_by length words.now < WEIGHT_LIMIT }
     ensures { result ≡ sum_by length words.now }
 {
     let mut bytes = 0;
@@ -136,10 +137,10 @@ fn bytes_of(words: &[Text]) -> u64
 
 /// The bytes of the words of all fields.
 pub fn all_bytes(words: &[List<Text>]) -> u64
-    requires few { length words.now ≤ 1000 }
-    requires light { (f : ℕ) → sum_by length (slice_index_or words.now f []) < 2 ^ 32 }
+    requires few { length words.now ≤ MAX_PATHS }
+    requires light { (f : ℕ) → sum_by length (slice_index_or words.now f []) < WEIGHT_LIMIT }
     ensures sum { result ≡ sum_by (λ ws. sum_by length ws) words.now }
-    ensures bound { result ≤ 1000 * 2 ^ 32 }
+    ensures bound { result ≤ MAX_PATHS * WEIGHT_LIMIT }
 {
     let mut bytes = 0;
     for list in words {
