@@ -89,3 +89,30 @@ pub const MAX_COMBINATIONS: u64 = 65_536;
 
 /// Buckets of an answer where no other limit is set ('Search settings', `search.max_buckets`).
 pub const DEFAULT_MAX_BUCKETS: u64 = 65_536;
+
+/// What `search.max_buckets` may name; a limit of this engine.
+pub const GREATEST_MAX_BUCKETS: u64 = 1_000_000;
+
+/// Workers of a run, and searches that are answered at a time; a limit of this engine.
+pub const MAX_AT_ONCE: u32 = 64;
+
+/// The least number of results that are merged as one batch ('Search API', `batched_reduce_size`).
+pub const MIN_BATCH: u32 = 2;
+
+/// The greatest number of results that are merged as one batch; a limit of this engine.
+pub const MAX_BATCH: u32 = 1_024;
+
+/// Results that are merged as one batch where no other number is set ('Search API', `batched_reduce_size`).
+pub const DEFAULT_BATCH: u32 = 512;
+
+/// Bytes that a size may name, 1pb; a limit of this engine.
+pub const MAX_BYTE_SIZE: u64 = 1_125_899_906_842_624;
+
+/// Bytes of the heap where no other size is set, 1gb.
+pub const DEFAULT_HEAP_SIZE: u64 = 1_073_741_824;
+
+/// Documents that `--generate` may name; a limit of this engine.
+pub const MAX_GENERATED_DOCUMENTS: u64 = 100_000;
+
+/// Shards that `--generate` may name; a limit of this engine.
+pub const MAX_GENERATED_SHARDS: u64 = 64;

@@ -2,6 +2,7 @@
 use Rattle.std.specs.Prelude.{ℕ, ◌==◌, ◌^◌, List, Option, Some, None, Bool, false, if◌then◌else◌, codes, is_some, unwrap_or, option_and_then, fold}
 use Rattle.std.specs.List.{before_first, after_first}
 use Rattle.std.specs.Str.{bytes_eq}
+use Rattle.agg_model.specs.declared.limits.TheConstants.{DEFAULT_HEAP_SIZE, DEFAULT_MAX_BUCKETS, GREATEST_MAX_BUCKETS}
 use Rattle.agg_model.specs.declared.breaker.Limits.{Limits}
 use Rattle.agg_settings.specs.Numbers.{number_in}
 use Rattle.agg_settings.specs.Sizes.{size_from}
@@ -21,7 +22,7 @@ heap_of value = size_from 1 value
 
 -- from 1 to 1,000,000
 abbrev pub buckets_of : List ℕ → Option ℕ
-buckets_of value = number_in 1 1000000 value
+buckets_of value = number_in 1 GREATEST_MAX_BUCKETS value
 
 -- the key is one of these, and the value one that it takes
 unfoldable pub is_taken : List ℕ → List ℕ → Bool
@@ -46,11 +47,11 @@ last_value key entries = fold (newer key) None entries
 
 -- the last `heap_size`, or 1gb
 unfoldable pub heap_in : List (List ℕ) → ℕ
-heap_in entries = unwrap_or (option_and_then heap_of (last_value (codes "heap_size") entries)) (2 ^ 30)
+heap_in entries = unwrap_or (option_and_then heap_of (last_value (codes "heap_size") entries)) DEFAULT_HEAP_SIZE
 
 -- the last `search.max_buckets`, or 65,536
 unfoldable pub max_buckets_in : List (List ℕ) → ℕ
-max_buckets_in entries = unwrap_or (option_and_then buckets_of (last_value (codes "search.max_buckets") entries)) 65536
+max_buckets_in entries = unwrap_or (option_and_then buckets_of (last_value (codes "search.max_buckets") entries)) DEFAULT_MAX_BUCKETS
 
 -- the bytes of the last entry with this key, or this percentage of the heap
 unfoldable pub limit_in : List ℕ → ℕ → ℕ → List (List ℕ) → ℕ

@@ -1,6 +1,7 @@
 -- Limits of circuit breakers (Elasticsearch Reference 8, 'Circuit breaker settings').
 use Rattle.std.specs.Prelude.{◌≤◌, ℕ, ◌*◌, ◌/◌, ◌^◌, List, Option, Some, option_map, if◌then◌else◌, codes}
 use Rattle.std.specs.Str.{bytes_eq}
+use Rattle.agg_model.specs.declared.limits.TheConstants.{MAX_BYTE_SIZE}
 use Rattle.agg_settings.specs.Numbers.{number_in}
 use Rattle.agg_settings.specs.Sizes.{front_digits, unit_in, size_from}
 use Rattle.agg_settings.specs.declared.amount.Amount.{Amount}
@@ -24,5 +25,5 @@ limit_of heap s = option_map (bytes_in heap) (amount_of s)
 
 -- at most 1pb, or 100 per cent
 abbrev pub IsBounded : Amount → Type 0
-IsBounded (Bytes n) = n ≤ 2 ^ 50
+IsBounded (Bytes n) = n ≤ MAX_BYTE_SIZE
 IsBounded (Percent p) = p ≤ 100

@@ -2,6 +2,7 @@
 -- concurrent-searches, the entries of `-E`, scan, generate.
 use Rattle.std.specs.Prelude.{ℕ, Bool, List, [], Ok, if◌then◌else◌, codes}
 use Rattle.clap.specs.Walk.{Row, Text}
+use Rattle.agg_model.specs.declared.limits.TheConstants.{DEFAULT_BATCH, MAX_AT_ONCE, MAX_BATCH, MIN_BATCH}
 use Rattle.agg_model.specs.declared.settings.Settings.{Settings}
 use Rattle.agg_settings.specs.Usages.{Reading, ◌>>=◌, refuse}
 use Rattle.agg_settings.specs.Entries.{limits_in, max_buckets_in}
@@ -12,7 +13,7 @@ use Rattle.agg_settings.specs.Words.{is_command, rows_in}
 unfoldable pub settings_at : ℕ → List Row → Reading Settings
 settings_at most rows =
     number_at (codes "workers") 1 most 1 rows >>= λ workers.
-    number_at (codes "batched-reduce-size") 2 1024 512 rows >>= λ batch.
+    number_at (codes "batched-reduce-size") MIN_BATCH MAX_BATCH DEFAULT_BATCH rows >>= λ batch.
     number_at (codes "concurrent-searches") 1 most 1 rows >>= λ width.
     entries_at rows >>= λ entries.
     scan_at width rows >>= λ scan.
@@ -27,9 +28,9 @@ settings_at most rows =
       generate = generate;
     })
 
--- 64, or 1 where several are not answered yet
+-- MAX_AT_ONCE, or 1 where several are not answered yet
 abbrev pub most_at_once : Bool → ℕ
-most_at_once several = if several then 64 else 1
+most_at_once several = if several then MAX_AT_ONCE else 1
 
 -- words that the command does not take are refused with empty texts
 unfoldable pub settings_of : Bool → List Text → Reading Settings

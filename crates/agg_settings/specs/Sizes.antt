@@ -3,6 +3,7 @@ use Rattle.std.specs.Prelude.{ℕ, ◌*◌, ◌^◌, List, drop, Option, Some, N
 use Rattle.std.specs.Char.{is_ascii_digit}
 use Rattle.std.specs.List.{prefix_len, take_while}
 use Rattle.std.specs.Str.{str_eq_ignore_ascii_case}
+use Rattle.agg_model.specs.declared.limits.TheConstants.{MAX_BYTE_SIZE}
 use Rattle.agg_settings.specs.Numbers.{number_of, between}
 
 -- the digits that a text begins with
@@ -30,4 +31,4 @@ product None unit = None
 
 -- a size: digits and a unit, from least bytes to 1pb
 unfoldable pub size_from : ℕ → List ℕ → Option ℕ
-size_from least s = between least (2 ^ 50) (product (number_of (front_digits s)) (bytes_of_unit (unit_in s)))
+size_from least s = between least MAX_BYTE_SIZE (product (number_of (front_digits s)) (bytes_of_unit (unit_in s)))

@@ -8,9 +8,7 @@ ghost use Rattle.agg_settings.specs.Sizes.{bytes_of_unit, front_digits, size_fro
 ghost use Rattle.agg_settings.specs.Limits.{amount_of, bytes_in, limit_of, IsBounded};
 
 use crate::numbers::{digit_count, number_in, number_of};
-
-/// The greatest size, one petabyte.
-const PETABYTE: u64 = 1 << 50;
+use agg_model::limits::MAX_BYTE_SIZE;
 
 /// What the text of a limit says.
 #[derive(Clone, Copy)]
@@ -31,7 +29,7 @@ fn is_word(text: &[u8], word: &str) -> bool
 #[tactic(auto, unfolding(crate::specs::Sizes::bytes_of_unit))]
 fn bytes_of_unit(unit: &[u8]) -> Option<u64>
     ensures value { result ≡ bytes_of_unit unit.now }
-    ensures high { IfSome result (λ n. n ≤ 2 ^ 50) }
+    ensures high { IfSome result (λ n. n ≤ MAX_BYTE_SIZE) }
 {
     if is_word(unit, "b") {
         Some(1)
@@ -44,7 +42,7 @@ fn bytes_of_unit(unit: &[u8]) -> Option<u64>
     } else if is_word(unit, "tb") {
         Some(1 << 40)
     } else if is_word(unit, "pb") {
-        Some(PETABYTE)
+        Some(1 << 50)
     } else {
         None
     }
@@ -55,13 +53,13 @@ fn bytes_of_unit(unit: &[u8]) -> Option<u64>
 pub(crate) fn size_from(least: u64, text: &[u8]) -> Option<u64>
     ensures value { result ≡ size_from least text.now }
     ensures low { IfSome result (λ n. least ≤ n) }
-    ensures high { IfSome result (λ n. n ≤ 2 ^ 50) }
+    ensures high { IfSome result (λ n. n ≤ MAX_BYTE_SIZE) }
 {
     let count = digit_count(text);
     match (number_of(&text[..count]), bytes_of_unit(&text[count..])) {
         (Some(number), Some(unit)) => {
             let bytes = number * unit as u128;
-            if least as u128 <= bytes && bytes <= PETABYTE as u128 {
+            if least as u128 <= bytes && bytes <= MAX_BYTE_SIZE as u128 {
                 Some(bytes as u64)
             } else {
                 None
@@ -98,7 +96,7 @@ pub(crate) fn amount_of(text: &[u8]) -> Option<Amount>
 pub(crate) fn bytes_in(heap: u64, amount: Amount) -> u64
     requires { IsBounded amount }
     ensures value { result ≡ bytes_in heap amount }
-    ensures high { heap ≤ 2 ^ 50 → result ≤ 2 ^ 50 }
+    ensures high { heap ≤ MAX_BYTE_SIZE → result ≤ MAX_BYTE_SIZE }
 {
     match amount {
         Amount::Bytes(bytes) => bytes,

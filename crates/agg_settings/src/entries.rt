@@ -8,6 +8,9 @@ use crate::amount::{Amount, amount_of, bytes_in, size_from};
 use crate::numbers::number_in;
 use crate::values::parts;
 use agg_model::Limits;
+use agg_model::limits::{
+    DEFAULT_HEAP_SIZE, DEFAULT_MAX_BUCKETS, GREATEST_MAX_BUCKETS, MAX_BYTE_SIZE,
+};
 
 const HEAP_SIZE: &str = "heap_size";
 
@@ -22,15 +25,6 @@ const FIELDDATA: &str = "indices.breaker.fielddata.limit";
 const INFLIGHT: &str = "network.breaker.inflight_requests.limit";
 
 const REAL_MEMORY: &str = "indices.breaker.total.use_real_memory";
-
-/// The bytes of the heap where no entry says them.
-const DEFAULT_HEAP: u64 = 1 << 30;
-
-/// The greatest number of buckets where no entry says it.
-const DEFAULT_BUCKETS: u64 = 65_536;
-
-/// The greatest number of buckets that an entry may say.
-const MOST_BUCKETS: u64 = 1_000_000;
 
 /// The key and the value of an entry.
 pub(crate) fn entry_parts(entry: &str) -> (&str, &str)
@@ -59,7 +53,7 @@ fn is_taken(key: &str, value: &str) -> bool
     } else if key == REAL_MEMORY {
         value == "false"
     } else if key == MAX_BUCKETS {
-        number_in(1, MOST_BUCKETS, bytes).is_some()
+        number_in(1, GREATEST_MAX_BUCKETS, bytes).is_some()
     } else {
         false
     }
@@ -92,11 +86,11 @@ fn last_value<'a>(key: &str, entries: &[&'a str]) -> Option<&'a str>
 #[tactic(auto, unfolding(crate::specs::Entries::heap_in))]
 fn heap_in(entries: &[&str]) -> u64
     ensures value { result ≡ heap_in (map (λ s. s.now) entries.now) }
-    ensures high { result ≤ 2 ^ 50 }
+    ensures high { result ≤ MAX_BYTE_SIZE }
 {
     match last_value(HEAP_SIZE, entries) {
-        Some(value) => size_from(1, value.as_bytes()).unwrap_or(DEFAULT_HEAP),
-        None => DEFAULT_HEAP,
+        Some(value) => size_from(1, value.as_bytes()).unwrap_or(DEFAULT_HEAP_SIZE),
+        None => DEFAULT_HEAP_SIZE,
     }
 }
 
@@ -105,11 +99,13 @@ fn heap_in(entries: &[&str]) -> u64
 pub(crate) fn max_buckets_in(entries: &[&str]) -> u64
     ensures value { result ≡ max_buckets_in (map (λ s. s.now) entries.now) }
     ensures low { 1 ≤ result }
-    ensures high { result ≤ 1000000 }
+    ensures high { result ≤ GREATEST_MAX_BUCKETS }
 {
     match last_value(MAX_BUCKETS, entries) {
-        Some(value) => number_in(1, MOST_BUCKETS, value.as_bytes()).unwrap_or(DEFAULT_BUCKETS),
-        None => DEFAULT_BUCKETS,
+        Some(value) => number_in(1, GREATEST_MAX_BUCKETS, value.as_bytes()).unwrap_or(
+            DEFAULT_MAX_BUCKETS,
+        ),
+        None => DEFAULT_MAX_BUCKETS,
     }
 }
 
@@ -117,9 +113,9 @@ pub(crate) fn max_buckets_in(entries: &[&str]) -> u64
 #[tactic(auto, unfolding(crate::specs::Entries::limit_in))]
 fn limit_in(key: &str, percent: u64, heap: u64, entries: &[&str]) -> u64
     requires share { percent ≤ 100 }
-    requires heap { heap ≤ 2 ^ 50 }
+    requires heap { heap ≤ MAX_BYTE_SIZE }
     ensures value { result ≡ limit_in key.now percent heap (map (λ s. s.now) entries.now) }
-    ensures high { result ≤ 2 ^ 50 }
+    ensures high { result ≤ MAX_BYTE_SIZE }
 {
     match last_value(key, entries) {
         Some(value) => {

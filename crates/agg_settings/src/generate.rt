@@ -6,12 +6,7 @@ ghost use Rattle.agg_settings.specs.Generating.{generate_of};
 use crate::numbers::number_in;
 use crate::values::parts;
 use agg_model::Generate;
-
-/// The most documents that can be generated.
-const MOST_DOCUMENTS: u64 = 100_000;
-
-/// The most shards of a generated index.
-const MOST_SHARDS: u64 = 64;
+use agg_model::limits::{MAX_GENERATED_DOCUMENTS, MAX_GENERATED_SHARDS};
 
 /// The script that `NUMBER:DOCUMENTS:SHARDS` asks for; none for any other text.
 #[tactic(auto, unfolding(crate::specs::Generating::generate_of))]
@@ -21,8 +16,8 @@ pub(crate) fn generate_of(text: &str) -> Option<Generate>
     let (number, rest) = parts(text, ':');
     let (documents, shards) = parts(rest, ':');
     let number = number_in(0, u64::MAX, number.as_bytes());
-    let documents = number_in(0, MOST_DOCUMENTS, documents.as_bytes());
-    let shards = number_in(1, MOST_SHARDS, shards.as_bytes());
+    let documents = number_in(0, MAX_GENERATED_DOCUMENTS, documents.as_bytes());
+    let shards = number_in(1, MAX_GENERATED_SHARDS, shards.as_bytes());
     match (number, documents, shards) {
         (Some(number), Some(documents), Some(shards)) => Some(Generate {
             number,

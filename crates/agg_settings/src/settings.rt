@@ -10,6 +10,7 @@ use crate::command::{matches, slices};
 use crate::entries::{limits_in, max_buckets_in};
 use crate::fault::SettingsFault;
 use crate::options::{entries_at, generate_at, number_at, scan_at};
+use agg_model::limits::{DEFAULT_BATCH, MAX_AT_ONCE, MAX_BATCH, MIN_BATCH};
 use agg_model::{Settings, Text};
 use clap::ArgMatches;
 use std::alloc::Global;
@@ -18,9 +19,9 @@ use std::alloc::Global;
 fn most_at_once(several: bool) -> u32
     ensures value { result ≡ most_at_once several }
     ensures low { 1 ≤ result }
-    ensures high { result ≤ 64 }
+    ensures high { result ≤ MAX_AT_ONCE }
 {
-    if several { 64 } else { 1 }
+    if several { MAX_AT_ONCE } else { 1 }
 }
 
 /// The settings that the options give, in the order of their refusals.
@@ -31,12 +32,19 @@ fn settings_at(
     most: u32,
 ) -> Result<Settings, SettingsFault>
     requires low { 1 ≤ most }
-    requires high { most ≤ 64 }
+    requires high { most ≤ MAX_AT_ONCE }
     ensures value { Gives result (settings_at most (rows_of (found_of matches.now))) }
     ensures in_range { IfOk result AreInRange }
 {
     let workers = number_at(alloc, matches, "workers", 1, most, 1)?;
-    let batch = number_at(alloc, matches, "batched-reduce-size", 2, 1_024, 512)?;
+    let batch = number_at(
+        alloc,
+        matches,
+        "batched-reduce-size",
+        MIN_BATCH,
+        MAX_BATCH,
+        DEFAULT_BATCH,
+    )?;
     let width = number_at(alloc, matches, "concurrent-searches", 1, most, 1)?;
     let entries = entries_at(alloc, matches)?;
     let scan = scan_at(alloc, matches, width)?;
