@@ -5,11 +5,11 @@ ghost use Rattle.serde_json.specs.View.{view, members_view};
 ghost use Rattle.json_walk.specs.Places.{pointer};
 ghost use Rattle.agg_reading.specs.Reading.{Gives};
 ghost use Rattle.agg_reading.specs.Request.{aggregations_from, aggregations_at, children_in, aggregation_of, aggregation_at, no_counts};
-ghost use Rattle.agg_mapping.specs.Paths.{IsOrdered};
 
 use crate::names::is_aggregation_name;
 use crate::parts::{assembled, children_name, kind_member};
-use agg_model::{Agg, List, Mapping};
+use agg_mapping::OrderedMapping;
+use agg_model::{Agg, List};
 use agg_reading::{Counts, RequestFault};
 use json_walk::{At, member, object};
 use request_kinds::{kind_at, kind_name};
@@ -26,7 +26,7 @@ const MAX_LEVELS: u32 = 16;
 #[derive(Drop)]
 struct Reader<'m> {
     alloc: Global,
-    mapping: &'m Mapping,
+    mapping: &'m OrderedMapping<'m>,
 }
 
 impl Reader<'_> {
@@ -42,7 +42,6 @@ impl Reader<'_> {
         before: Counts,
         members: &Map<String, Value>,
     ) -> Result<(List<Agg>, Counts), RequestFault>
-        requires ordered { IsOrdered self.now.mapping.now }
         requires queries { before.queries ≤ 1024 }
         requires aggregations { before.aggregations ≤ 256 }
         ensures value { Gives (λ x. x) result
@@ -85,7 +84,6 @@ impl Reader<'_> {
         before: Counts,
         value: &Value,
     ) -> Result<(List<Agg>, Counts), RequestFault>
-        requires ordered { IsOrdered self.now.mapping.now }
         requires queries { before.queries ≤ 1024 }
         requires aggregations { before.aggregations ≤ 256 }
         ensures value { Gives (λ x. x) result
@@ -110,7 +108,6 @@ impl Reader<'_> {
         before: Counts,
         members: &Map<String, Value>,
     ) -> Result<(List<Agg>, Counts), RequestFault>
-        requires ordered { IsOrdered self.now.mapping.now }
         requires queries { before.queries ≤ 1024 }
         requires aggregations { before.aggregations ≤ 256 }
         ensures value { Gives (λ x. x) result
@@ -142,7 +139,6 @@ impl Reader<'_> {
         before: Counts,
         value: &Value,
     ) -> Result<(Agg, Counts), RequestFault>
-        requires ordered { IsOrdered self.now.mapping.now }
         requires queries { before.queries ≤ 1024 }
         requires aggregations { before.aggregations < 256 }
         ensures value { Gives (λ x. x) result
@@ -195,7 +191,6 @@ impl Reader<'_> {
         before: Counts,
         value: &Value,
     ) -> Result<(Agg, Counts), RequestFault>
-        requires ordered { IsOrdered self.now.mapping.now }
         requires queries { before.queries ≤ 1024 }
         requires aggregations { before.aggregations ≤ 256 }
         ensures value { Gives (λ x. x) result
@@ -214,11 +209,10 @@ impl Reader<'_> {
 /// The aggregations of a search, at most 256, nested at most 16 deep, and how many queries and aggregations were begun.
 pub fn aggregations_in(
     alloc: Global,
-    mapping: &Mapping,
+    mapping: &OrderedMapping<'_>,
     at: &At<'_>,
     members: &Map<String, Value>,
 ) -> Result<(List<Agg>, Counts), RequestFault>
-    requires { IsOrdered mapping.now }
     ensures value { Gives (λ x. x) result
         (children_in (aggregation_at 16 mapping.now true) 0 (pointer at.now) no_counts (members_view members.now.entries)) }
     ensures queries { IfOk result (λ x. x.1.queries ≤ 1024) }
