@@ -1,3 +1,2 @@
 mod Levels
-mod NestedPlaces
 mod Readable

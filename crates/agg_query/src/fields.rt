@@ -1,18 +1,17 @@
 //! Fields and nested paths that a search names.
 
-ghost use Rattle.std.specs.Prelude.{◌≡◌, ◌<◌, IfOk};
+ghost use Rattle.std.specs.Prelude.{◌<◌, IfOk};
 ghost use Rattle.serde_json.specs.View.{members_view};
 ghost use Rattle.json_walk.specs.Places.{pointer};
 ghost use Rattle.agg_reading.specs.Reading.{Gives};
-ghost use Rattle.agg_reading.specs.Fields.{field_at, is_in_context};
+ghost use Rattle.agg_reading.specs.Fields.{field_at};
 ghost use Rattle.agg_reading.specs.Leaves.{field_in};
 ghost use Rattle.agg_reading.specs.Query.{nested_at, path_in};
-ghost use Rattle.agg_mapping.specs.Paths.{IsOrdered};
 
-use agg_mapping::{find_field, find_nested, is_beneath};
+use agg_mapping::OrderedMapping;
 use agg_model::body_refusal::{NO_SUCH_FIELD, NO_SUCH_PATH, WRONG_TYPE};
 use agg_model::limits::MAX_PATHS;
-use agg_model::{Field, Mapping, NestedPath};
+use agg_model::{Field, NestedPath};
 use agg_reading::RequestFault;
 use json_walk::{At, required, text};
 use serde_json::{Map, Value};
@@ -22,14 +21,13 @@ use std::alloc::Global;
 #[tactic(auto, unfolding(agg_reading::specs::Fields::field_at))]
 pub fn field<'m>(
     alloc: Global,
-    mapping: &'m Mapping,
+    mapping: &OrderedMapping<'m>,
     at: &At<'_>,
     path: &str,
 ) -> Result<(u32, &'m Field), RequestFault>
-    requires { IsOrdered mapping.now }
     ensures { Gives (λ f. (f.0, f.1.now)) result (field_at mapping.now (pointer at.now) path.now) }
 {
-    let Some((place, found)) = find_field(mapping, path.as_bytes()) else {
+    let Some((place, found)) = mapping.find_field(path.as_bytes()) else {
         return at.refuse(alloc, NO_SUCH_FIELD);
     };
     Ok((place, found))
@@ -40,11 +38,10 @@ pub fn field<'m>(
 #[tactic(auto, unfolding(agg_reading::specs::Leaves::field_in))]
 pub fn field_in<'m>(
     alloc: Global,
-    mapping: &'m Mapping,
+    mapping: &OrderedMapping<'m>,
     at: &At<'_>,
     members: &Map<String, Value>,
 ) -> Result<(u32, &'m Field), RequestFault>
-    requires { IsOrdered mapping.now }
     ensures { Gives (λ f. (f.0, f.1.now)) result (field_in mapping.now (pointer at.now) (members_view members.now.entries)) }
 {
     let value = required(alloc, at, members, "field")?;
@@ -53,38 +50,23 @@ pub fn field_in<'m>(
     field(alloc, mapping, &at, path)
 }
 
-/// Whether a path lies strictly beneath a context: 0 is the root, i + 1 the i-th nested path.
-#[tactic(auto, unfolding(agg_reading::specs::Fields::is_in_context))]
-fn is_in_context(mapping: &Mapping, context: u32, path: &str) -> bool
-    ensures { result ≡ is_in_context mapping.now.nested context path.now }
-{
-    if context == 0 {
-        return true;
-    }
-    match mapping.nested.get(context as usize - 1) {
-        Some(outer) => is_beneath(outer.path.as_str().as_bytes(), path.as_bytes()),
-        None => false,
-    }
-}
-
 /// The nested path of this name and its place; one that is not in the mapping, or not strictly beneath the context, is
 /// refused with `NO_SUCH_PATH` at `at`.
 #[tactic(auto, unfolding(agg_reading::specs::Query::nested_at))]
 pub fn nested<'m>(
     alloc: Global,
-    mapping: &'m Mapping,
+    mapping: &OrderedMapping<'m>,
     context: u32,
     at: &At<'_>,
     path: &str,
 ) -> Result<(u32, &'m NestedPath), RequestFault>
-    requires { IsOrdered mapping.now }
     ensures value { Gives (λ p. (p.0, p.1.now)) result (nested_at mapping.now context (pointer at.now) path.now) }
     ensures few { IfOk result (λ p. p.0 < MAX_PATHS) }
 {
-    if !is_in_context(mapping, context, path) {
+    if !mapping.is_in_context(context, path.as_bytes()) {
         return at.refuse(alloc, NO_SUCH_PATH);
     }
-    let Some((place, found)) = find_nested(mapping, path.as_bytes()) else {
+    let Some((place, found)) = mapping.find_nested(path.as_bytes()) else {
         return at.refuse(alloc, NO_SUCH_PATH);
     };
     Ok((place, found))
@@ -96,12 +78,11 @@ pub fn nested<'m>(
 #[tactic(auto, unfolding(agg_reading::specs::Query::path_in))]
 pub fn path_in<'m>(
     alloc: Global,
-    mapping: &'m Mapping,
+    mapping: &OrderedMapping<'m>,
     context: u32,
     at: &At<'_>,
     members: &Map<String, Value>,
 ) -> Result<(u32, &'m NestedPath), RequestFault>
-    requires { IsOrdered mapping.now }
     ensures value { Gives (λ p. (p.0, p.1.now)) result
         (path_in mapping.now context (pointer at.now) (members_view members.now.entries)) }
     ensures few { IfOk result (λ p. p.0 < MAX_PATHS) }

@@ -6,15 +6,15 @@ ghost use Rattle.json_walk.specs.Places.{pointer};
 ghost use Rattle.agg_reading.specs.Reading.{Gives, or_refuse};
 ghost use Rattle.agg_reading.specs.Json.{sole_besides};
 ghost use Rattle.agg_reading.specs.Leaves.{about, match_all_at, boxed_value, term_value, term_at, terms_at, test_at, tests_at, range_at, exists_at, ids_from, ids_at};
-ghost use Rattle.agg_mapping.specs.Paths.{IsOrdered};
 
 use crate::fields::{field, field_in};
 use crate::probes::{probe, probe_list};
+use agg_mapping::OrderedMapping;
 use agg_model::body_refusal::{
     LIMIT_EXCEEDED, NO_SUCH_FIELD, NOT_ONE_MEMBER, UNKNOWN_MEMBER, WRONG_TYPE,
 };
 use agg_model::limits::MAX_LIST_VALUES;
-use agg_model::{FieldKind, List, Mapping, Probe, Query, RangeOp, RangeTest, Text};
+use agg_model::{FieldKind, List, Probe, Query, RangeOp, RangeTest, Text};
 use agg_reading::RequestFault;
 use json_walk::{At, check_names, list, member, object, required, sole_besides, text};
 use serde_json::{Map, Value};
@@ -93,11 +93,10 @@ fn term_value(
 #[tactic(auto, unfolding(agg_reading::specs::Leaves::term_at))]
 pub fn term(
     alloc: Global,
-    mapping: &Mapping,
+    mapping: &OrderedMapping<'_>,
     at: &At<'_>,
     value: &Value,
 ) -> Result<Query, RequestFault>
-    requires { IsOrdered mapping.now }
     ensures { Gives (λ q. q) result (term_at mapping.now (pointer at.now) (view value.now)) }
 {
     let (path, said) = subject(alloc, at, value)?;
@@ -113,11 +112,10 @@ pub fn term(
 #[tactic(auto, unfolding(agg_reading::specs::Leaves::terms_at))]
 pub fn terms(
     alloc: Global,
-    mapping: &Mapping,
+    mapping: &OrderedMapping<'_>,
     at: &At<'_>,
     value: &Value,
 ) -> Result<Query, RequestFault>
-    requires { IsOrdered mapping.now }
     ensures { Gives (λ q. q) result (terms_at mapping.now (pointer at.now) (view value.now)) }
 {
     let (path, said) = subject(alloc, at, value)?;
@@ -183,11 +181,10 @@ fn tests(
 #[tactic(auto, unfolding(agg_reading::specs::Leaves::range_at))]
 pub fn range(
     alloc: Global,
-    mapping: &Mapping,
+    mapping: &OrderedMapping<'_>,
     at: &At<'_>,
     value: &Value,
 ) -> Result<Query, RequestFault>
-    requires { IsOrdered mapping.now }
     ensures { Gives (λ q. q) result (range_at mapping.now (pointer at.now) (view value.now)) }
 {
     let (path, said) = subject(alloc, at, value)?;
@@ -206,11 +203,10 @@ pub fn range(
 #[tactic(auto, unfolding(agg_reading::specs::Leaves::exists_at))]
 pub fn exists(
     alloc: Global,
-    mapping: &Mapping,
+    mapping: &OrderedMapping<'_>,
     at: &At<'_>,
     value: &Value,
 ) -> Result<Query, RequestFault>
-    requires { IsOrdered mapping.now }
     ensures { Gives (λ q. q) result (exists_at mapping.now (pointer at.now) (view value.now)) }
 {
     let members = object(alloc, WRONG_TYPE, at, value)?;

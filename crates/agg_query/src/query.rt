@@ -12,6 +12,7 @@ ghost use Rattle.agg_mapping.specs.Paths.{IsOrdered};
 
 use crate::fields::path_in;
 use crate::leaves::{exists, ids, match_all, range, term, terms};
+use agg_mapping::OrderedMapping;
 use agg_model::body_refusal::{
     LIMIT_EXCEEDED, NOT_ONE_MEMBER, UNKNOWN_MEMBER, UNKNOWN_QUERY, WRONG_TYPE,
 };
@@ -96,7 +97,7 @@ fn minimum(must: &List<Query>, should: &List<Query>, said: Option<u32>) -> u32
 #[derive(Clone, Copy)]
 struct Reader<'m> {
     alloc: Global,
-    mapping: &'m Mapping,
+    mapping: &'m OrderedMapping<'m>,
 }
 
 impl Reader<'_> {
@@ -112,7 +113,6 @@ impl Reader<'_> {
         before: u32,
         items: &Vec<Value>,
     ) -> Result<(List<Query>, u32), RequestFault>
-        requires ordered { IsOrdered self.now.mapping.now }
         requires count { before ≤ MAX_QUERIES }
         ensures value { Gives (λ x. x) result
             (queries_from (query_at left self.now.mapping.now context) (pointer at.now) 0 done before (items_view items.now.items)) }
@@ -140,7 +140,6 @@ impl Reader<'_> {
         before: u32,
         members: &Map<String, Value>,
     ) -> Result<(List<Query>, u32), RequestFault>
-        requires ordered { IsOrdered self.now.mapping.now }
         requires count { before ≤ MAX_QUERIES }
         ensures value { Gives (λ x. x) result
             (clause_at (query_at left self.now.mapping.now context) name.now (pointer at.now) done before (members_view members.now.entries)) }
@@ -169,7 +168,6 @@ impl Reader<'_> {
         before: u32,
         members: &Map<String, Value>,
     ) -> Result<(List<Query>, Option<u32>, u32), RequestFault>
-        requires ordered { IsOrdered self.now.mapping.now }
         requires count { before ≤ MAX_QUERIES }
         ensures value { Gives (λ x. x) result
             (all_at (query_at left self.now.mapping.now context) (pointer at.now) before (members_view members.now.entries)) }
@@ -193,7 +191,6 @@ impl Reader<'_> {
         before: u32,
         members: &Map<String, Value>,
     ) -> Result<(Query, u32), RequestFault>
-        requires ordered { IsOrdered self.now.mapping.now }
         requires count { before ≤ MAX_QUERIES }
         ensures value { Gives (λ x. x) result
             (clauses_at (query_at left self.now.mapping.now context) (pointer at.now) before (members_view members.now.entries)) }
@@ -225,7 +222,6 @@ impl Reader<'_> {
         before: u32,
         value: &Value,
     ) -> Result<(Query, u32), RequestFault>
-        requires ordered { IsOrdered self.now.mapping.now }
         requires count { before ≤ MAX_QUERIES }
         ensures value { Gives (λ x. x) result
             (bool_at (query_at left self.now.mapping.now context) (pointer at.now) before (view value.now)) }
@@ -260,7 +256,6 @@ impl Reader<'_> {
         before: u32,
         value: &Value,
     ) -> Result<(Query, u32), RequestFault>
-        requires ordered { IsOrdered self.now.mapping.now }
         requires count { before ≤ MAX_QUERIES }
         ensures value { Gives (λ x. x) result
             (within_at (query_at left self.now.mapping.now) self.now.mapping.now context (pointer at.now) before (view value.now)) }
@@ -294,7 +289,6 @@ impl Reader<'_> {
         name: &str,
         value: &Value,
     ) -> Result<(Query, u32), RequestFault>
-        requires ordered { IsOrdered self.now.mapping.now }
         requires count { count ≤ MAX_QUERIES }
         ensures value { Gives (λ x. x) result
             (named_at (query_at left self.now.mapping.now) self.now.mapping.now context (pointer at.now) count name.now (view value.now)) }
@@ -325,7 +319,6 @@ impl Reader<'_> {
         before: u32,
         value: &Value,
     ) -> Result<(Query, u32), RequestFault>
-        requires ordered { IsOrdered self.now.mapping.now }
         requires count { before ≤ MAX_QUERIES }
         ensures value { Gives (λ x. x) result
             (query_at left self.now.mapping.now context before (pointer at.now) (view value.now)) }
@@ -347,13 +340,12 @@ impl Reader<'_> {
 #[tactic(auto, unfolding(agg_reading::specs::Query::top_query_at))]
 pub fn counted_query_at(
     alloc: Global,
-    mapping: &Mapping,
+    mapping: &OrderedMapping<'_>,
     context: u32,
     before: u32,
     at: &At<'_>,
     value: &Value,
 ) -> Result<(Query, u32), RequestFault>
-    requires ordered { IsOrdered mapping.now }
     requires count { before ≤ MAX_QUERIES }
     ensures value { Gives (λ x. x) result
         (top_query_at mapping.now context before (pointer at.now) (view value.now)) }
@@ -379,7 +371,8 @@ pub fn query_of(
     ensures value { Gives (λ q. q) result (query_from mapping.now context before at.now (view value.now)) }
     ensures json { result ≢ Err NotJson }
 {
+    let mapping = OrderedMapping::of(mapping);
     let at = At::Start(at.as_str());
-    let (query, _) = counted_query_at(alloc, mapping, context, before, &at, value)?;
+    let (query, _) = counted_query_at(alloc, &mapping, context, before, &at, value)?;
     Ok(query)
 }

@@ -9,6 +9,7 @@ ghost use Rattle.agg_mapping.specs.Paths.{IsOrdered};
 
 use crate::parts::has_both;
 use crate::tree::aggregations_in;
+use agg_mapping::OrderedMapping;
 use agg_model::body_refusal::{BODY_NOT_OBJECT, NOT_ONE_MEMBER, UNKNOWN_MEMBER};
 use agg_model::limits::MAX_QUERIES;
 use agg_model::{Mapping, Query, Search};
@@ -21,11 +22,10 @@ use std::alloc::Global;
 /// The query of the search, where so many were begun before it; `match_all` where it is absent.
 fn query_or_all(
     alloc: Global,
-    mapping: &Mapping,
+    mapping: &OrderedMapping<'_>,
     before: u32,
     members: &Map<String, Value>,
 ) -> Result<Query, RequestFault>
-    requires ordered { IsOrdered mapping.now }
     requires count { before ≤ MAX_QUERIES }
     ensures { Gives (λ q. q) result (query_or_all mapping.now before (get_member (codes "query") (members_view members.now.entries))) }
 {
@@ -44,11 +44,10 @@ fn query_or_all(
 #[tactic(auto, unfolding(agg_reading::specs::Request::search_in))]
 fn search_in(
     alloc: Global,
-    mapping: &Mapping,
+    mapping: &OrderedMapping<'_>,
     body_bytes: u64,
     members: &Map<String, Value>,
 ) -> Result<Search, RequestFault>
-    requires { IsOrdered mapping.now }
     ensures { Gives (λ s. s) result (search_in mapping.now body_bytes (members_view members.now.entries)) }
 {
     let (aggs, counts) = aggregations_in(alloc, mapping, &At::Start(""), members)?;
@@ -64,11 +63,10 @@ fn search_in(
 #[tactic(auto, unfolding(agg_reading::specs::Request::search_value_at))]
 fn search_value(
     alloc: Global,
-    mapping: &Mapping,
+    mapping: &OrderedMapping<'_>,
     body_bytes: u64,
     value: &Value,
 ) -> Result<Search, RequestFault>
-    requires { IsOrdered mapping.now }
     ensures { Gives (λ s. s) result (search_value_at mapping.now body_bytes (view value.now)) }
 {
     let at = At::Start("");
@@ -112,5 +110,10 @@ pub fn search_of(alloc: Global, body: &[u8], mapping: &Mapping) -> Result<Search
     ensures { Gives (λ s. s) result (search_of mapping.now body.now) }
 {
     let value = json(alloc, body)?;
-    search_value(alloc, mapping, body.len() as u64, &value)
+    search_value(
+        alloc,
+        &OrderedMapping::of(mapping),
+        body.len() as u64,
+        &value,
+    )
 }

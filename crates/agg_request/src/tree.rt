@@ -5,13 +5,13 @@ ghost use Rattle.serde_json.specs.View.{view, members_view};
 ghost use Rattle.json_walk.specs.Places.{pointer};
 ghost use Rattle.agg_reading.specs.Reading.{Gives};
 ghost use Rattle.agg_reading.specs.Request.{aggregations_from, aggregations_at, children_in, aggregation_of, aggregation_at, no_counts};
-ghost use Rattle.agg_mapping.specs.Paths.{IsOrdered};
 
 use crate::names::is_aggregation_name;
 use crate::parts::{assembled, children_name, kind_member};
+use agg_mapping::OrderedMapping;
 use agg_model::body_refusal::{INVALID_NAME, LIMIT_EXCEEDED, UNKNOWN_KIND, WRONG_TYPE};
 use agg_model::limits::{MAX_AGGREGATION_LEVELS, MAX_AGGREGATIONS, MAX_QUERIES};
-use agg_model::{Agg, List, Mapping};
+use agg_model::{Agg, List};
 use agg_reading::{Counts, RequestFault};
 use json_walk::{At, member, object};
 use request_kinds::{kind_at, kind_name};
@@ -22,7 +22,7 @@ use std::alloc::Global;
 #[derive(Drop)]
 struct Reader<'m> {
     alloc: Global,
-    mapping: &'m Mapping,
+    mapping: &'m OrderedMapping<'m>,
 }
 
 impl Reader<'_> {
@@ -38,7 +38,6 @@ impl Reader<'_> {
         before: Counts,
         members: &Map<String, Value>,
     ) -> Result<(List<Agg>, Counts), RequestFault>
-        requires ordered { IsOrdered self.now.mapping.now }
         requires queries { before.queries ≤ MAX_QUERIES }
         requires aggregations { before.aggregations ≤ MAX_AGGREGATIONS }
         ensures value { Gives (λ x. x) result
@@ -81,7 +80,6 @@ impl Reader<'_> {
         before: Counts,
         value: &Value,
     ) -> Result<(List<Agg>, Counts), RequestFault>
-        requires ordered { IsOrdered self.now.mapping.now }
         requires queries { before.queries ≤ MAX_QUERIES }
         requires aggregations { before.aggregations ≤ MAX_AGGREGATIONS }
         ensures value { Gives (λ x. x) result
@@ -106,7 +104,6 @@ impl Reader<'_> {
         before: Counts,
         members: &Map<String, Value>,
     ) -> Result<(List<Agg>, Counts), RequestFault>
-        requires ordered { IsOrdered self.now.mapping.now }
         requires queries { before.queries ≤ MAX_QUERIES }
         requires aggregations { before.aggregations ≤ MAX_AGGREGATIONS }
         ensures value { Gives (λ x. x) result
@@ -138,7 +135,6 @@ impl Reader<'_> {
         before: Counts,
         value: &Value,
     ) -> Result<(Agg, Counts), RequestFault>
-        requires ordered { IsOrdered self.now.mapping.now }
         requires queries { before.queries ≤ MAX_QUERIES }
         requires aggregations { before.aggregations < MAX_AGGREGATIONS }
         ensures value { Gives (λ x. x) result
@@ -191,7 +187,6 @@ impl Reader<'_> {
         before: Counts,
         value: &Value,
     ) -> Result<(Agg, Counts), RequestFault>
-        requires ordered { IsOrdered self.now.mapping.now }
         requires queries { before.queries ≤ MAX_QUERIES }
         requires aggregations { before.aggregations ≤ MAX_AGGREGATIONS }
         ensures value { Gives (λ x. x) result
@@ -211,11 +206,10 @@ impl Reader<'_> {
 /// queries and aggregations were begun.
 pub fn aggregations_in(
     alloc: Global,
-    mapping: &Mapping,
+    mapping: &OrderedMapping<'_>,
     at: &At<'_>,
     members: &Map<String, Value>,
 ) -> Result<(List<Agg>, Counts), RequestFault>
-    requires { IsOrdered mapping.now }
     ensures value { Gives (λ x. x) result
         (children_in (aggregation_at MAX_AGGREGATION_LEVELS mapping.now true) 0 (pointer at.now) no_counts (members_view members.now.entries)) }
     ensures queries { IfOk result (λ x. x.1.queries ≤ MAX_QUERIES) }

@@ -5,15 +5,15 @@ ghost use Rattle.serde_json.specs.View.{view, members_view};
 ghost use Rattle.json_walk.specs.Places.{pointer};
 ghost use Rattle.agg_reading.specs.Reading.{Gives};
 ghost use Rattle.agg_reading.specs.After.{source_names, after_key, distinct_from, composite_in, composite_at};
-ghost use Rattle.agg_mapping.specs.Paths.{IsOrdered};
 ghost use Rattle.request_kinds.specs.Pages.{after_view};
 
 use crate::after::{After, after_in, after_key, check_after, is_source_name};
 use crate::numbers::small_in;
 use crate::sources::{Source, sources};
+use agg_mapping::OrderedMapping;
 use agg_model::body_refusal::{OUT_OF_RANGE, UNKNOWN_MEMBER, WRONG_TYPE};
 use agg_model::limits::MAX_PAGE;
-use agg_model::{CompositeSource, Key, Kind, List, Mapping};
+use agg_model::{CompositeSource, Key, Kind, List};
 use agg_reading::RequestFault;
 use json_walk::{At, check_names, object, required};
 use serde_json::{Map, Value};
@@ -84,11 +84,10 @@ fn composite_over(
 #[tactic(auto, unfolding(agg_reading::specs::After::composite_at))]
 pub fn composite(
     alloc: Global,
-    mapping: &Mapping,
+    mapping: &OrderedMapping<'_>,
     at: &At<'_>,
     value: &Value,
 ) -> Result<Kind, RequestFault>
-    requires { IsOrdered mapping.now }
     ensures { Gives (λ k. k) result (composite_at mapping.now (pointer at.now) (view value.now)) }
 {
     let members = object(alloc, WRONG_TYPE, at, value)?;

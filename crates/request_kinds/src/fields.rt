@@ -5,14 +5,12 @@ ghost use Rattle.serde_json.specs.View.{members_view};
 ghost use Rattle.json_walk.specs.Places.{pointer};
 ghost use Rattle.agg_reading.specs.Reading.{Gives};
 ghost use Rattle.agg_reading.specs.Scalars.{is_whole_kind};
-ghost use Rattle.agg_reading.specs.Fields.{encloses};
 ghost use Rattle.agg_reading.specs.Histogram.{whole_field_in};
 ghost use Rattle.agg_reading.specs.Metrics.{enclosing_at};
-ghost use Rattle.agg_mapping.specs.Paths.{IsOrdered};
 
-use agg_mapping::is_beneath;
+use agg_mapping::OrderedMapping;
 use agg_model::body_refusal::{NO_SUCH_FIELD, NO_SUCH_PATH};
-use agg_model::{Field, FieldKind, Mapping};
+use agg_model::{Field, FieldKind};
 use agg_query::{field_in, nested};
 use agg_reading::RequestFault;
 use json_walk::At;
@@ -34,11 +32,10 @@ fn is_whole_kind(kind: FieldKind) -> bool
 #[tactic(auto, unfolding(agg_reading::specs::Histogram::whole_field_in))]
 pub fn whole_field_in<'m>(
     alloc: Global,
-    mapping: &'m Mapping,
+    mapping: &OrderedMapping<'m>,
     at: &At<'_>,
     members: &Map<String, Value>,
 ) -> Result<(u32, &'m Field), RequestFault>
-    requires { IsOrdered mapping.now }
     ensures { Gives (λ f. (f.0, f.1.now)) result (whole_field_in mapping.now (pointer at.now) (members_view members.now.entries)) }
 {
     let (place, field) = field_in(alloc, mapping, at, members)?;
@@ -48,34 +45,19 @@ pub fn whole_field_in<'m>(
     Ok((place, field))
 }
 
-/// Whether a context is strictly beneath a path.
-#[tactic(auto, unfolding(agg_reading::specs::Fields::encloses))]
-fn encloses(mapping: &Mapping, path: &str, context: u32) -> bool
-    ensures { result ≡ encloses mapping.now.nested path.now context }
-{
-    if context == 0 {
-        return false;
-    }
-    match mapping.nested.get(context as usize - 1) {
-        Some(inner) => is_beneath(path.as_bytes(), inner.path.as_str().as_bytes()),
-        None => false,
-    }
-}
-
 /// The context of a nested path that strictly encloses this context; any other path is refused with `NO_SUCH_PATH` at
 /// `at`.
 #[tactic(auto, unfolding(agg_reading::specs::Metrics::enclosing_at, agg_reading::specs::Query::nested_at, agg_reading::specs::Fields::is_in_context))]
 pub fn enclosing(
     alloc: Global,
-    mapping: &Mapping,
+    mapping: &OrderedMapping<'_>,
     context: u32,
     at: &At<'_>,
     path: &str,
 ) -> Result<u32, RequestFault>
-    requires { IsOrdered mapping.now }
     ensures { Gives (λ x. x) result (enclosing_at mapping.now context (pointer at.now) path.now) }
 {
-    if !encloses(mapping, path, context) {
+    if !mapping.encloses(path.as_bytes(), context) {
         return at.refuse(alloc, NO_SUCH_PATH);
     }
     let (place, _) = nested(alloc, mapping, 0, at, path)?;

@@ -7,15 +7,15 @@ ghost use Rattle.json_walk.specs.Places.{pointer};
 ghost use Rattle.agg_reading.specs.Reading.{Gives};
 ghost use Rattle.agg_reading.specs.Json.{optional, is_among};
 ghost use Rattle.agg_reading.specs.Filters.{listed_from, named_from, filter_list_at, is_taken, free_key, other_of, filters_in, filters_at};
-ghost use Rattle.agg_mapping.specs.Paths.{IsOrdered};
 
 use crate::names::check_name;
 use crate::numbers::text_in;
+use agg_mapping::OrderedMapping;
 use agg_model::body_refusal::{
     LIMIT_EXCEEDED, MISSING_MEMBER, OUT_OF_RANGE, UNKNOWN_MEMBER, WRONG_TYPE,
 };
 use agg_model::limits::{MAX_FILTERS, MAX_QUERIES};
-use agg_model::{Kind, List, Mapping, Query, Text};
+use agg_model::{Kind, List, Query, Text};
 use agg_query::counted_query_at;
 use agg_reading::RequestFault;
 use json_walk::{At, check_names, member, object, truth_in};
@@ -30,13 +30,12 @@ type FilterList = (Option<List<Text>>, List<Query>, u32);
 #[tactic(auto, unfolding(agg_reading::specs::Filters::listed_from))]
 fn listed(
     alloc: Global,
-    mapping: &Mapping,
+    mapping: &OrderedMapping<'_>,
     context: u32,
     before: u32,
     at: &At<'_>,
     items: &Vec<Value>,
 ) -> Result<(List<Query>, u32), RequestFault>
-    requires ordered { IsOrdered mapping.now }
     requires count { before ≤ MAX_QUERIES }
     ensures value { Gives (λ x. x) result
         (listed_from mapping.now context (pointer at.now) 0 [] before (items_view items.now.items)) }
@@ -60,13 +59,12 @@ fn listed(
 #[tactic(auto, unfolding(agg_reading::specs::Filters::named_from))]
 fn named(
     alloc: Global,
-    mapping: &Mapping,
+    mapping: &OrderedMapping<'_>,
     context: u32,
     before: u32,
     at: &At<'_>,
     members: &Map<String, Value>,
 ) -> Result<(List<Text>, List<Query>, u32), RequestFault>
-    requires ordered { IsOrdered mapping.now }
     requires count { before ≤ MAX_QUERIES }
     ensures value { Gives (λ x. x) result
         (named_from mapping.now context (pointer at.now) [] [] before (members_view members.now.entries)) }
@@ -92,13 +90,12 @@ fn named(
 /// A list of filters, which is refused with `OUT_OF_RANGE` where it is empty.
 fn filter_items(
     alloc: Global,
-    mapping: &Mapping,
+    mapping: &OrderedMapping<'_>,
     context: u32,
     before: u32,
     at: &At<'_>,
     items: &Vec<Value>,
 ) -> Result<FilterList, RequestFault>
-    requires ordered { IsOrdered mapping.now }
     requires count { before ≤ MAX_QUERIES }
     ensures value { Gives (λ x. x) result (filter_list_at mapping.now context before (pointer at.now) (array (items_view items.now.items))) }
     ensures count { IfOk result (λ x. x.2 ≤ MAX_QUERIES) }
@@ -113,13 +110,12 @@ fn filter_items(
 /// An object of filters, which is refused with `OUT_OF_RANGE` where it is empty.
 fn filter_members(
     alloc: Global,
-    mapping: &Mapping,
+    mapping: &OrderedMapping<'_>,
     context: u32,
     before: u32,
     at: &At<'_>,
     members: &Map<String, Value>,
 ) -> Result<FilterList, RequestFault>
-    requires ordered { IsOrdered mapping.now }
     requires count { before ≤ MAX_QUERIES }
     ensures value { Gives (λ x. x) result (filter_list_at mapping.now context before (pointer at.now) (object (members_view members.now.entries))) }
     ensures count { IfOk result (λ x. x.2 ≤ MAX_QUERIES) }
@@ -135,13 +131,12 @@ fn filter_members(
 #[tactic(auto, unfolding(agg_reading::specs::Filters::filter_list_at))]
 fn filter_list(
     alloc: Global,
-    mapping: &Mapping,
+    mapping: &OrderedMapping<'_>,
     context: u32,
     before: u32,
     at: &At<'_>,
     value: &Value,
 ) -> Result<FilterList, RequestFault>
-    requires ordered { IsOrdered mapping.now }
     requires count { before ≤ MAX_QUERIES }
     ensures value { Gives (λ x. x) result (filter_list_at mapping.now context before (pointer at.now) (view value.now)) }
     ensures count { IfOk result (λ x. x.2 ≤ MAX_QUERIES) }
@@ -156,13 +151,12 @@ fn filter_list(
 /// The filters in the member `filters`; none where it is absent.
 fn filter_list_in(
     alloc: Global,
-    mapping: &Mapping,
+    mapping: &OrderedMapping<'_>,
     context: u32,
     before: u32,
     at: &At<'_>,
     members: &Map<String, Value>,
 ) -> Result<Option<FilterList>, RequestFault>
-    requires ordered { IsOrdered mapping.now }
     requires count { before ≤ MAX_QUERIES }
     ensures value { Gives (λ x. x) result
         (optional (filter_list_at mapping.now context before) (codes "filters") (pointer at.now) (members_view members.now.entries)) }
@@ -236,13 +230,12 @@ fn other_key(
 #[tactic(auto, unfolding(agg_reading::specs::Filters::filters_in))]
 fn filters_from(
     alloc: Global,
-    mapping: &Mapping,
+    mapping: &OrderedMapping<'_>,
     context: u32,
     before: u32,
     at: &At<'_>,
     members: &Map<String, Value>,
 ) -> Result<(Kind, u32), RequestFault>
-    requires ordered { IsOrdered mapping.now }
     requires count { before ≤ MAX_QUERIES }
     ensures value { Gives (λ x. x) result (filters_in mapping.now context before (pointer at.now) (members_view members.now.entries)) }
     ensures count { IfOk result (λ x. x.1 ≤ MAX_QUERIES) }
@@ -266,13 +259,12 @@ fn filters_from(
 #[tactic(auto, unfolding(agg_reading::specs::Filters::filters_at))]
 pub fn filters(
     alloc: Global,
-    mapping: &Mapping,
+    mapping: &OrderedMapping<'_>,
     context: u32,
     before: u32,
     at: &At<'_>,
     value: &Value,
 ) -> Result<(Kind, u32), RequestFault>
-    requires ordered { IsOrdered mapping.now }
     requires count { before ≤ MAX_QUERIES }
     ensures value { Gives (λ x. x) result (filters_at mapping.now context before (pointer at.now) (view value.now)) }
     ensures count { IfOk result (λ x. x.1 ≤ MAX_QUERIES) }

@@ -6,12 +6,12 @@ ghost use Rattle.json_walk.specs.Places.{pointer};
 ghost use Rattle.agg_reading.specs.Reading.{Gives};
 ghost use Rattle.agg_reading.specs.Json.{optional};
 ghost use Rattle.agg_reading.specs.Histogram.{is_at_most, ordered_bounds, bounds_at, unbounded, lies_within, histogram_ranges_in, histogram_counts_in, histogram_rules, histogram_in, histogram_at};
-ghost use Rattle.agg_mapping.specs.Paths.{IsOrdered};
 
 use crate::fields::whole_field_in;
 use crate::orders::{orders_in, orders_or};
+use agg_mapping::OrderedMapping;
 use agg_model::body_refusal::{MISSING_MEMBER, OUT_OF_RANGE, UNKNOWN_MEMBER, WRONG_TYPE};
-use agg_model::{Bounds, Field, FieldKind, Kind, List, Mapping, Scalar};
+use agg_model::{Bounds, Field, FieldKind, Kind, List, Scalar};
 use agg_query::missing_in;
 use agg_reading::{NamedOrder, RequestFault};
 use json_walk::{At, check_names, member, object, signed_in, truth_in, whole_in};
@@ -190,11 +190,10 @@ fn histogram_over(
 #[tactic(auto, unfolding(agg_reading::specs::Histogram::histogram_at))]
 pub fn histogram(
     alloc: Global,
-    mapping: &Mapping,
+    mapping: &OrderedMapping<'_>,
     at: &At<'_>,
     value: &Value,
 ) -> Result<(Kind, List<NamedOrder>), RequestFault>
-    requires { IsOrdered mapping.now }
     ensures { Gives (λ x. x) result (histogram_at mapping.now (pointer at.now) (view value.now)) }
 {
     let members = object(alloc, WRONG_TYPE, at, value)?;

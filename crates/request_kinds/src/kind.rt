@@ -5,15 +5,15 @@ ghost use Rattle.serde_json.specs.View.{view};
 ghost use Rattle.json_walk.specs.Places.{pointer};
 ghost use Rattle.agg_reading.specs.Reading.{Gives};
 ghost use Rattle.agg_reading.specs.Aggregations.{kind_name, kind_at};
-ghost use Rattle.agg_mapping.specs.Paths.{IsOrdered};
 
 use crate::composite::composite;
 use crate::filters::filters;
 use crate::histogram::histogram;
 use crate::metrics::{any_metric, global, missing, nested_context, number_metric, outer_context};
 use crate::terms::terms;
+use agg_mapping::OrderedMapping;
 use agg_model::limits::MAX_QUERIES;
-use agg_model::{Kind, List, Mapping};
+use agg_model::{Kind, List};
 use agg_query::counted_query_at;
 use agg_reading::{KindName, ReadKind, RequestFault};
 use json_walk::At;
@@ -62,13 +62,12 @@ fn plain(alloc: Global, within: u32, queries: u32, kind: Kind) -> ReadKind
 pub fn kind_at(
     alloc: Global,
     name: KindName,
-    mapping: &Mapping,
+    mapping: &OrderedMapping<'_>,
     context: u32,
     before: u32,
     at: &At<'_>,
     value: &Value,
 ) -> Result<ReadKind, RequestFault>
-    requires ordered { IsOrdered mapping.now }
     requires count { before ≤ MAX_QUERIES }
     ensures value { Gives (λ k. k) result (kind_at name mapping.now context before (pointer at.now) (view value.now)) }
     ensures count { IfOk result (λ k. k.queries ≤ MAX_QUERIES) }

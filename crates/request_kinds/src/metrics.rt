@@ -7,11 +7,11 @@ ghost use Rattle.serde_json.specs.View.{view, members_view};
 ghost use Rattle.json_walk.specs.Places.{pointer};
 ghost use Rattle.agg_reading.specs.Reading.{Gives};
 ghost use Rattle.agg_reading.specs.Metrics.{metered_in, number_metric_at, any_metric_at, missing_kind_at, global_at, nested_context_at, enclosing_at, outer_of, outer_context_at};
-ghost use Rattle.agg_mapping.specs.Paths.{IsOrdered};
 
 use crate::fields::{enclosing, whole_field_in};
+use agg_mapping::OrderedMapping;
 use agg_model::body_refusal::{NO_SUCH_PATH, UNKNOWN_MEMBER, WRONG_TYPE};
-use agg_model::{Field, Kind, Mapping, Scalar};
+use agg_model::{Field, Kind, Scalar};
 use agg_query::{field_in, missing_in, path_in};
 use agg_reading::RequestFault;
 use json_walk::{At, check_names, member, object, text};
@@ -37,11 +37,10 @@ fn metered(
 #[tactic(auto, unfolding(agg_reading::specs::Metrics::number_metric_at))]
 pub fn number_metric(
     alloc: Global,
-    mapping: &Mapping,
+    mapping: &OrderedMapping<'_>,
     at: &At<'_>,
     value: &Value,
 ) -> Result<(u32, Option<Scalar>), RequestFault>
-    requires { IsOrdered mapping.now }
     ensures { Gives (λ x. x) result (number_metric_at mapping.now (pointer at.now) (view value.now)) }
 {
     let members = object(alloc, WRONG_TYPE, at, value)?;
@@ -54,11 +53,10 @@ pub fn number_metric(
 #[tactic(auto, unfolding(agg_reading::specs::Metrics::any_metric_at))]
 pub fn any_metric(
     alloc: Global,
-    mapping: &Mapping,
+    mapping: &OrderedMapping<'_>,
     at: &At<'_>,
     value: &Value,
 ) -> Result<(u32, Option<Scalar>), RequestFault>
-    requires { IsOrdered mapping.now }
     ensures { Gives (λ x. x) result (any_metric_at mapping.now (pointer at.now) (view value.now)) }
 {
     let members = object(alloc, WRONG_TYPE, at, value)?;
@@ -71,11 +69,10 @@ pub fn any_metric(
 #[tactic(auto, unfolding(agg_reading::specs::Metrics::missing_kind_at))]
 pub fn missing(
     alloc: Global,
-    mapping: &Mapping,
+    mapping: &OrderedMapping<'_>,
     at: &At<'_>,
     value: &Value,
 ) -> Result<Kind, RequestFault>
-    requires { IsOrdered mapping.now }
     ensures { Gives (λ k. k) result (missing_kind_at mapping.now (pointer at.now) (view value.now)) }
 {
     let members = object(alloc, WRONG_TYPE, at, value)?;
@@ -98,12 +95,11 @@ pub fn global(alloc: Global, at: &At<'_>, value: &Value) -> Result<Kind, Request
 #[tactic(auto, unfolding(agg_reading::specs::Metrics::nested_context_at))]
 pub fn nested_context(
     alloc: Global,
-    mapping: &Mapping,
+    mapping: &OrderedMapping<'_>,
     context: u32,
     at: &At<'_>,
     value: &Value,
 ) -> Result<u32, RequestFault>
-    requires { IsOrdered mapping.now }
     ensures { Gives (λ x. x) result (nested_context_at mapping.now context (pointer at.now) (view value.now)) }
 {
     let members = object(alloc, WRONG_TYPE, at, value)?;
@@ -116,12 +112,11 @@ pub fn nested_context(
 /// at `at`.
 fn outer(
     alloc: Global,
-    mapping: &Mapping,
+    mapping: &OrderedMapping<'_>,
     context: u32,
     at: &At<'_>,
     members: &Map<String, Value>,
 ) -> Result<u32, RequestFault>
-    requires { IsOrdered mapping.now }
     ensures { Gives (λ x. x) result
         (outer_of mapping.now context (pointer at.now) (get_member (codes "path") (members_view members.now.entries))) }
 {
@@ -140,12 +135,11 @@ fn outer(
 #[tactic(auto, unfolding(agg_reading::specs::Metrics::outer_context_at))]
 pub fn outer_context(
     alloc: Global,
-    mapping: &Mapping,
+    mapping: &OrderedMapping<'_>,
     context: u32,
     at: &At<'_>,
     value: &Value,
 ) -> Result<u32, RequestFault>
-    requires { IsOrdered mapping.now }
     ensures { Gives (λ x. x) result (outer_context_at mapping.now context (pointer at.now) (view value.now)) }
 {
     let members = object(alloc, WRONG_TYPE, at, value)?;

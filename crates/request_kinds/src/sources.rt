@@ -5,17 +5,17 @@ ghost use Rattle.serde_json.specs.View.{view, items_view, members_view};
 ghost use Rattle.json_walk.specs.Places.{pointer};
 ghost use Rattle.agg_reading.specs.Reading.{Gives};
 ghost use Rattle.agg_reading.specs.Composite.{source_named, terms_source_at, histogram_source_at, source_by, source_at, source_name_at, sole_of, named_source_at, sources_from, some_sources, sources_at};
-ghost use Rattle.agg_mapping.specs.Paths.{IsOrdered};
 
 use crate::fields::whole_field_in;
 use crate::names::check_name;
 use crate::orders::direction_in;
+use agg_mapping::OrderedMapping;
 use agg_model::body_refusal::{
     LIMIT_EXCEEDED, MISSING_MEMBER, NOT_ONE_MEMBER, OUT_OF_RANGE, UNKNOWN_KIND, UNKNOWN_MEMBER,
     WRONG_TYPE,
 };
 use agg_model::limits::MAX_SOURCES;
-use agg_model::{CompositeSource, FieldKind, List, Mapping, Text};
+use agg_model::{CompositeSource, FieldKind, List, Text};
 use agg_query::field_in;
 use agg_reading::{RequestFault, SourceName};
 use json_walk::{At, check_names, list, object, sole_member, truth_in, whole_in};
@@ -41,12 +41,11 @@ fn source_named(name: &str) -> Option<SourceName>
 #[tactic(auto, unfolding(agg_reading::specs::Composite::terms_source_at))]
 fn terms_source(
     alloc: Global,
-    mapping: &Mapping,
+    mapping: &OrderedMapping<'_>,
     name: &str,
     at: &At<'_>,
     value: &Value,
 ) -> Result<Source, RequestFault>
-    requires { IsOrdered mapping.now }
     ensures { Gives (λ x. x) result (terms_source_at mapping.now name.now (pointer at.now) (view value.now)) }
 {
     let members = object(alloc, WRONG_TYPE, at, value)?;
@@ -74,12 +73,11 @@ fn terms_source(
 #[tactic(auto, unfolding(agg_reading::specs::Composite::histogram_source_at))]
 fn histogram_source(
     alloc: Global,
-    mapping: &Mapping,
+    mapping: &OrderedMapping<'_>,
     name: &str,
     at: &At<'_>,
     value: &Value,
 ) -> Result<Source, RequestFault>
-    requires { IsOrdered mapping.now }
     ensures { Gives (λ x. x) result (histogram_source_at mapping.now name.now (pointer at.now) (view value.now)) }
 {
     let members = object(alloc, WRONG_TYPE, at, value)?;
@@ -111,12 +109,11 @@ fn histogram_source(
 fn source_by(
     alloc: Global,
     kind: Option<SourceName>,
-    mapping: &Mapping,
+    mapping: &OrderedMapping<'_>,
     name: &str,
     at: &At<'_>,
     value: &Value,
 ) -> Result<Source, RequestFault>
-    requires { IsOrdered mapping.now }
     ensures { Gives (λ x. x) result (source_by kind mapping.now name.now (pointer at.now) (view value.now)) }
 {
     match kind {
@@ -130,12 +127,11 @@ fn source_by(
 #[tactic(auto, unfolding(agg_reading::specs::Composite::source_at, agg_reading::specs::Json::sole_at))]
 fn source(
     alloc: Global,
-    mapping: &Mapping,
+    mapping: &OrderedMapping<'_>,
     name: &str,
     at: &At<'_>,
     value: &Value,
 ) -> Result<Source, RequestFault>
-    requires { IsOrdered mapping.now }
     ensures { Gives (λ x. x) result (source_at mapping.now name.now (pointer at.now) (view value.now)) }
 {
     let members = object(alloc, WRONG_TYPE, at, value)?;
@@ -163,11 +159,10 @@ fn check_source_name(alloc: Global, at: &At<'_>, value: &Value) -> Result<(), Re
 #[tactic(auto, unfolding(agg_reading::specs::Composite::named_source_at, agg_reading::specs::Json::sole_at))]
 fn named_source(
     alloc: Global,
-    mapping: &Mapping,
+    mapping: &OrderedMapping<'_>,
     at: &At<'_>,
     value: &Value,
 ) -> Result<Source, RequestFault>
-    requires { IsOrdered mapping.now }
     ensures { Gives (λ x. x) result (named_source_at mapping.now (pointer at.now) (view value.now)) }
 {
     let members = object(alloc, WRONG_TYPE, at, value)?;
@@ -181,11 +176,10 @@ fn named_source(
 #[tactic(auto, unfolding(agg_reading::specs::Composite::sources_from))]
 fn source_list(
     alloc: Global,
-    mapping: &Mapping,
+    mapping: &OrderedMapping<'_>,
     at: &At<'_>,
     items: &Vec<Value>,
 ) -> Result<List<Source>, RequestFault>
-    requires { IsOrdered mapping.now }
     ensures { Gives (λ x. x) result (sources_from mapping.now (pointer at.now) 0 [] (items_view items.now.items)) }
 {
     let mut sources = List::new(alloc);
@@ -203,11 +197,10 @@ fn source_list(
 /// The sources of a list, which is refused with `OUT_OF_RANGE` where it is empty.
 fn some_sources(
     alloc: Global,
-    mapping: &Mapping,
+    mapping: &OrderedMapping<'_>,
     at: &At<'_>,
     items: &Vec<Value>,
 ) -> Result<List<Source>, RequestFault>
-    requires { IsOrdered mapping.now }
     ensures { Gives (λ x. x) result (some_sources mapping.now (pointer at.now) (items_view items.now.items)) }
 {
     if items.is_empty() {
@@ -220,11 +213,10 @@ fn some_sources(
 #[tactic(auto, unfolding(agg_reading::specs::Composite::sources_at))]
 pub fn sources(
     alloc: Global,
-    mapping: &Mapping,
+    mapping: &OrderedMapping<'_>,
     at: &At<'_>,
     value: &Value,
 ) -> Result<List<Source>, RequestFault>
-    requires { IsOrdered mapping.now }
     ensures { Gives (λ x. x) result (sources_at mapping.now (pointer at.now) (view value.now)) }
 {
     let items = list(alloc, WRONG_TYPE, at, value)?;

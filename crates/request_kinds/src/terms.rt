@@ -5,13 +5,13 @@ ghost use Rattle.serde_json.specs.View.{view, members_view};
 ghost use Rattle.json_walk.specs.Places.{pointer};
 ghost use Rattle.agg_reading.specs.Reading.{Gives};
 ghost use Rattle.agg_reading.specs.Terms.{term_lists_in, term_counts_in, shard_size_of, term_sizes_in, terms_in, terms_at};
-ghost use Rattle.agg_mapping.specs.Paths.{IsOrdered};
 
 use crate::numbers::{choice_in, small_in};
 use crate::orders::{orders_in, orders_or};
+use agg_mapping::OrderedMapping;
 use agg_model::body_refusal::{UNKNOWN_MEMBER, WRONG_TYPE};
 use agg_model::limits::MAX_SIZE;
-use agg_model::{Field, FieldKind, Kind, List, Mapping, Probe, Scalar};
+use agg_model::{Field, FieldKind, Kind, List, Probe, Scalar};
 use agg_query::{field_in, missing_in, probe_list_in};
 use agg_reading::{NamedOrder, RequestFault};
 use json_walk::{At, check_names, object, truth_in, whole_in};
@@ -131,11 +131,10 @@ fn terms_over(
 #[tactic(auto, unfolding(agg_reading::specs::Terms::terms_at))]
 pub fn terms(
     alloc: Global,
-    mapping: &Mapping,
+    mapping: &OrderedMapping<'_>,
     at: &At<'_>,
     value: &Value,
 ) -> Result<(Kind, List<NamedOrder>), RequestFault>
-    requires { IsOrdered mapping.now }
     ensures { Gives (λ x. x) result (terms_at mapping.now (pointer at.now) (view value.now)) }
 {
     let members = object(alloc, WRONG_TYPE, at, value)?;
