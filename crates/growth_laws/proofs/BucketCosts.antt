@@ -1,9 +1,9 @@
 -- What the rows of one key add to the cost of a node.
 use Rattle.std.specs.Prelude.{◌≡◌, refl, ℕ, ◌+◌, true, false, cond, T, List, [], ◌∷◌, find, map, None, Option, Some, sum_by, unwrap_or}
 use Rattle.std.specs.Option.{option_map_or}
-use Rattle.std.specs.Ordering.{is_eq, is_lt, match_ordering}
+use Rattle.std.specs.Ordering.{is_eq, match_ordering}
 use Rattle.std.specs.declared.cmp.Ordering.TheVariants.{Less, Equal, Greater}
-use Rattle.std.proofs.Common.{sym, ◌∙◌, ap, subst, arith}
+use Rattle.std.proofs.Common.{sym, subst, arith}
 use Rattle.std.proofs.lemmas.Bool.{or_parts}
 use Rattle.std.proofs.lemmas.List.Sums.{sum_by-cons}
 use Rattle.agg_model.specs.declared.key.Key.{Key}
@@ -14,8 +14,8 @@ use Rattle.agg_evaluation.specs.KeyOrder.{has_key, key_cmp, key_eq}
 use Rattle.agg_evaluation.specs.Orders.{bucket_key}
 use Rattle.agg_evaluation.specs.Rows.{PlacedRow}
 use Rattle.agg_evaluation.specs.Trees.{is_ascending}
-use Rattle.agg_evaluation.proofs.KeyLists.{below-absent, below-trans, is_below}
-use Rattle.list_laws.proofs.Booleans.{and_left, and_right, both}
+use Rattle.agg_evaluation.proofs.KeyLists.{below-absent, below-trans}
+use Rattle.list_laws.proofs.Booleans.{and_left, and_right}
 use Rattle.evaluation_laws.proofs.CostLaws.{cost-Keyed}
 use Rattle.growth_laws.specs.BucketBytes.{bucket_bytes, bucket_or_empty}
 use Rattle.growth_laws.specs.Gathering.{Gatherer, empty_bucket, gathered_bucket, put_rows}
