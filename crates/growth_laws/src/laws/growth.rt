@@ -1,5 +1,5 @@
 //! Laws of growth: what one more row makes of a tree.
-ghost use Rattle.std.specs.Prelude.{◌≡◌, ◌+◌, length, List, [], ◌∷◌, ◌++◌, map, ℕ, IsTrue, true, false, flat_map, slice_get, Some};
+ghost use Rattle.std.specs.Prelude.{◌≡◌, ◌+◌, length, List, [], ◌∷◌, ◌++◌, map, ℕ, IsTrue, true, false, find, flat_map, slice_get, Some};
 ghost use Rattle.std.specs.List.{list_all, list_any};
 ghost use Rattle.std.proofs.Math.ListN.{set};
 ghost use Rattle.agg_model.specs.declared.aggregation.Agg.{Agg, out-Agg};
@@ -12,7 +12,7 @@ ghost use Rattle.agg_model.specs.declared.partial.Bucket.{Bucket};
 ghost use Rattle.agg_model.specs.declared.row.Row.{Row};
 ghost use Rattle.agg_evaluation.specs.Placement.{is_placed};
 ghost use Rattle.agg_evaluation.specs.Trace.{built, global_roots, is_global, matched};
-ghost use Rattle.agg_evaluation.specs.KeyOrder.{has_key};
+ghost use Rattle.agg_evaluation.specs.KeyOrder.{has_key, key_eq};
 ghost use Rattle.agg_evaluation.specs.Orders.{bucket_key};
 ghost use Rattle.agg_evaluation.specs.Rows.{PlacedRow, enclosing, is_within, shard_rows};
 ghost use Rattle.agg_evaluation.specs.Shard.{collected_node, sorted_by_key};
@@ -21,7 +21,12 @@ ghost use Rattle.growth_laws.specs.Cutting.{cut_tree};
 ghost use Rattle.growth_laws.specs.Arrived.{AreDistinct, IsAt};
 ghost use Rattle.growth_laws.specs.Apart.{EncloseNone, IsAround};
 ghost use Rattle.growth_laws.specs.Documents.{IsCutAt, lie_before, lie_behind};
-ghost use Rattle.growth_laws.specs.Gathering.{counted, gathered};
+ghost use Rattle.growth_laws.specs.Gathering.{Gatherer, counted, gathered, gathered_bucket, put_rows};
+ghost use Rattle.growth_laws.specs.BucketBytes.{bucket_bytes, bucket_or_empty};
+ghost use Rattle.std.specs.Option.{option_map_or};
+ghost use Rattle.agg_model.specs.declared.partial.Node.TheVariants.{Keyed};
+ghost use Rattle.agg_evaluation.specs.Cost.{node_cost};
+ghost use Rattle.agg_evaluation.specs.Trees.{is_ascending};
 ghost use Rattle.growth_laws.specs.Steps.{tree_after, with_matched, with_root};
 
 /// The tree of some rows and one more is the grown tree of these rows, for aggregations that are no
@@ -96,6 +101,17 @@ pub fn one_row_is_gathered_at_its_keys()
         all_keys all k (row ∷ []) ≡ keys all k row }
     ensures rows { (all : List PlacedRow) (k : Kind) (row : PlacedRow) (q : Key) →
         has_key q (keys all k row) ≡ true → group all k (row ∷ []) q ≡ row ∷ [] }
+{}
+
+/// What the rows of a key add to the cost of a node: the bytes of its bucket with these rows, less
+/// those of its bucket before, where there was one.
+pub fn rows_add_the_bytes_of_their_bucket()
+    ensures { (gs : List Gatherer) (rows : List PlacedRow) (k : Key) (bs : List Bucket)
+        (error full cut : ℕ) → IsTrue (is_ascending (map bucket_key bs)) →
+        node_cost (Keyed (put_rows gs rows k bs) error full cut)
+        + option_map_or bucket_bytes (find (λ b. key_eq k (bucket_key b)) bs) 0
+        ≡ node_cost (Keyed bs error full cut)
+        + bucket_bytes (gathered_bucket gs rows (bucket_or_empty gs k bs)) }
 {}
 
 /// The trees of a task grow root by root: each matched root is gathered by the aggregations that
