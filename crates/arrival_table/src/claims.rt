@@ -1,5 +1,5 @@
 // How a desk comes to a task and its ticket.
-ghost use Rattle.std.specs.Prelude.{◌≡◌, ◌≤◌, ◌<◌, ℕ, IfSome, IfNone};
+ghost use Rattle.std.specs.Prelude.{◌≡◌, ◌+◌, ◌≤◌, ◌<◌, ℕ, IfSome, IfNone};
 ghost use Rattle.arrival_moves.specs.AfterMove.{after_claim, after_take_task, after_arrive};
 ghost use Rattle.arrival_moves.specs.Hands.{HasItem};
 ghost use Rattle.arrival_moves.specs.Items.{is_claimed, is_loaded};
@@ -21,6 +21,8 @@ impl<A: Labelled, R: Labelled> Arrivals<A, R> {
         requires plan { Z.plan ≡ self.now.plan }
         requires of { IsOf self.now desk.old }
         requires left { 1 ≤ desk.old.view.left }
+        ensures of { IsOf self.now desk.new }
+        ensures numbers { (desk.new.view.left + 1 ≡ desk.old.view.left) × (desk.new.view.drawn ≡ desk.old.view.drawn + 1) }
         ensures some { IfSome result (λ n. (n < task_count self.now.plan) × (desk.old.view.drawn ≤ n) × (desk.new ≡ with_view desk.old (after_claim self.now.plan desk.old.view n))) }
         ensures none { IfNone result ((n : ℕ) × (task_count self.now.plan ≤ n) × (desk.new ≡ with_view desk.old (after_claim self.now.plan desk.old.view n))) }
     {
@@ -41,6 +43,8 @@ impl<A: Labelled, R: Labelled> Arrivals<A, R> {
     pub fn claim(&self, desk: &mut Desk<A, R>) -> Option<u32>
         requires of { IsOf self.now desk.old }
         requires left { 1 ≤ desk.old.view.left }
+        ensures of { IsOf self.now desk.new }
+        ensures numbers { (desk.new.view.left + 1 ≡ desk.old.view.left) × (desk.new.view.drawn ≡ desk.old.view.drawn + 1) }
         ensures some { IfSome result (λ n. (n < task_count self.now.plan) × (desk.old.view.drawn ≤ n) × (desk.new ≡ with_view desk.old (after_claim self.now.plan desk.old.view n))) }
         ensures none { IfNone result ((n : ℕ) × (task_count self.now.plan ≤ n) × (desk.new ≡ with_view desk.old (after_claim self.now.plan desk.old.view n))) }
     {

@@ -16,6 +16,8 @@ mod rule;
 mod sharing;
 mod stops;
 mod table;
+#[cfg(test)]
+mod tests;
 
 pub use cell::Labelled;
 pub use desk::Desk;

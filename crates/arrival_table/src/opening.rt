@@ -15,7 +15,7 @@ use crate::cell::{Cell, Labelled};
 use crate::desk::Desk;
 use crate::places::Places;
 use crate::table::Arrivals;
-use agg_model::list::List;
+use agg_model::List;
 use arrival_moves::Plan;
 use atomic_table::{Refused, Table};
 use std::alloc::{AllocError, Global};

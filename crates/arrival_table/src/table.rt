@@ -15,6 +15,7 @@ use std::marker::Model;
 
 /// The table of arrivals, shared by `&`. It has one slot for each task, one for each result and one for each batch.
 /// Between any two steps of running threads it and the views of all desks meet `ArrivalRule`.
+#[derive(Drop)]
 pub struct Arrivals<A: Labelled, R: Labelled> {
     pub(crate) table: Table<Cell<A, R>, Known, Plan, ArrivalRule<A, R>, Global>,
     pub(crate) places: Places,
