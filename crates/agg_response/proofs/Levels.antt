@@ -1,5 +1,5 @@
 -- Folds of aggregations and of keys, one level at a time.
-use Rattle.std.specs.Prelude.{◌≡◌, refl, ℕ, ◌&&◌, List, [], ◌∷◌, ◌++◌, map, flat_map, codes}
+use Rattle.std.specs.Prelude.{◌≡◌, refl, ◌&&◌, List, [], ◌∷◌, ◌++◌, map, flat_map, codes}
 use Rattle.std.specs.List.{list_all}
 use Rattle.std.proofs.Common.{sym, ◌∙◌, ap}
 use Rattle.agg_evaluation.proofs.AggFolds.{fold_agg-level}
@@ -7,11 +7,8 @@ use Rattle.serde_json.specs.Data.{Data}
 use Rattle.agg_model.specs.declared.key.Key.{Key}
 use Rattle.agg_model.specs.declared.key.Key.TheVariants as key
 use Rattle.agg_model.specs.declared.aggregation.Kind.{Kind}
-use Rattle.agg_model.specs.declared.aggregation.Agg.{Agg, Agg', out-Agg, roll-Agg, roll-out-Agg}
-use Rattle.agg_model.specs.declared.aggregation.Agg.TheOpen.{Agg-F}
-use Rattle.agg_evaluation.specs.Folds.{fold_agg, fold_aggs, fold_key}
+use Rattle.agg_model.specs.declared.aggregation.Agg.{Agg, out-Agg}
 use Rattle.agg_evaluation.proofs.FoldLaws.{fold_key-Many}
-use Rattle.agg_evaluation.proofs.Computing.{computing}
 use Rattle.agg_model.specs.declared.answer.NodeAnswer.{NodeAnswer, out-NodeAnswer}
 use Rattle.agg_spec.specs.AnswerTree.{Printer, printer, tree_at}
 use Rattle.agg_spec.specs.RangeCheck.{Checker, checker, check_bucket, unless, sum_in_range, key_in_range, part_in_range}

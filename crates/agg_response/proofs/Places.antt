@@ -1,7 +1,7 @@
 -- What is left of a list from a place on, where the item at that place is known.
-use Rattle.std.specs.Prelude.{◌≡◌, refl, ℕ, ◌+◌, ◌<◌, ◌≤◌, length, List, [], ◌∷◌, ◌++◌, Option, Some, None, slice_get, option_copied, Bool, true, false, ◌&&◌, map, zip}
+use Rattle.std.specs.Prelude.{◌≡◌, refl, ℕ, ◌+◌, ◌<◌, ◌≤◌, length, List, [], ◌∷◌, Some, None, slice_get, Bool, true, map, zip}
 use Rattle.std.specs.List.{list_all}
-use Rattle.std.proofs.Common.{◌∙◌, ap, sym, subst, drop, get_or, arith, inl, inr, Bor}
+use Rattle.std.proofs.Common.{◌∙◌, ap, sym, drop, get_or, inl, inr}
 use Rattle.std.proofs.lemmas.List.{drop_more, drop_all}
 use Rattle.std.proofs.lemmas.Option.{slice_get_within, get_or_from_slice_get, slice_get_cases}
 use Rattle.list_laws.proofs.Booleans.{and_first, and_second}

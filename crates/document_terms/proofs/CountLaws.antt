@@ -1,5 +1,5 @@
 -- Counters by word, raised one after another, come to how often each word stands in the list.
-use Rattle.std.specs.Prelude.{◌≡◌, refl, ℕ, ◌+◌, ◌≤◌, Bool, true, false, cond, ◌||◌, List, [], ◌∷◌, ◌++◌, map, filter, flat_map, length, sum_by, Some, None, unwrap_or, false}
+use Rattle.std.specs.Prelude.{◌≡◌, refl, ℕ, ◌+◌, ◌≤◌, true, false, cond, List, [], ◌∷◌, ◌++◌, map, filter, flat_map, length, sum_by, Some, None, unwrap_or, false}
 use Rattle.std.specs.List.{cons_option}
 use Rattle.std.specs.List.Sorted.{IsStrictlySortedBy}
 use Rattle.std.specs.declared.cmp.Ordering.{Ordering}
@@ -16,13 +16,13 @@ use Rattle.agg_model.specs.declared.key.Key.{Key}
 use Rattle.agg_model.specs.declared.key.Key.TheVariants.{Word}
 use Rattle.agg_model.specs.declared.row.Scalar.TheVariants as scalar
 use Rattle.agg_model.specs.declared.row.Document.{Document}
-use Rattle.agg_evaluation.specs.KeyOrder.{key_cmp, key_eq}
+use Rattle.agg_evaluation.specs.KeyOrder.{key_eq}
 use Rattle.agg_evaluation.specs.Rows.{PlacedRow}
 use Rattle.agg_evaluation.specs.Keys.{keys, distinct_keys}
 use Rattle.agg_evaluation.specs.Groups.{group}
 use Rattle.agg_evaluation.specs.Counters.{raised, raised_by}
 use Rattle.agg_evaluation.proofs.Computing.{computing}
-use Rattle.agg_evaluation.proofs.CounterLaws.{counters-groups, raised_by-sum}
+use Rattle.agg_evaluation.proofs.CounterLaws.{counters-groups}
 use Rattle.list_laws.proofs.Lists.{map-append, filter_map-append}
 use Rattle.document_terms.specs.Terms.{word_of, words_of, times}
 use Rattle.document_terms.specs.SmallSearch.{terms_kind}
