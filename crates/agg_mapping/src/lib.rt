@@ -20,7 +20,7 @@ mod tests;
 pub use collected::Collected;
 pub use fault::MapFault;
 pub use index_line::index_line_of;
-pub use lookup::{field, find_field, find_nested, is_object, nested};
+pub use lookup::{field, nested};
 pub use mapping::mapping_of;
 pub use ordered::OrderedMapping;
 pub use paths::{HasPath, first, is_beneath};
