@@ -3,7 +3,8 @@ use Rattle.std.specs.Prelude.{◌≡◌, refl, ℕ, ◌+◌, ◌-◌, ◌<◌, �
 use Rattle.std.specs.List.{list_all, last_or, AllByRecursion}
 use Rattle.std.specs.Ordering.{match_ordering}
 use Rattle.std.specs.declared.cmp.Ordering.TheVariants.{Less, Equal, Greater}
-use Rattle.std.proofs.Common.{sym, ◌∙◌, ap, subst, arith, length-map}
+use Rattle.std.proofs.Common.{sym, ◌∙◌, ap, subst, arith}
+use Rattle.std.proofs.lemmas.List.{length-map}
 use Rattle.std.proofs.Math.Facts.{yes_ltb}
 use Rattle.std.proofs.lemmas.Bool.{le-leb}
 use Rattle.std.proofs.lemmas.List.Sums.{sum_by-cons, sum_by-take-le}
@@ -182,7 +183,7 @@ module _ (words : List (List ℕ)) where
   few-buckets name =
       let returned = ap (λ (l : NodeAnswer-F BucketAnswer NodeAnswer). length l.buckets + sum (map (λ (b : BucketAnswer). 0) l.buckets)) (out-roll-NodeAnswer (level name)) in
       let buckets = map (λ (b : Bucket). finish_bucket [] (Some (error_of b)) b) first in
-      omega (arith, returned, sum-zeros buckets, length-map (λ (b : Bucket). finish_bucket [] (Some (error_of b)) b) first, length-take 10 (sorted (bucket_cmp [] by_count) (frequent 1 cut_parts.buckets)))
+      omega (arith, returned, sum-zeros buckets, length-map first (λ (b : Bucket). finish_bucket [] (Some (error_of b)) b), length-take 10 (sorted (bucket_cmp [] by_count) (frequent 1 cut_parts.buckets)))
     where
       sum-zeros : (bs : List BucketAnswer) → sum (map (λ b. 0) bs) ≡ 0
       sum-zeros [] = refl

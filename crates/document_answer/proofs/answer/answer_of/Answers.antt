@@ -1,4 +1,4 @@
-use Rattle.std.proofs.Common.{◌≡◌, ◌≤◌, sym, ◌∙◌, ap, subst, arith, Some, None, T}
+use Rattle.std.proofs.Common.{◌≡◌, ◌≤◌, sym, ◌∙◌, ap, subst, arith, None, T}
 use Rattle.list_laws.proofs.Options.{none_some}
 use Rattle.list_laws.proofs.Booleans.{true_is}
 use Rattle.agg_spec.specs.Final.{final}
