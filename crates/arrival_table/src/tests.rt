@@ -1,7 +1,10 @@
 // Desks that share one table.
-ghost use Rattle.std.specs.Prelude.{◌≡◌, ◌∷◌, [], IfOk, OnOk, OnErr, ◌≤◌};
+ghost use Rattle.std.specs.Prelude.{◌≡◌, ◌<◌, ◌∷◌, [], IfOk, IfNone};
+ghost use Rattle.arrival_moves.specs.declared.item.Item.TheVariants as item;
+ghost use Rattle.arrival_moves.specs.Plans.{task_count, search_of};
+ghost use Rattle.arrival_table.specs.Models.{IsOf};
 
-use crate::{Arrivals, Labelled, Task};
+use crate::{Arrivals, Desk, Labelled, Task};
 use agg_model::List;
 use std::alloc::{AllocError, Global};
 use std::test::Fail;
@@ -16,6 +19,27 @@ impl Labelled for Numbered {
     ghost use Rattle.arrival_moves.specs.Labels.{task_label};
 
     ghost label = { λ l. task_label l.task };
+}
+
+/// Runs a task that the desk claimed, with nothing else in hand. None where its batch is not complete, and then nothing is
+/// in hand any more.
+fn run_task(
+    table: &Arrivals<Numbered, Numbered>,
+    desk: &mut Desk<Numbered, Numbered>,
+    search: u32,
+    task: u32,
+) -> Option<u32>
+    requires of { IsOf table.now desk.old }
+    requires claimed { desk.old.view.hand ≡ item.Claimed task ∷ [] }
+    requires range { task < task_count table.now.plan }
+    requires search { search ≡ search_of table.now.plan task }
+    ensures of { IsOf table.now desk.new }
+    ensures early { IfNone result (desk.new.view.hand ≡ []) }
+{
+    let load = table.take_task(desk, task);
+    let ticket = table.arrive(desk, task);
+    table.put(desk, search, ticket, load);
+    table.count(desk, search, ticket)
 }
 
 // Two tasks of the search 0 and one of the search 1.
