@@ -4,7 +4,7 @@ use Rattle.std.specs.List.{sum_by}
 use Rattle.std.proofs.lemmas.List.Sums.{sum_by-cons}
 use Rattle.agg_model.specs.declared.row.FieldValues.{FieldValues}
 use Rattle.agg_model.specs.declared.row.Row.{Row, Row', roll-Row, out-Row, roll-out-Row}
-use Rattle.agg_model.specs.declared.row.Children.{Children, Children', roll-Children, out-Children, roll-out-Children}
+use Rattle.agg_model.specs.declared.row.Children.{Children, roll-Children, out-Children, roll-out-Children}
 use Rattle.agg_reading.specs.Store.{row_weight, children_weight, all_children_weight}
 use Rattle.agg_model.specs.Weight.{field_weight}
 

@@ -1,11 +1,11 @@
 -- Keys that compare alike are equal.
-use Rattle.std.specs.Prelude.{◌≡◌, refl, Bool, true, false, T, List, [], ◌∷◌}
+use Rattle.std.specs.Prelude.{◌≡◌, refl, Bool, true, false, List, [], ◌∷◌}
 use Rattle.std.specs.declared.cmp.Ordering.{Ordering}
 use Rattle.std.specs.declared.cmp.Ordering.TheVariants.{Less, Equal, Greater}
-use Rattle.std.specs.Ordering.{ordering_then, is_lt, is_gt, bool_cmp}
+use Rattle.std.specs.Ordering.{ordering_then, bool_cmp}
 use Rattle.std.specs.FinMap.{nat_cmp-IsAntisymmetric, int_cmp-IsAntisymmetric, slice_cmp-IsAntisymmetric}
 use Rattle.std.specs.Cmp.Lexicographic.{slice_cmp}
-use Rattle.std.proofs.Common.{sym, ◌∙◌, ap, subst}
+use Rattle.std.proofs.Common.{sym, ◌∙◌, ap}
 use Rattle.list_laws.proofs.Orders.{less_not_equal, greater_not_equal}
 use Rattle.agg_model.specs.declared.key.Key.{Key, out-Key, roll-Key, roll-out-Key, Row_of-Key, end_of-Key, more_of-Key, items-the_row-Key, items_shown-the_row-Key-0}
 use Rattle.agg_model.specs.declared.key.Key.TheBlock.{shown-the_row-Key-0}

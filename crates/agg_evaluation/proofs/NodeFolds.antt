@@ -1,10 +1,9 @@
 -- The folds over a tree, one level at a time.
 use Rattle.std.specs.Prelude.{◌≡◌, refl, ℕ, List, [], ◌∷◌, map}
-use Rattle.std.proofs.Common.{sym, ◌∙◌, ap}
+use Rattle.std.proofs.Common.{◌∙◌, ap}
 use Rattle.agg_model.specs.declared.partial.Bucket.{Bucket}
 use Rattle.agg_model.specs.declared.partial.Metric.{Metric}
 use Rattle.agg_model.specs.declared.partial.Node.{Node, Row_of-Bucket, end_of-Bucket, more_of-Bucket}
-use Rattle.agg_model.specs.declared.partial.Bucket.{Row_of-Node, end_of-Node, more_of-Node}
 use Rattle.agg_model.specs.declared.partial.Node.TheOpen.{Node-F, Bucket-F}
 use Rattle.agg_model.specs.declared.partial.Node.TheVariants as node
 use Rattle.agg_evaluation.specs.Folds.{fold_node, fold_nodes, fold_buckets}

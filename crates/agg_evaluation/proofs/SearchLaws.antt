@@ -1,5 +1,5 @@
 -- The whole of a search's results: unions of unions, any order, none, one, and that each is a result.
-use Rattle.std.specs.Prelude.{◌≡◌, refl, ℕ, suc, ◌+◌, T, List, [], ◌∷◌, ◌++◌, map, filter_map, sum_by, Option, Some, slice_get, IsPermutation}
+use Rattle.std.specs.Prelude.{◌≡◌, refl, ℕ, suc, ◌+◌, T, List, [], ◌∷◌, ◌++◌, map, filter_map, sum_by, Some, slice_get, IsPermutation}
 use Rattle.std.specs.List.{enumerate_from, cons_option}
 use Rattle.std.proofs.Common.{sym, ◌∙◌, ap, subst, arith}
 use Rattle.list_laws.proofs.Lists.{filter_map-there, joined, flat_map-map, filter_map-flat_map, filter_map-append, map-map, sum_by-map, sum_by-flat_map, enumerated, slice_get-enumerated}

@@ -1,10 +1,9 @@
 -- Two lists of trees have one whole, whichever comes first.
-use Rattle.std.specs.Prelude.{◌≡◌, refl, ℕ, zero, suc, ◌+◌, ◌+ℤ◌, Bool, true, false, ◌||◌, List, [], ◌∷◌, ◌++◌, map, filter_map, flat_map, sum_by, Some, slice_get}
+use Rattle.std.specs.Prelude.{◌≡◌, refl, ℕ, zero, suc, ◌+◌, ◌+ℤ◌, ◌||◌, List, [], ◌∷◌, ◌++◌, map, filter_map, flat_map, sum_by, Some, slice_get}
 use Rattle.std.specs.List.{reduce}
 use Rattle.std.specs.Int.{int_min, int_max}
 use Rattle.std.proofs.Common.{sym, ◌∙◌, ap, subst, arith}
 use Rattle.std.proofs.lemmas.Int.{ints}
-use Rattle.std.proofs.lemmas.List.Sums.{sum_by-append}
 use Rattle.list_laws.proofs.Sums.{sum-swap}
 use Rattle.list_laws.proofs.Booleans.{or_comm}
 use Rattle.agg_model.specs.declared.key.Key.{Key}

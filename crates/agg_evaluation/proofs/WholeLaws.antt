@@ -1,5 +1,5 @@
 -- The whole of wholes is the whole of all their trees.
-use Rattle.std.specs.Prelude.{◌≡◌, refl, ℕ, zero, suc, ◌+◌, true, false, cond, T, List, [], ◌∷◌, map, filter, flat_map, sum_by, Some, None, slice_get}
+use Rattle.std.specs.Prelude.{◌≡◌, refl, ℕ, zero, suc, ◌+◌, true, false, cond, T, List, [], ◌∷◌, map, filter, flat_map, sum_by, Some, slice_get}
 use Rattle.std.specs.List.{cons_option}
 use Rattle.std.proofs.Common.{sym, ◌∙◌, ap, subst, arith}
 use Rattle.list_laws.proofs.Options.{none_some, some_same}

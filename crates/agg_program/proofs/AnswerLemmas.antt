@@ -1,5 +1,5 @@
 -- The searches that were answered so far.
-use Rattle.std.proofs.Common.{◌≡◌, ◌≢◌, ◌⊎◌, ◌<◌, ◌+◌, ◌++◌, ◌∷◌, [], ℕ, List, Option, Some, None, Result, Ok, Err, refl, sym, ap, subst, ◌∙◌, length, take, ⊎_elim}
+use Rattle.std.proofs.Common.{◌≡◌, ◌≢◌, ◌⊎◌, ◌<◌, ◌+◌, ◌++◌, ◌∷◌, [], ℕ, List, Option, Some, None, Result, Ok, Err, refl, sym, subst, ◌∙◌, length, take, ⊎_elim}
 use Rattle.std.specs.Prelude.{IfSome, ⊤}
 use Rattle.std.specs.Io.KnownBytes.{append_known}
 use Rattle.agg_model.specs.declared.row.Document.{Document}
@@ -7,7 +7,7 @@ use Rattle.agg_model.specs.Lines.{Line}
 use Rattle.agg_reading.specs.Lines.{Place}
 use Rattle.agg_program.specs.SmallForm.{not_built_at}
 use Rattle.agg_program.specs.Answers.{search_line}
-use Rattle.agg_program.specs.Output.{Output, refused, finished, pairs, body, with_line, Ends, Continues}
+use Rattle.agg_program.specs.Output.{Output, refused, pairs, body, with_line, Ends, Continues}
 use Rattle.agg_program.specs.Reading.{Follows, after_header}
 use Rattle.agg_program.specs.declared.answers.NextHeader.{NextHeader}
 use Rattle.agg_program.specs.declared.answers.NextHeader.TheVariants.{Header, EmptyLine, End}

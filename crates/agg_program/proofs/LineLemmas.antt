@@ -1,8 +1,7 @@
 -- A line that a reader hands out is the next line of the script, and is refused alike.
-use Rattle.std.proofs.Common.{◌≡◌, ◌≢◌, ◌⊎◌, ◌<◌, ◌≤◌, ◌==◌, ◌+◌, ◌-◌, ◌&&◌, ◌||◌, not, min, ℕ, zero, suc, Bool, true, false, List, [], ◌∷◌, ◌++◌, Option, Some, None, Result, Ok, Err, refl, sym, ap, subst, ◌∙◌, append_assoc, append-nil, length, length-append, inl, inr, ⊎_elim, arith}
-use Rattle.std.specs.Prelude.{IfSome, IfNone, option_map, nat_lt, nat_le, ⊤}
-use Rattle.std.specs.Io.KnownBytes.{prepend_known, IsAtEnd}
-use Rattle.std.proofs.lemmas.Bool.{cond-true, cond-false, cond_both, lt-ltb, le-ltb, le-leb, lt-leb, ltb-true, leb-true, cases_lt, cases_Bool, and_parts, and_from, and_left, and_right, not-true, ne_eqb}
+use Rattle.std.proofs.Common.{◌≡◌, ◌≢◌, ◌⊎◌, ◌<◌, ◌≤◌, ◌==◌, ◌+◌, ◌-◌, ◌&&◌, ◌||◌, min, ℕ, Bool, true, false, List, [], ◌∷◌, ◌++◌, Option, Some, None, Ok, Err, refl, sym, ap, subst, ◌∙◌, append_assoc, append-nil, length, ⊎_elim, arith}
+use Rattle.std.specs.Prelude.{IfSome, IfNone, option_map, ⊤}
+use Rattle.std.proofs.lemmas.Bool.{cond-true, cond-false, cond_both, lt-ltb, le-ltb, cases_lt, ne_eqb}
 use Rattle.std.specs.Str.{bytes_eq}
 use Rattle.agg_base.specs.Cut.{IsPlain, Answers, IsLine, first_line, whole_line, next_of, fault_of, or_fault}
 use Rattle.agg_base.specs.declared.lines.LineFault.{LineFault}
@@ -11,7 +10,7 @@ use Rattle.agg_model.specs.declared.limits.TheConstants.{MAX_LINE, MAX_INPUT}
 use Rattle.agg_model.specs.Lines.{newline, Line, lines, with_byte}
 use Rattle.agg_model.specs.declared.script_refusal.TheConstants.{INPUT_TOO_LONG, LINE_TOO_LONG}
 use Rattle.agg_base.proofs.CutLemmas.{line_of, lines-line, lines-last}
-use Rattle.agg_reading.specs.Lines.{Place, line_fault, past}
+use Rattle.agg_reading.specs.Lines.{Place, line_fault}
 use Rattle.agg_program.specs.SmallForm.{within, not_built, unless_fault}
 use Rattle.agg_program.specs.Reading.{Reads, stop_of}
 use Rattle.agg_program.specs.declared.stop.Stop.{Stop}

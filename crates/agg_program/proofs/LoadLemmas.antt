@@ -3,9 +3,9 @@ use Rattle.std.proofs.Common.{◌≡◌, ◌++◌, ◌∷◌, [], ℕ, Bool, tru
 use Rattle.std.specs.Prelude.{IfSome, if◌then◌else◌, ⊤}
 use Rattle.agg_model.specs.declared.row.Document.{Document}
 use Rattle.agg_model.specs.Lines.{Line}
-use Rattle.agg_reading.specs.Lines.{Place, Script}
+use Rattle.agg_reading.specs.Lines.{Place}
 use Rattle.agg_program.specs.SmallForm.{not_built}
-use Rattle.agg_program.specs.Documents.{Taken, documents, sources, documents_of}
+use Rattle.agg_program.specs.Documents.{documents, sources, documents_of}
 use Rattle.agg_program.specs.Reading.{Follows, Indexes, Loads}
 use Rattle.agg_program.specs.declared.stop.Stop.{Stop}
 use Rattle.agg_program.specs.declared.stop.Stop.TheVariants.{Read, Write, NotBuilt, Memory}

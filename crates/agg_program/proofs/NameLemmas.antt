@@ -1,6 +1,6 @@
 -- Names of lower-case letters are text.
-use Rattle.std.proofs.Common.{◌≡◌, ◌<◌, ◌&&◌, not, ℕ, zero, suc, Bool, true, List, [], ◌∷◌, length, slice_index, arith}
-use Rattle.std.specs.Prelude.{IsTrue, nat_le, codes}
+use Rattle.std.proofs.Common.{◌≡◌, ◌<◌, ◌&&◌, not, ℕ, zero, suc, true, List, [], ◌∷◌, arith}
+use Rattle.std.specs.Prelude.{IsTrue, codes}
 use Rattle.std.specs.List.{list_all}
 use Rattle.std.specs.Str.{IsAscii, IsUtf8, bytes_eq}
 use Rattle.std.proofs.lemmas.Bool.{and_parts, leb-true}

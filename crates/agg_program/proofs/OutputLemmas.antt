@@ -1,13 +1,11 @@
 -- An output that is written line by line.
-use Rattle.std.proofs.Common.{◌≡◌, ◌<◌, ◌≤◌, ◌+◌, ℕ, List, [], ◌∷◌, ◌++◌, Option, Some, None, Result, Ok, Err, refl, sym, ap, ◌∙◌, append_assoc, append-nil, length, length-append, take, arith}
-use Rattle.std.specs.Prelude.{flat_map, ⊤}
+use Rattle.std.proofs.Common.{◌≡◌, ◌<◌, ◌≤◌, ◌+◌, ℕ, List, [], ◌∷◌, ◌++◌, Option, Ok, Err, refl, sym, ap, ◌∙◌, append_assoc, append-nil, length, length-append, take, arith}
+use Rattle.std.specs.Prelude.{⊤}
 use Rattle.std.specs.Io.KnownBytes.{append_known}
 use Rattle.std.proofs.Math.Seq.{take-append-add}
 use Rattle.std.proofs.lemmas.List.{take-append-le}
-use Rattle.agg_spec.specs.EndLines.{script_line}
 use Rattle.agg_program.specs.SmallForm.{not_built_at}
-use Rattle.agg_program.specs.Output.{Output, finished, refused, with_line, text_of, Ends, Continues, WroteLines}
-use Rattle.agg_program.specs.declared.stop.Stop.{Stop}
+use Rattle.agg_program.specs.Output.{Output, finished, refused, with_line, text_of, Ends, Continues}
 use Rattle.agg_program.specs.declared.stop.Stop.TheVariants.{Read, Write, NotBuilt, Memory}
 use Rattle.agg_program.proofs.WriteLemmas.{append_known-append, append_known-nil}
 

@@ -1,16 +1,16 @@
 -- The last line of a run.
-use Rattle.std.proofs.Common.{◌≡◌, ◌≢◌, ◌⊎◌, ◌<◌, ◌+◌, ◌==◌, ◌++◌, ◌∷◌, [], ℕ, Bool, false, List, Option, Some, None, Ok, Err, refl, sym, ap, subst, ◌∙◌, append-nil, length, take, ⊎_elim}
+use Rattle.std.proofs.Common.{◌≡◌, ◌≢◌, ◌⊎◌, ◌<◌, ◌+◌, ◌==◌, ◌++◌, ◌∷◌, [], ℕ, Bool, false, List, Option, Some, None, Err, refl, sym, ap, subst, ◌∙◌, append-nil, length, take, ⊎_elim}
 use Rattle.std.specs.Prelude.{IfSome, ⊤}
 use Rattle.std.specs.Io.KnownBytes.{append_known}
 use Rattle.agg_spec.specs.EndLines.{script_line, usage_line}
 use Rattle.agg_program.specs.SmallForm.{not_built_at}
-use Rattle.agg_program.specs.Output.{Output, refused, finished, with_line, text_of, Ends, Continues, usage, output_of}
+use Rattle.agg_program.specs.Output.{Output, refused, text_of, Ends, Continues, usage, output_of}
 use Rattle.agg_program.specs.Statuses.{Wrote}
 use Rattle.agg_program.specs.declared.status.Status.{Status}
 use Rattle.agg_program.specs.declared.status.Status.TheVariants.{Finished, Usage, ReadFault, WriteFault, Refused, Memory}
 use Rattle.agg_program.specs.declared.stop.Stop.TheVariants as stop
 use Rattle.agg_program.specs.declared.stop.Stop.{Stop}
-use Rattle.agg_program.proofs.OutputLemmas.{continues_start, continues_line, ends_finished, ends_write, ends_memory}
+use Rattle.agg_program.proofs.OutputLemmas.{continues_start, continues_line, ends_write, ends_memory}
 
 -- a front of a line
 abbrev Front : Option (List ℕ) → Option (List ℕ) → List ℕ → Type 0

@@ -1,5 +1,5 @@
 -- The two parts of an output: the line of the actions, and those of the searches.
-use Rattle.std.proofs.Common.{◌≡◌, ◌≢◌, ◌⊎◌, ◌<◌, ◌≤◌, ◌+◌, ◌++◌, ◌∷◌, [], ℕ, List, Option, Some, None, Result, Ok, Err, refl, sym, ap, subst, ◌∙◌, append_assoc, append-nil, length, length-append, take, ⊎_elim, arith}
+use Rattle.std.proofs.Common.{◌≡◌, ◌≢◌, ◌⊎◌, ◌<◌, ◌≤◌, ◌+◌, ◌++◌, ◌∷◌, [], ℕ, List, Option, Some, None, Result, Ok, Err, refl, sym, ap, subst, ◌∙◌, length, length-append, take, ⊎_elim, arith}
 use Rattle.std.specs.Prelude.{IfSome, ⊤}
 use Rattle.std.proofs.Math.Seq.{take-append-add}
 use Rattle.std.specs.Io.KnownBytes.{append_known}

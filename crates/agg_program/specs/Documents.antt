@@ -1,6 +1,6 @@
 -- The first two sections of a script: the index line, an empty line, and index actions up to the next empty line
 -- (Elasticsearch Reference 8, 'Bulk API').
-use Rattle.std.specs.Prelude.{◌≡◌, ℕ, ◌+◌, List, [], ◌∷◌, ◌++◌, map, length, Option, Some, None, Result, Ok, Err, Bool, ◌&&◌, nat_lt, if◌then◌else◌, codes}
+use Rattle.std.specs.Prelude.{◌≡◌, ℕ, ◌+◌, List, [], ◌∷◌, ◌++◌, map, length, Option, Some, None, Ok, Bool, ◌&&◌, nat_lt, if◌then◌else◌, codes}
 use Rattle.std.specs.List.{enumerate_from}
 use Rattle.std.specs.Str.{bytes_eq}
 use Rattle.std.specs.Fmt.{decimal}

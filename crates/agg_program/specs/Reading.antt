@@ -14,7 +14,7 @@ use Rattle.agg_program.specs.Output.{Output, pairs, body, finished}
 use Rattle.agg_program.specs.declared.answers.NextHeader.{NextHeader}
 use Rattle.agg_program.specs.declared.answers.NextHeader.TheVariants.{Header, EmptyLine, End}
 use Rattle.agg_program.specs.declared.stop.Stop.{Stop}
-use Rattle.agg_program.specs.declared.stop.Stop.TheVariants.{Read, Write, NotBuilt, Memory}
+use Rattle.agg_program.specs.declared.stop.Stop.TheVariants.{Read, NotBuilt, Memory}
 
 -- how many lines and bytes were handed out
 abbrev pub place_of : {S : Type 0} {g : Ghosts S} → Lines S g → Place

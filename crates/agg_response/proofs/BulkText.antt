@@ -1,6 +1,6 @@
 -- The line of bulk actions as it is written: what stands before the items, the items, and what stands behind them.
 use Rattle.std.specs.Prelude.{◌≡◌, refl, ℕ, Bool, true, false, if◌then◌else◌, List, [], ◌∷◌, ◌++◌, codes}
-use Rattle.std.proofs.Common.{◌∙◌, ap, sym, append_assoc}
+use Rattle.std.proofs.Common.{◌∙◌, sym, append_assoc}
 use Rattle.std.specs.Fmt.{digits}
 use Rattle.serde_json.specs.Data.{Items, array, boolean}
 use Rattle.serde_json.specs.Written.{compact_text, items_text}

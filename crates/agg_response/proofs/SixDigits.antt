@@ -1,5 +1,5 @@
 -- A number that the format pads with zeros to six digits.
-use Rattle.std.specs.Prelude.{◌≡◌, ℕ, ◌-◌, ◌^◌, List, [], ◌++◌, length, replicate, decimal}
+use Rattle.std.specs.Prelude.{◌≡◌, ℕ, ◌-◌, ◌^◌, [], ◌++◌, length, replicate, decimal}
 use Rattle.std.proofs.Common.{◌∙◌, ap, append-nil, arith}
 use Rattle.std.specs.Fmt.{padded_integral, char_count, styled_decimal, format_spec}
 use Rattle.agg_spec.specs.Average.{six_digits}

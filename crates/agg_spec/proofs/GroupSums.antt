@@ -1,14 +1,14 @@
 -- The sums over the groups of a list by keys, each group summed, are the sum over the list.
-use Rattle.std.specs.Prelude.{◌≡◌, refl, ℕ, ◌+◌, ◌||◌, Bool, true, false, cond, T, List, [], ◌∷◌, map, filter, sum_by}
+use Rattle.std.specs.Prelude.{◌≡◌, refl, ℕ, ◌+◌, ◌||◌, true, false, cond, T, List, [], ◌∷◌, map, filter, sum_by}
 use Rattle.std.specs.List.{list_all}
 use Rattle.std.proofs.Common.{sym, ◌∙◌, ap, subst, arith}
 use Rattle.std.proofs.lemmas.List.Sums.{sum_by-cons}
-use Rattle.list_laws.proofs.Booleans.{same_truth, or_right, and_left, and_right, both, true_is, holds}
+use Rattle.list_laws.proofs.Booleans.{or_right, and_left, and_right, both, true_is}
 use Rattle.agg_model.specs.declared.key.Key.{Key}
 use Rattle.agg_evaluation.specs.KeyOrder.{key_eq, has_key}
 use Rattle.agg_evaluation.specs.Keys.{distinct_keys}
 use Rattle.agg_evaluation.specs.Trees.{is_ascending}
-use Rattle.agg_evaluation.proofs.KeyLists.{key_eq-self, key_eq-exact, filter-ascending, ascending-distinct_keys, has_key-distinct_keys, key_eq-sym}
+use Rattle.agg_evaluation.proofs.KeyLists.{key_eq-self, filter-ascending, ascending-distinct_keys, has_key-distinct_keys, key_eq-sym}
 
 module _ {B : Type 0} (key : B → Key) (f : B → ℕ) where
   -- the items of a key

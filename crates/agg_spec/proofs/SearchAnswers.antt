@@ -1,6 +1,5 @@
 -- The answer to each aggregation at the top of a search is its answer to the rows that match.
-use Rattle.std.specs.Prelude.{◌≡◌, refl, ℕ, zero, suc, ◌+◌, List, [], ◌∷◌, map, filter_map, Option, Some, slice_get}
-use Rattle.std.specs.List.{cons_option}
+use Rattle.std.specs.Prelude.{◌≡◌, refl, ℕ, zero, suc, ◌+◌, List, [], ◌∷◌, map, filter_map, Some, slice_get}
 use Rattle.std.proofs.Common.{sym, ◌∙◌, ap, arith}
 use Rattle.list_laws.proofs.Lists.{filter_map-there, slice_get-enumerated, map-map}
 use Rattle.agg_model.specs.declared.partial.Node.{Node}

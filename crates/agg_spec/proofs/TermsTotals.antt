@@ -12,15 +12,12 @@ use Rattle.agg_evaluation.specs.KeyOrder.{key_cmp}
 use Rattle.agg_evaluation.specs.Rows.{PlacedRow}
 use Rattle.agg_evaluation.specs.Keys.{keys, distinct_keys}
 use Rattle.agg_evaluation.specs.Groups.{group, all_keys, total_key_count}
-use Rattle.agg_evaluation.specs.Counters.{raised, raised_by}
 use Rattle.list_laws.specs.Sorting.{sorted}
 use Rattle.agg_evaluation.specs.Orders.{bucket_cmp, bucket_key, bucket_count}
 use Rattle.agg_evaluation.specs.Shard.{Collector, bucket_of, trimmed_node, sorted_by_key, with_covered}
 use Rattle.agg_evaluation.specs.Whole.{Parts, parts, parts_at, whole_bucket, whole_by, by_key}
 use Rattle.agg_evaluation.proofs.CounterLaws.{counters-groups, raised_by-sum}
 use Rattle.agg_evaluation.proofs.NodeForms.{out-Keyed}
-use Rattle.std.specs.Ordering.{match_ordering}
-use Rattle.std.specs.declared.cmp.Ordering.TheVariants.{Less, Equal, Greater}
 use Rattle.agg_spec.proofs.GroupSums.{sum_by-distinct}
 use Rattle.agg_spec.proofs.SumLaws.{sum_by-sorted}
 

@@ -1,18 +1,16 @@
 -- A stable sort of values of one kind, with each word kept once, is what the definition makes of them.
-use Rattle.std.specs.Prelude.{◌≡◌, refl, ℕ, ℤ, pos, Bool, true, false, ◌&&◌, List, [], ◌∷◌, filter, cond, ⊤}
+use Rattle.std.specs.Prelude.{◌≡◌, refl, ℕ, ℤ, pos, Bool, true, false, ◌&&◌, List, [], ◌∷◌, cond, ⊤}
 use Rattle.std.specs.declared.cmp.Ordering.{Ordering}
 use Rattle.std.specs.declared.cmp.Ordering.TheVariants.{Less, Equal, Greater}
 use Rattle.std.specs.Ordering.{nat_cmp, int_cmp, bool_cmp, is_lt, is_le, is_eq, ordering_reverse, ordering_then, match_ordering}
-use Rattle.std.specs.Cmp.{IsTotalOrder, IsStrictWeakOrder, bool_cmp_total}
+use Rattle.std.specs.Cmp.{IsTotalOrder, bool_cmp_total}
 use Rattle.std.specs.Cmp.Lexicographic.{slice_cmp, texts_ties, same_text}
-use Rattle.std.specs.Fn.{Called, ComparesAs}
+use Rattle.std.specs.Fn.{Called}
 use Rattle.std.specs.List.{list_all, dedup, dedup_from}
-use Rattle.std.specs.List.Sorted.{ties, IsSortedByClosure, IsStableByClosure}
+use Rattle.std.specs.List.Sorted.{IsSortedByClosure, IsStableByClosure}
 use Rattle.std.proofs.Common.{sym, ◌∙◌, ap, subst, arith, ⊎_elim}
-use Rattle.std.proofs.lemmas.Bool.{cases_Bool, true≢false, false≢true, and_parts, not-true}
+use Rattle.std.proofs.lemmas.Bool.{cases_Bool, true≢false, false≢true, and_parts}
 use Rattle.std.proofs.lemmas.Cmp.{on_total, then_total, nat_cmp_total, int_cmp_total, nat_list_cmp_total}
-use Rattle.std.proofs.lemmas.Fn.{always_returns_same}
-use Rattle.std.proofs.lemmas.List.Sorted.{ranks_by}
 use Rattle.agg_model.specs.declared.mapping.FieldKind.{FieldKind}
 use Rattle.agg_model.specs.declared.mapping.FieldKind.TheVariants.{Long, Integer, Short, Byte, Keyword, Boolean}
 use Rattle.agg_model.specs.declared.row.Scalar.{Scalar}

@@ -1,12 +1,11 @@
 -- A decimal text fits 128 bits.
 use Rattle.std.specs.Char.{is_ascii_digit, digit_value}
 use Rattle.std.proofs.lemmas.Bool.Decides.{nat_tests}
-use Rattle.std.proofs.Common.{zero, suc, ◌≡◌, ℕ, ◌<◌, ◌≤◌, ◌^◌, Bool, true, false, List, [], ◌∷◌, length, arith, ap, sym, ◌∙◌, refl, rules, tests, Result, Ok, cond, eqb, drop, ltb, ℤ, pos, neg_ℤ, subst}
+use Rattle.std.proofs.Common.{zero, suc, ◌≡◌, ℕ, ◌<◌, ◌≤◌, ◌^◌, Bool, true, false, List, [], ◌∷◌, length, arith, ◌∙◌, refl, rules, tests, Result, Ok, cond, ℤ, pos, neg_ℤ}
 use Rattle.std.specs.Int.{w128}
-use Rattle.std.specs.Prelude.{FitsSigned, unsigned_abs, ◌&&◌, nat_lt, nat_le}
+use Rattle.std.specs.Prelude.{unsigned_abs, ◌&&◌, nat_lt, nat_le}
 use Rattle.std.specs.Str.{all_ascii_digits}
-use Rattle.std.specs.Str.Parse.{AllDigits, IsNumeral, digits_value, signed_digits_value, without_leading_sign, starts_with_minus, ParsesSigned}
-use Rattle.std.proofs.lemmas.Grind.{common_steps}
+use Rattle.std.specs.Str.Parse.{AllDigits, digits_value, signed_digits_value, without_leading_sign, starts_with_minus, ParsesSigned}
 use Rattle.std.proofs.lemmas.Int.Digits.{digits_value-lt}
 use Rattle.std.proofs.lemmas.Int.{fits_signed_from_abs}
 use Rattle.std.proofs.lemmas.Result.{Ok-from_Ok_iff}

@@ -1,7 +1,7 @@
 -- The documents that are taken so far: an object whose one member `t` is a text, read as a keyword ('Keyword field type').
 use Rattle.std.specs.Prelude.{ℕ, List, [], ◌∷◌, ◌&&◌, length, nat_le, Option, Some, None, option_and_then, if◌then◌else◌, codes}
 use Rattle.std.specs.Str.{bytes_eq}
-use Rattle.serde_json.specs.Data.{Data, string, Members, no_members, member}
+use Rattle.serde_json.specs.Data.{string, Members, no_members, member}
 use Rattle.serde_json.specs.Find.{as_object}
 use Rattle.agg_model.specs.declared.limits.TheConstants.{MAX_KEYWORD}
 use Rattle.agg_model.specs.declared.row.Row.{Row, roll-Row}

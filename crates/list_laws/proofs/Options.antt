@@ -1,5 +1,5 @@
 -- Options: what is there is not nothing, and is one value.
-use Rattle.std.specs.Prelude.{◌≡◌, Option, None, Some}
+use Rattle.std.specs.Prelude.{◌≡◌, None, Some}
 use Rattle.std.proofs.Common.{ap, subst}
 
 -- nothing is not something

@@ -1,5 +1,5 @@
 -- What the wholes of all children are, where each child's whole keeps the laws.
-use Rattle.std.specs.Prelude.{◌≡◌, refl, ℕ, Bool, true, false, ◌&&◌, T, ⊤, List, [], ◌∷◌, ◌++◌, map, flat_map, slice_get}
+use Rattle.std.specs.Prelude.{◌≡◌, refl, ℕ, Bool, true, false, ◌&&◌, T, ⊤, List, [], ◌∷◌, ◌++◌, map, slice_get}
 use Rattle.std.specs.List.{list_all, cons_option}
 use Rattle.std.proofs.Common.{sym, ◌∙◌, ap, subst}
 use Rattle.agg_model.specs.declared.partial.Node.{Node}

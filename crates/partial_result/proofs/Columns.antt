@@ -1,6 +1,6 @@
 -- The wholes of children, place by place.
-use Rattle.std.specs.Prelude.{◌≡◌, refl, ℕ, zero, suc, ◌+◌, List, [], ◌∷◌, ◌++◌, map, drop, filter_map, flat_map, Option, Some, None, slice_get}
-use Rattle.std.specs.List.{enumerate_from, cons_option}
+use Rattle.std.specs.Prelude.{◌≡◌, refl, ℕ, zero, suc, ◌+◌, List, [], ◌∷◌, ◌++◌, map, drop, filter_map, slice_get}
+use Rattle.std.specs.List.{enumerate_from}
 use Rattle.std.proofs.Common.{sym, ◌∙◌, ap, add-one}
 use Rattle.agg_model.specs.declared.partial.Node.{Node}
 

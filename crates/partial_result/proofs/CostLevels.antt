@@ -1,6 +1,6 @@
 -- The cost of a key and of a node by the costs of their parts.
 use Rattle.std.specs.Prelude.{◌≡◌, refl, ℕ, ◌+◌, List, map, sum, sum_by}
-use Rattle.std.proofs.Common.{sym, ◌∙◌, ap}
+use Rattle.std.proofs.Common.{◌∙◌, ap}
 use Rattle.std.proofs.lemmas.List.Sums.{sum-map}
 use Rattle.agg_model.specs.declared.key.Key.{Key}
 use Rattle.agg_model.specs.declared.partial.Bucket.{Bucket}

@@ -2,14 +2,12 @@
 use Rattle.std.specs.Prelude.{◌≡◌, refl, ℕ, zero, suc, ◌+◌, List, [], ◌∷◌, ◌++◌, map}
 use Rattle.std.specs.List.{range_with_len}
 use Rattle.std.proofs.Common.{sym, ◌∙◌, ap, arith, add-one, add-zero, zero-add}
-use Rattle.agg_model.specs.declared.key.Key.{Key}
 use Rattle.agg_model.specs.declared.key.Key.TheVariants as key
-use Rattle.agg_model.specs.declared.partial.Bucket.{Bucket}
 use Rattle.agg_model.specs.declared.partial.Node.{Node}
 use Rattle.agg_model.specs.declared.partial.Node.TheVariants.{Fixed}
 use Rattle.agg_model.specs.declared.aggregation.Agg.{Agg, Agg', out-Agg, Row_of-Agg, end_of-Agg, more_of-Agg, items-the_row-Agg, items_shown-the_row-Agg-0}
 use Rattle.agg_model.specs.declared.aggregation.Agg.TheOpen.{Agg-F}
-use Rattle.agg_evaluation.specs.Folds.{fold_agg, fold_aggs}
+use Rattle.agg_evaluation.specs.Folds.{fold_aggs}
 use Rattle.agg_evaluation.specs.Shard.{fixed_keys}
 use Rattle.agg_evaluation.specs.Whole.{Shape, from_start, shape_of, empty_by, empty_node}
 use Rattle.agg_evaluation.proofs.Computing.{computing}

@@ -1,7 +1,6 @@
 -- Buckets found by their keys, in lists that ascend and in the union of two.
 use Rattle.std.specs.Prelude.{◌≡◌, refl, ℕ, Bool, true, false, cond, ◌&&◌, ◌||◌, T, List, [], ◌∷◌, ◌++◌, map, filter, Option, Some, None, is_some, option_to_list, unwrap_or}
-use Rattle.std.specs.List.{list_any, list_all}
-use Rattle.std.specs.declared.cmp.Ordering.{Ordering}
+use Rattle.std.specs.List.{list_all}
 use Rattle.std.specs.declared.cmp.Ordering.TheVariants.{Less, Equal, Greater}
 use Rattle.std.specs.Ordering.{is_eq, is_lt, match_ordering, ordering_reverse}
 use Rattle.std.specs.FinMap.Entries.{find, is_sorted, below_all, same_entries}
@@ -15,7 +14,7 @@ use Rattle.agg_evaluation.proofs.KeyCompare.{key_cmp_total}
 use Rattle.agg_evaluation.proofs.KeyExact.{exact_keys}
 use Rattle.partial_result.specs.Merged.{OtherBucket, put_in, united, other_bucket, merged_bucket}
 use Rattle.partial_result.proofs.MergeLevels.{merged_bucket_level}
-use Rattle.list_laws.proofs.Booleans.{holds, true_is, and_first, and_second, and_both}
+use Rattle.list_laws.proofs.Booleans.{holds, and_first, and_second, and_both}
 use Rattle.list_laws.proofs.Orders.{less_of, equal_of}
 
 abbrev pub entries : List Bucket → List (Key × Bucket)

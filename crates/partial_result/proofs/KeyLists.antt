@@ -1,10 +1,7 @@
 -- Ascending lists of keys: which keys stand in them says all.
-use Rattle.std.specs.Prelude.{◌≡◌, refl, ℕ, Bool, true, false, cond, ◌&&◌, ◌||◌, T, List, [], ◌∷◌, ◌++◌, map, filter, Option, Some, None, is_some}
-use Rattle.std.specs.List.{list_any, list_all}
-use Rattle.std.specs.declared.cmp.Ordering.{Ordering}
-use Rattle.std.specs.declared.cmp.Ordering.TheVariants.{Less, Equal, Greater}
-use Rattle.std.specs.Ordering.{is_eq, is_lt, match_ordering}
-use Rattle.std.specs.FinMap.Entries.{find, put, by_order, is_sorted, is_sorted-put, find-put, below_all, same_entries}
+use Rattle.std.specs.Prelude.{◌≡◌, refl, ℕ, true, false, cond, ◌&&◌, ◌||◌, T, List, [], ◌∷◌, ◌++◌, map, filter}
+use Rattle.std.specs.List.{list_all}
+use Rattle.std.specs.Ordering.{is_eq, is_lt}
 use Rattle.std.proofs.Common.{sym, ◌∙◌, ap, subst}
 use Rattle.agg_evaluation.proofs.KeyLists.{ascending-distinct_keys, distinct_keys-ascending}
 use Rattle.list_laws.proofs.Orders.{less_of, equal_of}
@@ -12,10 +9,8 @@ use Rattle.list_laws.proofs.Booleans.{true_is, holds, and_first, and_second}
 use Rattle.agg_model.specs.declared.key.Key.{Key}
 use Rattle.agg_model.specs.declared.partial.Bucket.{Bucket}
 use Rattle.agg_evaluation.specs.KeyOrder.{key_cmp, key_eq, has_key}
-use Rattle.list_laws.specs.Sorting.{insert_once}
 use Rattle.agg_evaluation.specs.Keys.{distinct_keys}
 use Rattle.agg_evaluation.specs.Trees.{is_ascending}
-use Rattle.agg_evaluation.proofs.KeyCompare.{key_cmp_total}
 use Rattle.agg_evaluation.proofs.KeyExact.{exact_keys}
 
 -- distinct keys ascend

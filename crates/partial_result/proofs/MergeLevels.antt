@@ -4,11 +4,11 @@ use Rattle.std.proofs.Common.{sym, ◌∙◌, ap}
 use Rattle.agg_model.specs.declared.partial.Bucket.{Bucket}
 use Rattle.agg_model.specs.declared.partial.Metric.{Metric}
 use Rattle.agg_model.specs.declared.partial.Node.{Node, out-Node}
-use Rattle.agg_model.specs.declared.partial.Node.TheOpen.{Node-F, Bucket-F}
+use Rattle.agg_model.specs.declared.partial.Node.TheOpen.{Node-F}
 use Rattle.agg_model.specs.declared.partial.Node.TheVariants.{Keyed, Fixed, Number, rolls-Keyed, rolls-Fixed, rolls-Number, outs-Keyed, outs-Fixed, outs-Number}
-use Rattle.agg_model.specs.declared.partial.Node.TheViews.{roll-Node, roll-out-Node}
+use Rattle.agg_model.specs.declared.partial.Node.TheViews.{roll-Node}
 use Rattle.agg_model.specs.declared.partial.Node.TheFolds.{para-roll-Node, para-roll-Bucket}
-use Rattle.partial_result.specs.Merged.{merged, merged_bucket, other_bucket, other_node, united, merged_children, merged_metric, sum_u64, sum_u32, merge_node_at, merge_bucket_at, OtherNode, OtherBucket}
+use Rattle.partial_result.specs.Merged.{merged, merged_bucket, other_bucket, other_node, united, merged_children, merged_metric, sum_u64, sum_u32, merge_node_at, OtherNode, OtherBucket}
 
 -- one level of the other node, with what each part makes of one of the first
 abbrev opened : Node-F Node Bucket → Node-F OtherNode OtherBucket

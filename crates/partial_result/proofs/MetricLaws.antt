@@ -1,18 +1,14 @@
 -- Metrics of values together.
-use Rattle.std.specs.Prelude.{◌≡◌, refl, ℕ, ℤ, pos, negsuc, zero, ◌+◌, ◌-◌, ◌^◌, ◌+ℤ◌, int_le, nat_lt, min, Bool, true, ◌&&◌, List, [], ◌∷◌, ◌++◌, map, flat_map, filter_map, sum_by, fold, Option, Some, None}
+use Rattle.std.specs.Prelude.{◌≡◌, refl, ℕ, ℤ, pos, negsuc, ◌+◌, ◌-◌, ◌^◌, ◌+ℤ◌, true, ◌&&◌, [], ◌∷◌, ◌++◌, Option, Some, None}
 use Rattle.std.specs.List.{reduce, cons_option}
 use Rattle.std.specs.Int.{w128, int_min, int_max, saturate_signed}
-use Rattle.std.proofs.Common.{sym, ◌∙◌, ap, arith, zero-add, add_comm}
+use Rattle.std.proofs.Common.{sym, ◌∙◌, ap, arith, zero-add}
 use Rattle.std.proofs.lemmas.Bool.Decides.{nat_tests}
-use Rattle.std.proofs.lemmas.Int.{ints}
-use Rattle.std.proofs.lemmas.List.Sums.{sum_by-cons, sum_by-append}
-use Rattle.std.proofs.lemmas.List.Elements.{filter_map-append}
 use Rattle.std.proofs.Math.IntN.{+ℤ_assoc, +ℤ_comm, +ℤ_idl, +ℤ_idr}
 use Rattle.agg_model.specs.declared.partial.Metric.{Metric}
-use Rattle.agg_evaluation.specs.Shard.{int_sum}
 use Rattle.agg_evaluation.specs.Whole.{metric_sum}
 use Rattle.agg_evaluation.specs.Trees.{fits_u64, fits_i128}
-use Rattle.partial_result.specs.Merged.{merged_metric, either_or, sum_u64, sum_i128}
+use Rattle.partial_result.specs.Merged.{merged_metric, either_or, sum_u64}
 
 abbrev count_of : Metric → ℕ
 count_of m = m.count

@@ -1,39 +1,29 @@
 -- The whole at one node keeps the laws, where the wholes of the children do.
-use Rattle.std.specs.Prelude.{◌≡◌, refl, ℕ, ◌+◌, ◌-◌, ◌^◌, min, nat_lt, Bool, true, false, cond, ◌&&◌, ◌||◌, T, List, [], ◌∷◌, ◌++◌, map, flat_map, sum_by}
+use Rattle.std.specs.Prelude.{◌≡◌, refl, ℕ, ◌+◌, ◌-◌, ◌^◌, nat_lt, Bool, true, false, ◌&&◌, ◌||◌, List, [], ◌∷◌, ◌++◌, map, flat_map, sum_by}
 use Rattle.std.specs.List.{list_all}
-use Rattle.std.specs.Ordering.{is_eq}
-use Rattle.std.specs.FinMap.{slice_cmp-IsAntisymmetric}
-use Rattle.std.proofs.Common.{sym, ◌∙◌, ap, subst, arith, zero-add, add_comm, append-nil}
+use Rattle.std.proofs.Common.{sym, ◌∙◌, ap, arith, zero-add, append-nil}
 use Rattle.std.proofs.lemmas.Bool.Decides.{nat_tests}
-use Rattle.std.proofs.lemmas.List.Sums.{sum_by-cons, sum_by-append}
-use Rattle.std.proofs.lemmas.List.Concat.{flat_map-append}
-use Rattle.agg_model.specs.declared.key.Key.{Key}
-use Rattle.agg_model.specs.declared.partial.Metric.{Metric}
 use Rattle.agg_model.specs.declared.partial.Bucket.{Bucket}
 use Rattle.agg_model.specs.declared.partial.Node.{Node, out-Node, roll-Node, roll-out-Node}
 use Rattle.agg_model.specs.declared.partial.Node.TheOpen.{Node-F}
-use Rattle.agg_model.specs.declared.partial.Node.TheVariants.{Keyed, Fixed, Number, rolls-Keyed, rolls-Fixed, rolls-Number, outs-Keyed, outs-Fixed, outs-Number}
+use Rattle.agg_model.specs.declared.partial.Node.TheVariants.{Keyed, Fixed, Number, rolls-Keyed, outs-Keyed}
 use Rattle.agg_model.specs.declared.aggregation.Kind.{Kind}
-use Rattle.agg_evaluation.specs.KeyOrder.{key_eq, has_key}
+use Rattle.agg_evaluation.specs.KeyOrder.{has_key}
 use Rattle.agg_evaluation.specs.Orders.{bucket_key}
 use Rattle.agg_evaluation.specs.Keys.{distinct_keys}
 use Rattle.agg_evaluation.specs.Shard.{fixed_keys}
-use Rattle.agg_evaluation.specs.Whole.{Shape, by_key, from_start, a_number, Parts, parts, parts_at, metric_sum, whole_by, whole_bucket}
-use Rattle.agg_evaluation.specs.Trees.{is_ascending, are_same_keys, have_children, is_tree_at, fits_u64, fits_i128, node_fits, node_fits_at, bucket_fits}
-use Rattle.agg_evaluation.proofs.KeyExact.{exact_keys}
-use Rattle.partial_result.specs.Merged.{merged, united, merged_metric, sum_u64, sum_u32}
-use Rattle.agg_evaluation.proofs.NodeFolds.{fold_node-Keyed, fold_node-Fixed}
-use Rattle.partial_result.proofs.MergeLevels.{merged-Keyed, merged-Fixed, merged-Number}
+use Rattle.agg_evaluation.specs.Whole.{by_key, parts, parts_at, whole_by}
+use Rattle.agg_evaluation.specs.Trees.{is_ascending, have_children, is_tree_at, fits_u64, node_fits, node_fits_at, bucket_fits}
+use Rattle.partial_result.specs.Merged.{merged, sum_u64, sum_u32}
+use Rattle.agg_evaluation.proofs.NodeFolds.{fold_node-Keyed}
+use Rattle.partial_result.proofs.MergeLevels.{merged-Keyed}
 use Rattle.partial_result.proofs.KeyLists.{ascending-distinct, distinct-ascending}
 use Rattle.list_laws.proofs.Booleans.{and_first, and_second, and_both}
-use Rattle.list_laws.proofs.Orders.{equal_of}
 use Rattle.agg_evaluation.proofs.KeyLists.{has_key-distinct_keys}
 use Rattle.agg_evaluation.proofs.UnionLaws.{has_key-append}
-use Rattle.partial_result.proofs.FixedKeys.{ascending-fixed, slice_cmp-itself}
-use Rattle.partial_result.proofs.MetricLaws.{metric_sum-one, metric_sum-two}
 use Rattle.partial_result.proofs.ColumnLaws.{IsWhole, EachWhole, false_true}
-use Rattle.partial_result.proofs.Found.{IsRising, others, sorted-entries}
-use Rattle.partial_result.proofs.Tables.{same, map_same, table, keys-table, table-pass, table-one}
+use Rattle.partial_result.proofs.Found.{sorted-entries}
+use Rattle.partial_result.proofs.Tables.{table, keys-table, table-pass, table-one}
 use Rattle.partial_result.proofs.TableLaws.{bucket_passes, table-two}
 
 -- a node by its level

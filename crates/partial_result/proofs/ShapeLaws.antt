@@ -1,11 +1,9 @@
 -- The whole at a node of buckets that exist from the start, and at a metric, keeps the laws.
-use Rattle.std.specs.Prelude.{◌≡◌, refl, ℕ, Bool, true, false, ◌&&◌, ◌||◌, T, List, [], ◌∷◌, ◌++◌, map, flat_map}
+use Rattle.std.specs.Prelude.{◌≡◌, refl, ℕ, Bool, true, ◌&&◌, ◌||◌, List, [], ◌∷◌, ◌++◌, map, flat_map}
 use Rattle.std.specs.List.{list_all}
 use Rattle.std.specs.Ordering.{is_eq}
 use Rattle.std.specs.FinMap.{slice_cmp-IsAntisymmetric}
-use Rattle.std.proofs.Common.{sym, ◌∙◌, ap, subst, append-nil}
-use Rattle.std.proofs.lemmas.List.Concat.{flat_map-append, flat_map_single}
-use Rattle.agg_model.specs.declared.key.Key.{Key}
+use Rattle.std.proofs.Common.{sym, ◌∙◌, ap, append-nil}
 use Rattle.agg_model.specs.declared.partial.Metric.{Metric}
 use Rattle.agg_model.specs.declared.partial.Bucket.{Bucket}
 use Rattle.agg_model.specs.declared.partial.Node.{Node, out-Node}
@@ -15,7 +13,7 @@ use Rattle.agg_model.specs.declared.aggregation.Kind.{Kind}
 use Rattle.agg_evaluation.specs.KeyOrder.{has_key}
 use Rattle.agg_evaluation.specs.Orders.{bucket_key}
 use Rattle.agg_evaluation.specs.Shard.{fixed_keys}
-use Rattle.agg_evaluation.specs.Whole.{Shape, by_key, from_start, a_number, Parts, parts, parts_at, metric_sum, whole_by}
+use Rattle.agg_evaluation.specs.Whole.{Shape, by_key, from_start, a_number, parts, metric_sum, whole_by}
 use Rattle.agg_evaluation.specs.Trees.{is_ascending, are_same_keys, have_children, is_tree_at, fits_u64, fits_i128, node_fits, node_fits_at, bucket_fits}
 use Rattle.agg_evaluation.proofs.KeyExact.{exact_keys}
 use Rattle.partial_result.specs.Merged.{merged}
@@ -27,7 +25,7 @@ use Rattle.partial_result.proofs.FixedKeys.{ascending-fixed, slice_cmp-itself}
 use Rattle.partial_result.proofs.MetricLaws.{metric_sum-one, metric_sum-two}
 use Rattle.partial_result.proofs.ColumnLaws.{IsWhole, EachWhole, false_true}
 use Rattle.partial_result.proofs.Found.{sorted-entries}
-use Rattle.partial_result.proofs.Tables.{map_same, table, keys-table, table-pass, table-one}
+use Rattle.partial_result.proofs.Tables.{table, keys-table, table-pass, table-one}
 use Rattle.partial_result.proofs.TableLaws.{bucket_passes, table-two}
 use Rattle.partial_result.proofs.NodeLaws.{Level, parts_of, node_of, buckets_in, all-map, or_itself, keyed_is}
 

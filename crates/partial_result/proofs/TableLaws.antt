@@ -1,31 +1,26 @@
 -- The buckets of a whole: of two lists, of two lists turned round, and of many.
-use Rattle.std.specs.Prelude.{◌≡◌, refl, ℕ, ◌+◌, ◌-◌, ◌^◌, min, nat_lt, Bool, true, false, cond, ◌&&◌, ◌||◌, T, List, [], ◌∷◌, ◌++◌, map, filter, flat_map, sum_by, Option, Some, None, is_some, option_to_list}
+use Rattle.std.specs.Prelude.{◌≡◌, refl, ℕ, ◌+◌, ◌-◌, ◌^◌, min, nat_lt, Bool, true, false, cond, ◌&&◌, ◌||◌, List, [], ◌∷◌, ◌++◌, map, Option, Some, None, is_some, option_to_list}
 use Rattle.std.specs.List.{list_all}
-use Rattle.std.specs.Ordering.{is_eq}
-use Rattle.std.specs.FinMap.Entries.{is_sorted}
-use Rattle.std.proofs.Common.{sym, ◌∙◌, ap, subst, arith, add_comm}
+use Rattle.std.proofs.Common.{sym, ◌∙◌, ap, arith}
 use Rattle.std.proofs.lemmas.Bool.Decides.{nat_tests}
-use Rattle.std.proofs.lemmas.List.Sums.{sum_by-cons, sum_by-append}
 use Rattle.std.proofs.lemmas.List.Elements.{filter-append}
 use Rattle.agg_model.specs.declared.key.Key.{Key}
 use Rattle.agg_model.specs.declared.partial.Bucket.{Bucket}
 use Rattle.agg_model.specs.declared.partial.Node.{Node}
-use Rattle.agg_evaluation.specs.KeyOrder.{key_cmp, key_eq, has_key}
-use Rattle.agg_evaluation.specs.Orders.{bucket_key, bucket_count}
-use Rattle.agg_evaluation.specs.Keys.{distinct_keys}
+use Rattle.agg_evaluation.specs.KeyOrder.{key_eq, has_key}
+use Rattle.agg_evaluation.specs.Orders.{bucket_key}
 use Rattle.agg_evaluation.specs.Whole.{whole_bucket}
 use Rattle.agg_evaluation.specs.Trees.{is_ascending, pass_each, have_children, fits_u64, node_fits, node_fits_at, bucket_fits}
 use Rattle.agg_evaluation.proofs.KeyExact.{exact_keys}
 use Rattle.partial_result.specs.Merged.{united, merged_bucket, sum_u64}
 use Rattle.agg_evaluation.proofs.NodeFolds.{fold_bucket}
 use Rattle.partial_result.proofs.MergeLevels.{merged_bucket_level}
-use Rattle.partial_result.proofs.KeyLists.{one_same}
-use Rattle.list_laws.proofs.Booleans.{and_first, and_second, and_both}
+use Rattle.list_laws.proofs.Booleans.{and_first, and_second}
 use Rattle.list_laws.proofs.Orders.{equal_of}
 use Rattle.partial_result.proofs.Columns.{wholes, columns, wholes_are}
 use Rattle.partial_result.proofs.ColumnLaws.{EachWhole, columns-two}
-use Rattle.partial_result.proofs.Found.{entries, found, both_found, IsRising, others, same_found, sorted-entries, same-found, is_some-found, found-key, found-pass, rising-united, found-united}
-use Rattle.partial_result.proofs.Tables.{same, made, table, children_of, covered_of, keys-table, made-one}
+use Rattle.partial_result.proofs.Found.{found, both_found, IsRising, others, same_found, sorted-entries, same-found, is_some-found, found-key, found-pass, rising-united, found-united}
+use Rattle.partial_result.proofs.Tables.{same, made, table, children_of, keys-table, made-one}
 
 -- a sum that fits is not capped
 pub fitting : (m n : ℕ) → nat_lt (m + n) (2 ^ 64) ≡ true → min (m + n) (2 ^ 64 - 1) ≡ m + n

@@ -1,29 +1,22 @@
 -- The buckets of a whole: one for each key of a list of keys.
-use Rattle.std.specs.Prelude.{◌≡◌, refl, ℕ, ◌+◌, ◌^◌, Bool, true, false, cond, ◌&&◌, ◌||◌, T, List, [], ◌∷◌, ◌++◌, map, filter, flat_map, sum_by, Option, Some, None, option_to_list}
-use Rattle.std.specs.List.{list_all}
-use Rattle.std.specs.Ordering.{is_eq, is_lt}
+use Rattle.std.specs.Prelude.{◌≡◌, refl, ℕ, ◌+◌, ◌^◌, Bool, true, false, cond, ◌&&◌, ◌||◌, T, List, [], ◌∷◌, ◌++◌, map, filter, sum_by}
+use Rattle.std.specs.Ordering.{is_eq}
 use Rattle.std.specs.Cmp.{tied_itself}
-use Rattle.std.specs.FinMap.Entries.{find, is_sorted}
-use Rattle.std.proofs.Common.{sym, ◌∙◌, ap, subst, zero-add, arith}
-use Rattle.std.proofs.lemmas.List.Sums.{sum_by-cons, sum_by-append}
-use Rattle.std.proofs.lemmas.List.Elements.{filter-append}
+use Rattle.std.proofs.Common.{sym, ◌∙◌, ap, subst, zero-add}
 use Rattle.agg_model.specs.declared.key.Key.{Key}
 use Rattle.agg_model.specs.declared.partial.Bucket.{Bucket}
 use Rattle.agg_model.specs.declared.partial.Node.{Node}
-use Rattle.agg_evaluation.specs.KeyOrder.{key_cmp, key_eq, has_key}
+use Rattle.agg_evaluation.specs.KeyOrder.{key_eq, has_key}
 use Rattle.agg_evaluation.specs.Orders.{bucket_key, bucket_count}
-use Rattle.agg_evaluation.specs.Keys.{distinct_keys}
 use Rattle.agg_evaluation.specs.Whole.{whole_bucket}
 use Rattle.agg_evaluation.specs.Trees.{is_ascending, pass_each, have_children}
 use Rattle.agg_evaluation.proofs.KeyCompare.{key_cmp_total}
 use Rattle.agg_evaluation.proofs.KeyExact.{exact_keys}
-use Rattle.partial_result.proofs.KeyLists.{absent_below, one_same, ascending-distinct}
+use Rattle.partial_result.proofs.KeyLists.{absent_below}
 use Rattle.list_laws.proofs.Booleans.{and_first, and_second, and_both}
 use Rattle.list_laws.proofs.Orders.{equal_of}
-use Rattle.agg_evaluation.proofs.UnionLaws.{has_key-append}
-use Rattle.agg_evaluation.proofs.KeyLists.{has_key-distinct_keys}
-use Rattle.partial_result.proofs.Columns.{wholes, columns, wholes_are}
-use Rattle.partial_result.proofs.ColumnLaws.{IsWhole, EachWhole, columns-pass, columns-one}
+use Rattle.partial_result.proofs.Columns.{wholes, wholes_are}
+use Rattle.partial_result.proofs.ColumnLaws.{EachWhole, columns-pass, columns-one}
 
 -- the buckets of a key
 abbrev pub same : Key → List Bucket → List Bucket

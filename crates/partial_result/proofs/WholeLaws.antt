@@ -1,11 +1,8 @@
 -- The whole of an aggregation and of a search keep the laws.
-use Rattle.std.specs.Prelude.{◌≡◌, refl, ℕ, zero, suc, ◌+◌, ◌-◌, ◌^◌, ◌<◌, min, nat_lt, Bool, true, false, ◌&&◌, List, [], ◌∷◌, ◌++◌, length, map, flat_map, filter_map, sum_by, slice_get, slice_set, slice_index_or}
-use Rattle.std.specs.List.{enumerate_from, list_all, swap}
-use Rattle.std.specs.List.Sorted.{IsPermutation}
-use Rattle.std.proofs.Common.{sym, ◌∙◌, ap, arith, add_comm, append-nil}
+use Rattle.std.specs.Prelude.{◌≡◌, refl, ℕ, ◌+◌, ◌-◌, ◌^◌, ◌<◌, true, ◌&&◌, List, [], ◌∷◌, ◌++◌, map, filter_map, slice_get}
+use Rattle.std.specs.List.{enumerate_from, list_all}
+use Rattle.std.proofs.Common.{sym, ◌∙◌, ap, arith}
 use Rattle.std.proofs.lemmas.Bool.Decides.{nat_tests}
-use Rattle.std.proofs.lemmas.List.Sums.{sum_by-cons, sum_by-append}
-use Rattle.std.proofs.lemmas.List.Sorted.{IsPermutation-keeps}
 use Rattle.agg_model.specs.declared.partial.Node.{Node, out-Node}
 use Rattle.agg_model.specs.declared.partial.Partial.{Partial}
 use Rattle.agg_model.specs.declared.aggregation.Agg.{Agg, Agg', Row_of-Agg, end_of-Agg, more_of-Agg}
@@ -13,11 +10,11 @@ use Rattle.agg_model.specs.declared.aggregation.Search.{Search}
 use Rattle.agg_evaluation.specs.Folds.{fold_aggs}
 use Rattle.agg_evaluation.specs.Shard.{fixed_keys}
 use Rattle.agg_evaluation.specs.Whole.{shape_of, whole_by, whole_node, whole}
-use Rattle.agg_evaluation.specs.Trees.{is_tree_at, is_tree_of, is_result_of, pass_each, fits_u64, node_fits, numbers_fit}
+use Rattle.agg_evaluation.specs.Trees.{is_tree_at, is_tree_of, is_result_of, fits_u64, node_fits, numbers_fit}
 use Rattle.partial_result.specs.Merged.{merged_partial, sum_u64}
 use Rattle.list_laws.proofs.Booleans.{and_first, and_second}
-use Rattle.partial_result.proofs.Columns.{wholes, columns, wholes_are}
-use Rattle.partial_result.proofs.ColumnLaws.{IsWhole, EachWhole, columns-pass, columns-one, columns-two}
+use Rattle.partial_result.proofs.Columns.{columns, wholes_are}
+use Rattle.partial_result.proofs.ColumnLaws.{IsWhole, EachWhole, columns-two}
 use Rattle.partial_result.proofs.ShapeLaws.{shape_is}
 
 mutual

@@ -1,4 +1,4 @@
-use Rattle.std.proofs.Common.{◌≡◌, ◌≢◌, [], refl, ap, length}
+use Rattle.std.proofs.Common.{◌≡◌, ◌≢◌, [], refl}
 use Rattle.agg_program.proofs.RunLemmas.{usage_at, usage_some, some_words}
 use Rattle.agg_program.proofs.running.status_of.Goals as goal
 

@@ -1,7 +1,7 @@
 -- The answers to aggregations are the trees of their definition: a loop's body puts what the definition puts next.
-use Rattle.std.proofs.Common.{arith, ◌≡◌, [], ◌∷◌, ◌++◌, ◌+◌, ◌∙◌, ap, sym, subst, IfOk, List, Some, drop, map, refl}
-use Rattle.std.specs.Prelude.{flat_map, zip, option_to_list, option_copied, slice_get, codes}
-use Rattle.serde_json.specs.Data.{Data, object}
+use Rattle.std.proofs.Common.{arith, ◌≡◌, [], ◌∷◌, ◌++◌, ◌+◌, ◌∙◌, ap, sym, subst, IfOk, List, drop, map, refl}
+use Rattle.std.specs.Prelude.{flat_map, zip, option_to_list, option_copied, codes}
+use Rattle.serde_json.specs.Data.{object}
 use Rattle.serde_json.specs.View.{view, members_view}
 use Rattle.agg_model.specs.declared.answer.BucketAnswer.{BucketAnswer, out-BucketAnswer, size-BucketAnswer}
 use denote.Param.Weighed.{most}
@@ -16,11 +16,11 @@ use Rattle.agg_spec.specs.Json.{Member, with_members, object_of, array_of, count
 use Rattle.agg_spec.specs.RangeCheck.{checker, check_bucket, sum_in_range}
 use Rattle.agg_response.specs.Buckets.{bucket_tree, own_members}
 use Rattle.agg_response.proofs.Levels.{printer-kind}
-use Rattle.agg_response.proofs.InRange.{bucket_here, buckets_later, sum_of_answer, buckets_of_answer, answer_here, answers_later, children_of_bucket, key_of_bucket, keys_of_buckets}
+use Rattle.agg_response.proofs.InRange.{bucket_here, buckets_later, sum_of_answer, buckets_of_answer, answer_here, answers_later, children_of_bucket, keys_of_buckets}
 use Rattle.agg_response.proofs.Places.{drop_here, drop_found, drop_missing, pairs_put, pairs_put-here, pairs_put-no_first, pairs_put-no_second}
 use Rattle.agg_response.proofs.Sizes.{buckets_less, children_less, bucket_most, answer_found}
 use Rattle.std.proofs.lemmas.List.{drop_all}
-use Rattle.agg_response.proofs.PutLaws.{with_members-append, bucket_made, mapped_here, flat_here, listed_here, answers_put, answers_here, answers_end}
+use Rattle.agg_response.proofs.PutLaws.{bucket_made, mapped_here, flat_here, listed_here, answers_put, answers_here, answers_end}
 use Rattle.agg_response.proofs.answers.+answers.Goals as goal
 
 -- what a bucket prints under the text of its key, and under its name

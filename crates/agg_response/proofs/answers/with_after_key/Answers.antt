@@ -1,10 +1,9 @@
 -- The last bucket is the one at the last place.
-use Rattle.std.proofs.Common.{◌≡◌, ◌∷◌, [], ◌∙◌, ap, sym, subst, IfOk, None}
+use Rattle.std.proofs.Common.{◌≡◌, ◌∷◌, [], ◌∙◌, ap, sym, subst, IfOk}
 use Rattle.std.specs.Prelude.{Option, slice_get, ◌-◌, length, codes}
-use Rattle.std.specs.List.{last_or}
 use Rattle.std.specs.Option.{option_map_or}
 use Rattle.serde_json.specs.Data.{put as with_member}
-use Rattle.serde_json.specs.View.{view, members_view}
+use Rattle.serde_json.specs.View.{members_view}
 use Rattle.agg_model.specs.declared.answer.BucketAnswer.{BucketAnswer, out-BucketAnswer}
 use Rattle.agg_spec.specs.AnswerTree.{composite_value}
 use Rattle.agg_spec.specs.Json.{with_members}

@@ -8,7 +8,6 @@ use Rattle.agg_model.specs.declared.mapping.FieldKind.{FieldKind}
 use Rattle.agg_model.specs.declared.mapping.FieldKind.TheVariants.{Boolean, Keyword, Long}
 use Rattle.agg_model.specs.declared.mapping.Field.{Field}
 use Rattle.agg_model.specs.declared.mapping.Mapping.{Mapping}
-use Rattle.agg_model.specs.declared.row.Document.{Document}
 use Rattle.agg_model.specs.declared.row.Scalar.TheVariants.{Word}
 use Rattle.agg_evaluation.specs.Rows.{PlacedRow, row_of}
 use Rattle.agg_evaluation.proofs.Computing.{computing}

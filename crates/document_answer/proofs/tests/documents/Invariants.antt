@@ -1,4 +1,4 @@
-use Rattle.std.proofs.Common.{◌≡◌, length, take}
+use Rattle.std.proofs.Common.{◌≡◌, length}
 use Rattle.document_terms.specs.SmallSearch.{HaveKeywords}
 use Rattle.document_answer.proofs.tests.documents.Given as goal
 

@@ -1,4 +1,4 @@
-use Rattle.std.proofs.Common.{◌≡◌, ◌∙◌, sym, ap}
+use Rattle.std.proofs.Common.{◌≡◌, ◌∙◌, sym}
 use Rattle.partial_result.proofs.MergeLevels.{merged_bucket_level, merged-Fixed, merged-Keyed, merged-Keyed-Fixed, merged-Keyed-Number, merged-Fixed-Keyed, merged-Fixed-Number, merged-Number, merged-Number-Keyed, merged-Number-Fixed}
 use Rattle.partial_result.proofs.merging.+merge.Goals as goal
 

@@ -1,4 +1,4 @@
-use Rattle.std.proofs.Common.{◌≡◌, true, false, sym, ◌∙◌, arith, rules, tests}
+use Rattle.std.proofs.Common.{◌≡◌, true, false, sym, ◌∙◌, rules, tests}
 use Rattle.std.specs.Prelude.{nat_lt}
 use Rattle.agg_reading.specs.Histogram.{histogram_rules, lies_within}
 use Rattle.request_kinds.proofs.histogram.check_rules.Goals as goal
