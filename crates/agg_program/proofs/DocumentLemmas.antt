@@ -4,6 +4,7 @@ use Rattle.std.specs.List.{enumerate_from}
 use Rattle.std.specs.Prelude.{codes, All, IfSome, option_map, ⊤}
 use Rattle.std.proofs.lemmas.Fmt.{decimal_injective}
 use Rattle.std.proofs.lemmas.List.{append_cancel_left}
+use Rattle.list_laws.proofs.Options.{some_same}
 use Rattle.agg_model.specs.declared.row.Document.{Document}
 use Rattle.keyword_documents.specs.SmallForm.{keyword_document, keyword_of}
 use Rattle.document_terms.specs.SmallSearch.{HaveKeywords}
@@ -48,9 +49,6 @@ fresh_at m n (w ∷ ws) le fits (suc k) d lt = fresh_at (m + 1) n ws (omega arit
 pub fresh : (words : List (List ℕ)) (n : ℕ) → n ≡ length words → n < 2 ^ 64 → All (λ d. d.id ≢ document_id n) (documents_of words)
 fresh words n is fits = fresh_at 0 n words (omega arith) fits
 
-some_is : {A : Type 0} (x y : A) → Some x ≡ Some y → x ≡ y
-some_is x y e = cc
-
 -- the source line that was read, by the keyword that it has
 indexes_by : (words : List (List ℕ)) (place : Place) (rest : List Line) (text : List ℕ) (after : Place) (left : Option (List Line)) (old new : List Document) (id : List ℕ) (o : Option (List ℕ)) →
     Takes place rest (Ok text) after left → old ≡ documents_of words → id ≡ document_id (length old) → keyword_of text ≡ o → option_map (λ w. old ++ keyword_document id id w ∷ []) o ≡ Some new → Indexes words place rest (Ok tt) new after left
@@ -65,7 +63,7 @@ indexes_by words place rest text after left old new id (Some w) takes same is ke
       w,
       ls,
       takes.6,
-      sym (some_is _ _ e) ∙ ap (λ (ds : List Document). ds ++ keyword_document id id w ∷ []) same
+      sym (some_same _ _ e) ∙ ap (λ (ds : List Document). ds ++ keyword_document id id w ∷ []) same
           ∙ ap (λ (i : List ℕ). documents_of words ++ keyword_document i i w ∷ []) id_same ∙ sym (documents_of_snoc words w),
       ap (sources words place) takes.2
           ∙ ap (λ (r : Script ⊤). r >> with_keyword (place.number + 1) (keyword_of l.text) next) takes.4
@@ -89,7 +87,7 @@ numbered_by old new id (Some w) is e numbered =
     let same : old ≡ documents_of words = numbered.1 in
     let id_same : id ≡ document_id (length words) = is ∙ ap document_id (ap length same ∙ length_documents_of words) in (
       words ++ w ∷ [],
-      sym (some_is _ _ e) ∙ ap (λ (ds : List Document). ds ++ keyword_document id id w ∷ []) same
+      sym (some_same _ _ e) ∙ ap (λ (ds : List Document). ds ++ keyword_document id id w ∷ []) same
           ∙ ap (λ (i : List ℕ). documents_of words ++ keyword_document i i w ∷ []) id_same ∙ sym (documents_of_snoc words w),
     )
 

@@ -10,7 +10,7 @@ use Rattle.arrival_moves.specs.Slots.{Slot, fresh, reached, holds, emptied}
 use Rattle.arrival_moves.specs.declared.item.Item.{Item}
 use Rattle.arrival_moves.specs.declared.label.Label.{Label}
 use Rattle.arrival_moves.specs.declared.view.View.{View}
-use Rattle.arrival_moves.proofs.Sums.{sum_by_set}
+use Rattle.place_laws.proofs.Sums.{sum_by_set}
 
 -- a state by a guard
 by_bool : (P : ArrivalState → Type 0) (s t : ArrivalState) (b : Bool) → P s → (b ≡ true → P t) → P (cond b t s)
@@ -46,11 +46,6 @@ pub item_keeps : (P : ArrivalState → Type 0) (s : ArrivalState) (i : ℕ) (is 
     → ((v : View) → get_elem? s.desks i ≡ some v → (x : Item) → find_item is v.hand ≡ some x → may v x ≡ true → P (act v x)) → P (move_item s i is may act)
 unfolding move_item
 item_keeps P s i is may act h k = desk_keeps P s i (λ _. true) (λ v. move_found s (may v) (act v) (find_item is v.hand)) h (λ v e _. by_found P s (may v) (act v) (find_item is v.hand) h (k v e))
-
--- one of two by a truth value
-pub by_test : {X : Type 0} (P : X → Type 0) (b : Bool) (x y : X) → (b ≡ true → P x) → (b ≡ false → P y) → P (cond b x y)
-by_test P true x y h k = h refl
-by_test P false x y h k = k refl
 
 -- the item that is found is one that is meant
 found_head : (is : Item → Bool) (y x : Item) (o : Option Item) (b : Bool) → is y ≡ b → cond b (some y) o ≡ some x → (o ≡ some x → is x ≡ true) → is x ≡ true

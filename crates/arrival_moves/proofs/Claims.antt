@@ -1,25 +1,27 @@
 -- The claims of all desks fit after every move.
-use Rattle.std.proofs.Common.{◌≡◌, ◌≢◌, ℕ, zero, suc, ◌+◌, ◌≤◌, Bool, true, false, leb, eqb, ◌||◌, not, List, [], ◌∷◌, ◌++◌, set, sym, refl, ap, ◌∙◌, subst, arith}
+use Rattle.std.proofs.Common.{◌≡◌, ◌≢◌, ℕ, zero, suc, ◌+◌, ◌≤◌, Bool, true, false, leb, ◌||◌, List, [], ◌∷◌, ◌++◌, set, sym, refl, ap, ◌∙◌, subst, arith}
 use Rattle.std.specs.Prelude.{IsTrue}
-use Rattle.std.proofs.lemmas.Bool.{leb-true, eq-eqb, false≢true, true≢false}
+use Rattle.std.proofs.lemmas.Bool.{leb-true, false≢true}
 use mathlib.Core.Option.{some, some-injective, some-ne-none}
 use lib.ListN.{get_elem?}
 use Rattle.std.specs.List.{sum_by}
 use Rattle.std.proofs.lemmas.List.Sums.{sum_by_push}
-use Rattle.arrival_moves.proofs.Lists.{set_else}
+use Rattle.place_laws.proofs.Places.{set_else}
 use Rattle.arrival_moves.specs.AfterMove.{first_view, spent_view, after_claim, after_split, split_off, after_join}
 use Rattle.arrival_moves.specs.Fairness.{ClaimsFit}
 use Rattle.arrival_moves.specs.Guards.{may_close}
-use Rattle.arrival_moves.specs.Hands.{find_item, is_empty}
+use Rattle.arrival_moves.specs.Hands.{find_item}
 use Rattle.arrival_moves.specs.Items.{is_at_slot}
 use Rattle.arrival_moves.specs.Moves.{ArrivalState, Move, claim, take_task, arrive, put, count, take_result, put_merged, split, join, close, stop, stopped, move, opened}
 use Rattle.arrival_moves.specs.Plans.{task_count}
 use Rattle.arrival_moves.specs.declared.item.Item.{Item}
 use Rattle.arrival_moves.specs.declared.plan.Plan.{Plan}
 use Rattle.arrival_moves.specs.declared.view.View.{View}
-use Rattle.arrival_moves.proofs.Sums.{sum_by_set, each_set, each_snoc}
+use Rattle.place_laws.proofs.Sums.{sum_by_set, each_set, each_snoc}
 use Rattle.arrival_moves.proofs.CloseGuards.{close_guard}
-use Rattle.arrival_moves.proofs.Cases.{desk_keeps, item_keeps, by_label, by_test, not_idle}
+use Rattle.arrival_moves.proofs.Cases.{desk_keeps, item_keeps, by_label, not_idle}
+use Rattle.place_laws.proofs.Tests.{by_test}
+use Rattle.arrival_moves.proofs.Quiet.{apart_from, bare}
 
 module _ (p : Plan) where
   -- where the desk has ended, all tasks are claimed
@@ -88,14 +90,7 @@ module _ (p : Plan) where
   claims_move s (take_result i q t) f = item_keeps (ClaimsFit p) s i _ _ _ f (λ v e x found _. by_label (ClaimsFit p) s _ _ f (λ l _. item_same s _ i v _ x _ f e found refl refl))
   claims_move s (put_merged i q b l) f = item_keeps (ClaimsFit p) s i _ _ _ f (λ v e x found _. by_test (ClaimsFit p) (is_at_slot x) _ _ (λ _. item_same s _ i v _ x _ f e found refl refl) (λ _. item_same s _ i v _ x _ f e found refl refl))
   claims_move s (split i k) f = desk_keeps (ClaimsFit p) s i _ _ f (λ v e m. claims_split s i k v f e (leb-true _ _ m))
-  claims_move s (join i j) f = desk_keeps (ClaimsFit p) s i _ _ f (λ v e m. desk_keeps (ClaimsFit p) s j _ _ f (λ w d z. claims_join s i j v w f e d (λ y. apart i j m y) (emptied w.hand z)))
-    where
-      apart : (i j : ℕ) → not (eqb i j) ≡ true → j ≡ i → ⊥
-      apart i j m y = true≢false (sym m ∙ ap not (eq-eqb i j (sym y)))
-
-      emptied : (xs : List Item) → is_empty xs ≡ true → xs ≡ []
-      emptied [] z = refl
-      emptied (x ∷ xs) z = absurd (false≢true z)
+  claims_move s (join i j) f = desk_keeps (ClaimsFit p) s i _ _ f (λ v e m. desk_keeps (ClaimsFit p) s j _ _ f (λ w d z. claims_join s i j v w f e d (apart_from i j m) (bare w.hand z)))
   claims_move s (stop i k) f = item_keeps (ClaimsFit p) s i _ _ _ f (λ v e x found _. item_same s _ i v _ x _ f e found refl refl)
   claims_move s (stopped i q) f = desk_keeps (ClaimsFit p) s i _ _ f (λ v e _. claims_same s _ i v _ f e refl refl refl refl refl (f.idle i v e))
   claims_move s (close i q b) f = desk_keeps (ClaimsFit p) s i _ _ f (λ v e m. by_label (ClaimsFit p) s _ _ f (λ l o. claims_same s _ i v _ f e refl refl refl refl refl (λ z. absurd (drawn v m z))))

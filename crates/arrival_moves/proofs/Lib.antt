@@ -1,7 +1,5 @@
-pub mod Lists
 pub mod OneIf
 pub mod SlotStates
-pub mod Sums
 pub mod Cases
 pub mod CloseGuards
 pub mod Claims

@@ -5,7 +5,8 @@ use Rattle.arrival_moves.specs.Items.{is_at_slot}
 use Rattle.arrival_moves.specs.Moves.{ArrivalState, Move, claim, take_task, arrive, put, count, take_result, put_merged, split, join, close, stop, stopped, move, load_slots, opened}
 use Rattle.arrival_moves.specs.declared.plan.Plan.{Plan}
 use Rattle.arrival_moves.specs.Fairness.{HasShape}
-use Rattle.arrival_moves.proofs.Cases.{desk_keeps, item_keeps, by_label, by_test}
+use Rattle.arrival_moves.proofs.Cases.{desk_keeps, item_keeps, by_label}
+use Rattle.place_laws.proofs.Tests.{by_test}
 
 module _ (p : Plan) where
   abbrev H : ArrivalState → Type 0

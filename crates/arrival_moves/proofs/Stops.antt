@@ -22,11 +22,12 @@ use Rattle.arrival_moves.specs.AfterMove.{first_view, spent_view, after_claim, a
 use Rattle.arrival_moves.specs.Guards.{may_put, may_put_merged, implies}
 use Rattle.arrival_moves.specs.Moves.{ArrivalState, Move, claim, take_task, arrive, put, count, take_result, put_merged, split, join, close, stop, stopped, move, opened}
 use Rattle.arrival_moves.specs.Fairness.{everywhere, of_search, failed_tasks, skipped_tasks}
-use Rattle.arrival_moves.proofs.Sums.{Each, each_set, each_snoc, sum_by_has}
+use Rattle.place_laws.proofs.Sums.{Each, each_set, each_snoc, sum_by_has}
 use Rattle.arrival_moves.proofs.Each.{each_one}
 use Rattle.arrival_moves.proofs.NumberLists.{times_cons}
 use Rattle.arrival_moves.proofs.OneIf.{one_if_true}
-use Rattle.arrival_moves.proofs.Cases.{desk_keeps, item_keeps, by_label, by_test}
+use Rattle.arrival_moves.proofs.Cases.{desk_keeps, item_keeps, by_label}
+use Rattle.place_laws.proofs.Tests.{by_test}
 use Rattle.arrival_moves.specs.Fairness.{HasShape}
 use Rattle.arrival_moves.proofs.Quiet.{eq_one}
 use Rattle.arrival_moves.proofs.Words.{WordsFit, zeros}
@@ -35,6 +36,7 @@ use Rattle.arrival_moves.proofs.LabelsFit.{LabelsFit, arrived_found, batch_found
 use Rattle.arrival_moves.proofs.Batches.{BatchesKept, batch_slot, hands_has}
 use Rattle.arrival_moves.proofs.Everywhere.{marked_label, Unmoved, unmoved_take_task, unmoved_arrive, unmoved_reach_result, unmoved_count, unmoved_reach_batch, unmoved_split, unmoved_join, unmoved_close, unmoved_stopped, every_claimed, every_ended, every_put, every_taken, every_merged, every_stop}
 use Rattle.arrival_moves.proofs.TasksOnce.{every_opened}
+use Rattle.std.proofs.lemmas.Bool.{or_right}
 
 -- the searches that a desk noted
 abbrev pub Noted : List ℕ → View → Type 0
@@ -68,11 +70,7 @@ still_low (w ∷ ws) (suc j) (suc q) h = still_low ws j q h
 -- what two lists in a row contain, one of them does
 contains_append : (k : ℕ) (xs ys : List ℕ) → contains k (xs ++ ys) ≡ true → (contains k xs ≡ true) ⊎ (contains k ys ≡ true)
 contains_append k [] ys h = inr h
-contains_append k (x ∷ xs) ys h = ⊎_elim (λ (e : eqb x k ≡ true). inl (ap (λ b. b || contains k xs) e)) (λ (e : contains k (xs ++ ys) ≡ true). ⊎_elim (λ (y : contains k xs ≡ true). inl (right (eqb x k) (contains k xs) y)) (λ (y : contains k ys ≡ true). inr y) (contains_append k xs ys e)) (or_cases (eqb x k) (contains k (xs ++ ys)) h)
-  where
-    right : (a b : Bool) → b ≡ true → (a || b) ≡ true
-    right true b e = refl
-    right false b e = e
+contains_append k (x ∷ xs) ys h = ⊎_elim (λ (e : eqb x k ≡ true). inl (ap (λ b. b || contains k xs) e)) (λ (e : contains k (xs ++ ys) ≡ true). ⊎_elim (λ (y : contains k xs ≡ true). inl (or_right (eqb x k) (contains k xs) y)) (λ (y : contains k ys ≡ true). inr y) (contains_append k xs ys e)) (or_cases (eqb x k) (contains k (xs ++ ys)) h)
 
 -- a move that changes no stop word and no note keeps the notes
 noted_same : (s t : ArrivalState) (i : ℕ) (v w : View) → NotesKept s → get_elem? s.desks i ≡ some v → t.stops ≡ s.stops → t.desks ≡ set s.desks i w → w.stopped ≡ v.stopped → NotesKept t

@@ -26,12 +26,13 @@ use Rattle.arrival_moves.proofs.Alone.{due_there}
 use Rattle.arrival_moves.proofs.Batches.{held_real, fresh_batch}
 use Rattle.arrival_moves.proofs.Cases.{found_is, find_again, exchanged_again}
 use Rattle.arrival_moves.proofs.LabelsFit.{batch_found, due_range, due_now, batch_first}
-use Rattle.arrival_moves.proofs.Lists.{at_set, set_else, set_here}
+use Rattle.place_laws.proofs.Places.{at_set, set_else, set_here}
 use Rattle.arrival_moves.proofs.Places.{place_within}
 use Rattle.arrival_moves.proofs.Runs.{kept_run, move_item_is}
 use Rattle.arrival_table.proofs.Allowed.{again, desk_there, desks_now, load_stays, outcome_stays}
-use Rattle.arrival_table.proofs.Lists.{set_word, in_list}
+use Rattle.arrival_table.proofs.Lists.{set_word}
 use Rattle.arrival_table.proofs.Outs.{out_taken, out_given}
+use Rattle.place_laws.proofs.Places.{there_below}
 
 -- at the slot it is the same batch
 still_batch : (q b : ℕ) (x : Item) → is_batch q b x ≡ true → is_batch q b (reached_item x) ≡ true
@@ -76,7 +77,7 @@ module _ {A R : Type 0} (load : A → Label) (outcome : R → Label) (p : Plan) 
         again load outcome p good s _ r (take_result id q t) _ (move_item_is b id _ _ _ v x there found due ∙ (to ∙ to_label)) (record {
           words = set_word s.words 0 ∙ r.1.words;
           desks = desks_now load outcome p good s b id d r.1;
-          loads = λ k z e. let a = in_list b.loads k z e in load_stays load outcome p good s.homes ts k z (set_else s.homes at k none (λ y. omega arith)) (r.1.loads k z e);
+          loads = λ k z e. let a = there_below b.loads k z e in load_stays load outcome p good s.homes ts k z (set_else s.homes at k none (λ y. omega arith)) (r.1.loads k z e);
           results = λ k z e. ⊎_elim (λ (y : (k ≡ j) × (emptied ≡ z)). subst (IsOutcomeAt load outcome ts (task_count p + k)) y.1 tt)
               (λ (y : (k ≢ j) × (get_elem? b.results k ≡ some z)). outcome_stays load outcome p good s.homes ts (task_count p + k) z (set_else s.homes at (task_count p + k) none (λ u. y.0 (omega arith))) (r.1.results k z y.1)) (at_set b.results j k emptied z e);
           batches = λ k z e. outcome_stays load outcome p good s.homes ts (task_count p + task_count p + k) z (set_else s.homes at (task_count p + task_count p + k) none (λ u. omega arith)) (r.1.batches k z e);
@@ -98,8 +99,8 @@ module _ {A R : Type 0} (load : A → Label) (outcome : R → Label) (p : Plan) 
         again load outcome p good s _ r (put_merged id q c l) _ (move_item_is b id _ _ _ v x there found may ∙ ap (λ y. cond y (record b { batches = set b.batches j (holds l); desks = set b.desks id (after_put_merged v q c) }) (record b { batches = set b.batches j reached; desks = set b.desks id w })) shut) (record {
           words = set_word s.words 0 ∙ r.1.words;
           desks = desks_now load outcome p good s b id d r.1;
-          loads = λ k z e. let a = in_list b.loads k z e in load_stays load outcome p good s.homes ts k z (set_else s.homes at k none (λ y. omega arith)) (r.1.loads k z e);
-          results = λ k z e. let a = in_list b.results k z e in outcome_stays load outcome p good s.homes ts (task_count p + k) z (set_else s.homes at (task_count p + k) none (λ u. omega arith)) (r.1.results k z e);
+          loads = λ k z e. let a = there_below b.loads k z e in load_stays load outcome p good s.homes ts k z (set_else s.homes at k none (λ y. omega arith)) (r.1.loads k z e);
+          results = λ k z e. let a = there_below b.results k z e in outcome_stays load outcome p good s.homes ts (task_count p + k) z (set_else s.homes at (task_count p + k) none (λ u. omega arith)) (r.1.results k z e);
           batches = λ k z e. ⊎_elim (λ (y : (k ≡ j) × (reached ≡ z)). subst (IsOutcomeAt load outcome ts (task_count p + task_count p + k)) y.1 tt)
               (λ (y : (k ≢ j) × (get_elem? b.batches k ≡ some z)). outcome_stays load outcome p good s.homes ts (task_count p + task_count p + k) z (set_else s.homes at (task_count p + task_count p + k) none (λ u. y.0 (omega arith))) (r.1.batches k z y.1)) (at_set b.batches j k reached z e);
         }) (out_taken s.homes s.views id at Vacant me.0 d r.2 here old refl),
@@ -118,8 +119,8 @@ module _ {A R : Type 0} (load : A → Label) (outcome : R → Label) (p : Plan) 
         again load outcome p good s _ r (put_merged id q c l) _ (move_item_is b id _ _ _ v x there found may ∙ ap (λ y. cond y (record b { batches = set b.batches j (holds l); desks = set b.desks id w }) (record b { batches = set b.batches j reached; desks = set b.desks id (after_reach_batch v q c x) })) open_now) (record {
           words = set_word s.words 0 ∙ r.1.words;
           desks = desks_now load outcome p good s b id d r.1;
-          loads = λ k z e. let a = in_list b.loads k z e in load_stays load outcome p good s.homes ts k z (set_else s.homes at k (some (Outcome y)) (λ y. omega arith)) (r.1.loads k z e);
-          results = λ k z e. let a = in_list b.results k z e in outcome_stays load outcome p good s.homes ts (task_count p + k) z (set_else s.homes at (task_count p + k) (some (Outcome y)) (λ u. omega arith)) (r.1.results k z e);
+          loads = λ k z e. let a = there_below b.loads k z e in load_stays load outcome p good s.homes ts k z (set_else s.homes at k (some (Outcome y)) (λ y. omega arith)) (r.1.loads k z e);
+          results = λ k z e. let a = there_below b.results k z e in outcome_stays load outcome p good s.homes ts (task_count p + k) z (set_else s.homes at (task_count p + k) (some (Outcome y)) (λ u. omega arith)) (r.1.results k z e);
           batches = λ k z e. ⊎_elim (λ (u : (k ≡ j) × (holds l ≡ z)). subst (IsOutcomeAt load outcome ts (task_count p + task_count p + k)) u.1 (y, subst (λ (i : ℕ). get_elem? ts (task_count p + task_count p + i) ≡ some (some (Outcome y))) (sym u.0) (set_here s.homes at (some (Outcome y)) (omega arith)), refl))
               (λ (u : (k ≢ j) × (get_elem? b.batches k ≡ some z)). outcome_stays load outcome p good s.homes ts (task_count p + task_count p + k) z (set_else s.homes at (task_count p + task_count p + k) (some (Outcome y)) (λ d. u.0 (omega arith))) (r.1.batches k z u.1)) (at_set b.batches j k (holds l) z e);
         }) (out_given s.homes s.views id at (Outcome y) was d [] r.2 here refl refl),

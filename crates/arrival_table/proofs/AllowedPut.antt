@@ -22,14 +22,15 @@ use Rattle.arrival_moves.specs.Slots.{fresh, reached, holds}
 use Rattle.arrival_table.specs.Outs.{knows, now_has_out}
 use Rattle.arrival_table.specs.Steps.{IsReached, IsOutcomeAt, ReachesResult, PutsResult, result_slot}
 use Rattle.arrival_moves.proofs.Cases.{found_is, find_again, exchanged_again}
-use Rattle.arrival_moves.proofs.Lists.{at_set, set_else, set_here}
+use Rattle.place_laws.proofs.Places.{at_set, set_else, set_here}
 use Rattle.arrival_moves.proofs.Places.{place_within}
 use Rattle.arrival_moves.proofs.Reached.{fresh_there}
 use Rattle.arrival_moves.proofs.Results.{in_range}
 use Rattle.arrival_moves.proofs.Runs.{kept_run, move_item_is}
 use Rattle.arrival_table.proofs.Allowed.{again, desk_there, desks_now, load_stays, outcome_stays}
-use Rattle.arrival_table.proofs.Lists.{set_word, in_list}
+use Rattle.arrival_table.proofs.Lists.{set_word}
 use Rattle.arrival_table.proofs.Outs.{out_taken, out_given}
+use Rattle.place_laws.proofs.Places.{there_below}
 
 -- a desk that is not yet at the slot may come to it
 away_may : (q t : ℕ) (v : View) (l : Label) (x : Item) → is_arrived q t x ≡ true → is_at_slot x ≡ false → may_put v q l x ≡ true
@@ -75,7 +76,7 @@ module _ {A R : Type 0} (load : A → Label) (outcome : R → Label) (p : Plan) 
         again load outcome p good s _ r (put id q t l) _ (move_item_is b id _ _ _ v x there found may ∙ ap (λ c. cond c (record b { results = set b.results j (holds l); desks = set b.desks id (after_put v q t) }) (record b { results = set b.results j reached; desks = set b.desks id w })) shut) (record {
           words = set_word s.words 0 ∙ r.1.words;
           desks = desks_now load outcome p good s b id d r.1;
-          loads = λ k z e. let a = in_list b.loads k z e in load_stays load outcome p good s.homes ts k z (set_else s.homes at k none (λ y. omega arith)) (r.1.loads k z e);
+          loads = λ k z e. let a = there_below b.loads k z e in load_stays load outcome p good s.homes ts k z (set_else s.homes at k none (λ y. omega arith)) (r.1.loads k z e);
           results = λ k z e. ⊎_elim (λ (y : (k ≡ j) × (reached ≡ z)). subst (IsOutcomeAt load outcome ts (task_count p + k)) y.1 tt)
               (λ (y : (k ≢ j) × (get_elem? b.results k ≡ some z)). outcome_stays load outcome p good s.homes ts (task_count p + k) z (set_else s.homes at (task_count p + k) none (λ u. y.0 (omega arith))) (r.1.results k z y.1)) (at_set b.results j k reached z e);
           batches = λ k z e. outcome_stays load outcome p good s.homes ts (task_count p + task_count p + k) z (set_else s.homes at (task_count p + task_count p + k) none (λ u. omega arith)) (r.1.batches k z e);
@@ -95,7 +96,7 @@ module _ {A R : Type 0} (load : A → Label) (outcome : R → Label) (p : Plan) 
         again load outcome p good s _ r (put id q t l) _ (move_item_is b id _ _ _ v x there found may ∙ ap (λ c. cond c (record b { results = set b.results j (holds l); desks = set b.desks id w }) (record b { results = set b.results j reached; desks = set b.desks id (after_reach_result v q t x) })) open_now) (record {
           words = set_word s.words 0 ∙ r.1.words;
           desks = desks_now load outcome p good s b id d r.1;
-          loads = λ k z e. let a = in_list b.loads k z e in load_stays load outcome p good s.homes ts k z (set_else s.homes at k (some (Outcome y)) (λ y. omega arith)) (r.1.loads k z e);
+          loads = λ k z e. let a = there_below b.loads k z e in load_stays load outcome p good s.homes ts k z (set_else s.homes at k (some (Outcome y)) (λ y. omega arith)) (r.1.loads k z e);
           results = λ k z e. ⊎_elim (λ (u : (k ≡ j) × (holds l ≡ z)). subst (IsOutcomeAt load outcome ts (task_count p + k)) u.1 (y, subst (λ (i : ℕ). get_elem? ts (task_count p + i) ≡ some (some (Outcome y))) (sym u.0) (set_here s.homes at (some (Outcome y)) (omega arith)), refl))
               (λ (u : (k ≢ j) × (get_elem? b.results k ≡ some z)). outcome_stays load outcome p good s.homes ts (task_count p + k) z (set_else s.homes at (task_count p + k) (some (Outcome y)) (λ d. u.0 (omega arith))) (r.1.results k z u.1)) (at_set b.results j k (holds l) z e);
           batches = λ k z e. outcome_stays load outcome p good s.homes ts (task_count p + task_count p + k) z (set_else s.homes at (task_count p + task_count p + k) (some (Outcome y)) (λ u. omega arith)) (r.1.batches k z e);

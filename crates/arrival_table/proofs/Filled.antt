@@ -9,7 +9,8 @@ use Rattle.arrival_table.specs.declared.cell.Cell.{Cell}
 use Rattle.arrival_table.specs.declared.cell.Cell.TheVariants.{Vacant, Load}
 use Rattle.arrival_table.specs.declared.opening.Task.{Task}
 use Rattle.arrival_table.specs.Opening.{IsFilled}
-use Rattle.arrival_moves.proofs.Lists.{set_here, set_else}
+use Rattle.place_laws.proofs.Places.{set_here, set_else}
+use Rattle.place_laws.proofs.Places.{there_below}
 
 pub at_replicate : {X : Type 0} (n j : ℕ) (x : X) → j < n → get_elem? (replicate n x) j ≡ some x
 at_replicate zero j x h = absurd (omega arith)
@@ -20,11 +21,6 @@ pub of_replicate : {X : Type 0} (n j : ℕ) (x y : X) → get_elem? (replicate n
 of_replicate zero j x y e = absurd (some-ne-none y (sym e))
 of_replicate (suc n) zero x y e = (omega arith, some-injective x y e)
 of_replicate (suc n) (suc j) x y e = let a = of_replicate n j x y e in let l = a.0 in (omega arith, a.1)
-
-pub below_length : {X : Type 0} (xs : List X) (j : ℕ) (x : X) → get_elem? xs j ≡ some x → j < length xs
-below_length [] j x e = absurd (some-ne-none x (sym e))
-below_length (y ∷ ys) zero x e = omega arith
-below_length (y ∷ ys) (suc j) x e = let a = below_length ys j x e in omega arith
 
 pub take_length : {X : Type 0} (xs : List X) → xs ≡ take (length xs) xs
 take_length [] = refl
@@ -47,13 +43,13 @@ module _ {A R : Type 0} where
   pub filled_none : (ts : List (Task A)) (cells : List (Cell A R)) → cells ≡ replicate (length ts + length ts + length ts) Vacant → IsFilled (length ts) ts cells
   filled_none ts cells e = record {
     size = ap length e ∙ length-replicate _ _;
-    loads = λ k t h g. let a = below_length ts k t g in absurd (omega arith);
+    loads = λ k t h g. let a = there_below ts k t g in absurd (omega arith);
     vacant = λ k a b. ap (λ xs. get_elem? xs k) e ∙ at_replicate _ k Vacant b;
   }
 
   -- one load more lies in its slot
   pub filled_more : (ts : List (Task A)) (cells : List (Cell A R)) (m j : ℕ) (t : Task A) → IsFilled m ts cells → m ≡ j + 1 → get_elem? ts j ≡ some t → IsFilled j ts (set cells j (Load t.load))
-  filled_more ts cells m j t f next there = let low = below_length ts j t there in let n = f.size in record {
+  filled_more ts cells m j t f next there = let low = there_below ts j t there in let n = f.size in record {
     size = length-set cells j (Load t.load) ∙ f.size;
     loads = λ k u h g. dite (ℕ_discrete k j)
         (λ same. let is : t ≡ u = some-injective t u (sym there ∙ (ap (get_elem? ts) (sym same) ∙ g)) in ap (get_elem? (set cells j (Load t.load))) same ∙ (set_here cells j (Load t.load) (omega arith) ∙ ap (λ (z : Task A). some (Load z.load)) is))

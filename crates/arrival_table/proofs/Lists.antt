@@ -1,6 +1,5 @@
 -- A word among the words of the table.
-use Rattle.std.proofs.Common.{◌≡◌, ℕ, zero, suc, ◌+◌, ◌<◌, List, [], ◌∷◌, ◌++◌, length, get_or, set, sym, refl, ap, arith}
-use mathlib.Core.Option.{some, some-ne-none}
+use Rattle.std.proofs.Common.{◌≡◌, ℕ, zero, suc, ◌+◌, ◌<◌, List, [], ◌∷◌, ◌++◌, length, get_or, set, refl, ap, arith}
 use lib.ListN.{get_elem?}
 
 -- a word that is set to what it is
@@ -29,9 +28,3 @@ pub set_right : (xs ys : List ℕ) (j i z : ℕ) → j ≡ length xs + i → set
 set_right [] ys j i z e = let d : j ≡ i = omega arith in ap (λ k. set ys k z) d
 set_right (x ∷ xs) ys zero i z e = absurd (omega arith)
 set_right (x ∷ xs) ys (suc j) i z e = ap (λ ws. x ∷ ws) (set_right xs ys j i z (omega arith))
-
--- a place where something stands
-pub in_list : {X : Type 0} (xs : List X) (j : ℕ) (x : X) → get_elem? xs j ≡ some x → j < length xs
-in_list [] j x e = absurd (some-ne-none x (sym e))
-in_list (y ∷ xs) zero x e = omega arith
-in_list (y ∷ xs) (suc j) x e = let a = in_list xs j x e in omega arith

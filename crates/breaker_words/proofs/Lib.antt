@@ -1,4 +1,3 @@
-pub mod Sums
 pub mod Moves
 pub mod OnePass
 pub mod Steps

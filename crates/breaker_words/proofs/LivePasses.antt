@@ -13,7 +13,8 @@ use Rattle.breaker_words.specs.AfterStep.{after_try_child, after_try_parent, aft
 use Rattle.breaker_words.specs.Soundness.{IsConsistent}
 use Rattle.atomic_table.specs.Table.{Me}
 use Rattle.breaker_words.specs.Passes.{IsLive}
-use Rattle.breaker_words.proofs.Moves.{by_test, hold_child}
+use Rattle.breaker_words.proofs.Moves.{hold_child}
+use Rattle.place_laws.proofs.Tests.{by_test}
 use Rattle.breaker_words.proofs.OnePass
 use Rattle.breaker_words.proofs.Runs.{own_ceiled, own_cut, own_joined, own_empty}
 

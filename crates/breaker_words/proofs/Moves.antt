@@ -20,7 +20,7 @@ use Rattle.breaker_words.specs.Views.{hold_of, most_of, seen_of}
 use Rattle.breaker_words.specs.Trials.{standing_of, in_force_of, child_in_force, child_standing, parent_standing}
 use Rattle.breaker_words.specs.Moves.{BreakerState, with_word_raised, with_word_lowered, move_pass, move_some}
 use Rattle.breaker_words.specs.Soundness.{FitsCeiling, IsConsistent, IsSound}
-use Rattle.breaker_words.proofs.Sums.{sum_by_set, sum_by_has, sum_by_below, each_set}
+use Rattle.place_laws.proofs.Sums.{sum_by_set, sum_by_has, sum_by_below, each_set}
 
 pub amount_at_zero : (w x : Which) → amount_at w 0 x ≡ 0
 amount_at_zero Request Request = refl
@@ -138,10 +138,6 @@ move_pass_keeps P s i may act h k = by_option P s may act (get_elem? s.passes i)
 
 pub move_pass_is : (s : BreakerState) (i : ℕ) (may : View → Bool) (act : View → BreakerState) (v : View) → get_elem? s.passes i ≡ some v → may v ≡ true → move_pass s i may act ≡ act v
 move_pass_is s i may act v e m = ap (move_some s may act) e ∙ ap (λ b. cond b (act v) s) m
-
-pub by_test : {X : Type 0} (P : X → Type 0) (b : Bool) (x y : X) → (b ≡ true → P x) → (b ≡ false → P y) → P (cond b x y)
-by_test P true x y h k = h refl
-by_test P false x y h k = k refl
 
 pub lives : (t : ℕ) (v : View) → FitsCeiling t v → 1 ≤ t → 0 < v.cap → 1 ≤ v.total
 lives t v f low p = let k = f.kept p in omega arith

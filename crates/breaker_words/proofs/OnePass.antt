@@ -17,7 +17,8 @@ use Rattle.breaker_words.specs.Views.{hold_of, most_of}
 use Rattle.breaker_words.specs.Trials.{child_standing, parent_standing, child_only, is_rest, is_child_refused, is_child_granted, is_returning, is_parent_refused, is_given, HasAmount}
 use Rattle.breaker_words.specs.AfterStep.{noted_parent, raised_both, after_try_child, after_take_back_child, after_try_parent, after_take_back_parent, after_give_parent, after_give_child}
 use Rattle.breaker_words.specs.Soundness.{IsConsistent}
-use Rattle.breaker_words.proofs.Moves.{amount_at_zero, account_cases, hold_put, children_put, parent_put, hold_child, by_test}
+use Rattle.breaker_words.proofs.Moves.{amount_at_zero, account_cases, hold_put, children_put, parent_put, hold_child}
+use Rattle.place_laws.proofs.Tests.{by_test}
 
 -- a fact at the breaker w with its new account and a, and at each other with its account and nothing
 pub both_cases : (P : Which → Account → ℕ → Type 0) (w : Which) (k : Accounts) (b : Account) (a : ℕ) → P w b a → ((x : Which) → P x (account k x) 0) → (x : Which) → P x (account (put k w b) x) (amount_at w a x)

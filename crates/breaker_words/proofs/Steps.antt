@@ -18,7 +18,8 @@ use Rattle.breaker_words.specs.Trials.{in_force_of, child_in_force, child_standi
 use Rattle.breaker_words.specs.AfterStep.{noted_parent, raised_both, after_try_child, after_take_back_child, after_try_parent, after_take_back_parent, after_give_parent, after_give_child}
 use Rattle.breaker_words.specs.Moves.{BreakerState, with_word_raised, with_word_lowered, may_try_child, may_give_parent}
 use Rattle.breaker_words.specs.Soundness.{IsConsistent, IsSound}
-use Rattle.breaker_words.proofs.Moves.{amount_at_zero, amount_at_add, amount_at_cases, account_cases, hold_put, standing_as, inforce_as, by_test, rises, falls}
+use Rattle.breaker_words.proofs.Moves.{amount_at_zero, amount_at_add, amount_at_cases, account_cases, hold_put, standing_as, inforce_as, rises, falls}
+use Rattle.place_laws.proofs.Tests.{by_test}
 use Rattle.breaker_words.proofs.OnePass
 
 pub may_try_tells : (a : ℕ) (v : View) → may_try_child a v ≡ true → (v.trial ≡ Rest) × (1 ≤ a) × (v.accounts.parent.hold + a ≤ v.cap)

@@ -2,14 +2,11 @@
 use Rattle.std.proofs.Common.{◌≡◌, refl, ℕ, ◌+◌, ◌≤◌, zero, suc, Bool, true, false, List, [], ◌∷◌, ◌++◌, length, take, filter, map, Some, sym, ◌∙◌, ap, subst, arith, add-one, cond}
 use Rattle.std.specs.Prelude.{◌||◌, ◌&&◌}
 use Rattle.std.specs.List.{list_any, list_all, slice_get}
+use Rattle.std.proofs.lemmas.Bool.{or_right}
 
 or_false : (a b c : Bool) → (a || b) ≡ false → (b ≡ false → c ≡ false) → (a || c) ≡ false
 or_false true b c e next = absurd (cc e)
 or_false false b c e next = next e
-
-or_true : (a b : Bool) → b ≡ true → (a || b) ≡ true
-or_true true b e = refl
-or_true false b e = e
 
 and_true : (a b c : Bool) → (a && b) ≡ true → (b ≡ true → c ≡ true) → (a && c) ≡ true
 and_true true b c e next = next e
@@ -57,7 +54,7 @@ module _ {A : Type 0} (p : A → Bool) where
   pub one_is_enough : (xs : List A) (n : ℕ) (x : A) → slice_get xs n ≡ Some x → p x ≡ true → list_any p xs ≡ true
   one_is_enough [] n x is here = absurd (cc is)
   one_is_enough (y ∷ ys) zero x is here = let same : y ≡ x = cc is in ap (λ (b : Bool). b || list_any p ys) (ap p same ∙ here)
-  one_is_enough (y ∷ ys) (suc n) x is here = or_true (p y) (list_any p ys) (one_is_enough ys n x is here)
+  one_is_enough (y ∷ ys) (suc n) x is here = or_right (p y) (list_any p ys) (one_is_enough ys n x is here)
 
   all_next : (xs : List A) (n : ℕ) (x : A) → slice_get xs n ≡ Some x → list_all p (take n xs) ≡ true → p x ≡ true → list_all p (take (suc n) xs) ≡ true
   all_next [] n x is before here = absurd (cc is)

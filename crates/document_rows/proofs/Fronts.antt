@@ -6,6 +6,7 @@ use Rattle.std.specs.Cmp.Lexicographic.{same_text}
 use Rattle.std.proofs.Common.{sym, ◌∙◌, ap, arith, ⊎_elim}
 use Rattle.std.proofs.lemmas.Bool.{cases_Bool}
 use Rattle.std.proofs.lemmas.Cmp.{nat_eq_equiv}
+use Rattle.list_laws.proofs.Booleans.{and_false, and_true}
 use Rattle.agg_model.specs.declared.mapping.NestedPath.{NestedPath}
 use Rattle.agg_model.specs.declared.mapping.Mapping.{Mapping}
 use Rattle.agg_reading.specs.Fields.{nested_from, is_beneath, is_in_context}
@@ -17,13 +18,9 @@ abbrev pub any_front : (List ℕ → Bool) → List ℕ → Bool
 any_front test [] = test []
 any_front test (b ∷ bs) = ((b == 46) && test []) || any_front (λ q. test (b ∷ q)) bs
 
-and-false : (a : Bool) → (a && false) ≡ false
-and-false true = refl
-and-false false = refl
-
 no_front : (bs : List ℕ) → any_front (λ q. false) bs ≡ false
 no_front [] = refl
-no_front (b ∷ bs) = ap (λ a. a || any_front (λ q. false) bs) (and-false (b == 46)) ∙ no_front bs
+no_front (b ∷ bs) = ap (λ a. a || any_front (λ q. false) bs) (and_false (b == 46)) ∙ no_front bs
 
 or_both : (a b c d : Bool) → ((a || b) || (c || d)) ≡ ((a || c) || (b || d))
 or_both true b c d = refl
@@ -43,12 +40,8 @@ front-or f g (b ∷ bs) =
     ∙ or_both ((b == 46) && f []) ((b == 46) && g []) (any_front (λ q. f (b ∷ q)) bs) (any_front (λ q. g (b ∷ q)) bs)
 
 front-and : (f : List ℕ → Bool) (c : Bool) (bs : List ℕ) → any_front (λ q. f q && c) bs ≡ (any_front f bs && c)
-front-and f true bs = ap (λ g. any_front g bs) (λ i q. and-true (f q) i) ∙ sym (and-true (any_front f bs))
-  where
-    and-true : (a : Bool) → (a && true) ≡ a
-    and-true true = refl
-    and-true false = refl
-front-and f false bs = ap (λ g. any_front g bs) (λ i q. and-false (f q) i) ∙ no_front bs ∙ sym (and-false (any_front f bs))
+front-and f true bs = ap (λ g. any_front g bs) (λ i q. and_true (f q) i) ∙ sym (and_true (any_front f bs))
+front-and f false bs = ap (λ g. any_front g bs) (λ i q. and_false (f q) i) ∙ no_front bs ∙ sym (and_false (any_front f bs))
 
 -- a path is another or lies beneath it where the other is one of its fronts
 front_is : (outer path : List ℕ) → (bytes_eq outer path || is_beneath outer path) ≡ any_front (bytes_eq outer) path
@@ -61,8 +54,8 @@ front_is [] (b ∷ bs) =
 front_is (x ∷ outer) [] = refl
 front_is (x ∷ outer) (b ∷ bs) =
     elim (nat_eq x b) as (λ e. ((e && bytes_eq outer bs) || (e && is_beneath outer bs)) ≡ (((b == 46) && false) || any_front (λ q. e && bytes_eq outer q) bs)) [
-      | true ↦ front_is outer bs ∙ ap (λ a. a || any_front (bytes_eq outer) bs) (sym (and-false (b == 46)))
-      | false ↦ sym (ap (λ a. a || any_front (λ q. false) bs) (and-false (b == 46)) ∙ no_front bs)
+      | true ↦ front_is outer bs ∙ ap (λ a. a || any_front (bytes_eq outer) bs) (sym (and_false (b == 46)))
+      | false ↦ sym (ap (λ a. a || any_front (λ q. false) bs) (and_false (b == 46)) ∙ no_front bs)
     ]
 
 module _ (test : List ℕ → Bool) where

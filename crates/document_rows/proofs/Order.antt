@@ -23,6 +23,7 @@ use Rattle.document_rows.specs.Scalars.{rank, scalar_order, same_word, IsOneKind
 use Rattle.agg_model.specs.FieldKinds.{is_of_kind}
 use denote.Param.Members.{Mut}
 use denote.Ref.{Bor}
+use Rattle.list_laws.proofs.Booleans.{and_false}
 
 -- the order is total, since it goes by keys that are in order
 
@@ -145,20 +146,12 @@ behind x z ts same up = insert_value-step x z ts ∙ ap (λ o. match_ordering o 
 -- and is not the same word
 above_differs : (x z : Scalar) → rank x ≡ rank z → below z x ≡ true → same_word x z ≡ false
 above_differs x z same up = same_is x z same ∙ ap (λ o. is_word x && is_eq o) (is_greater z x up) ∙ and_false (is_word x)
-  where
-    and_false : (b : Bool) → (b && false) ≡ false
-    and_false true = refl
-    and_false false = refl
 
 -- a value that is not above another is put in front of it
 module _ (x z : Scalar) (ys : List Scalar) (same : rank x ≡ rank z) where
   by_order : (o : Ordering) → scalar_order x z ≡ o → below z x ≡ false → joined_from x (z ∷ ys) ≡ match_ordering o (x ∷ joined_from z ys) (beside x (joined_from z ys)) (z ∷ insert_value x (after z ys))
   by_order Less e low =
       ap (λ b. cond b (joined_from x ys) (x ∷ joined_from z ys)) (same_is z x (sym same) ∙ ap (λ o. is_word z && is_eq o) (reversed x z ∙ ap ordering_reverse e) ∙ and_false (is_word z))
-    where
-      and_false : (b : Bool) → (b && false) ≡ false
-      and_false true = refl
-      and_false false = refl
   by_order Equal e low =
       ⊎_elim
       (λ word.

@@ -38,10 +38,11 @@ use Rattle.agg_evaluation.proofs.Computing.{computing}
 use Rattle.growth_laws.proofs.Built.{collectors-same, node-same}
 use Rattle.growth_laws.proofs.FilterKeys.{filters-among}
 use Rattle.growth_laws.proofs.Gathering.{Gathers, bucket_at, group-more, keys-more, no_rows, put-groups}
-use Rattle.growth_laws.proofs.InsertedKeys.{ascending-insert_all, has_key-insert_all, insert_all, or_true}
+use Rattle.growth_laws.proofs.InsertedKeys.{ascending-insert_all, has_key-insert_all, insert_all}
 use Rattle.growth_laws.proofs.Metrics.{count-append, metric-append}
 use Rattle.growth_laws.proofs.PageBuckets.{put-page-groups}
 use Rattle.growth_laws.proofs.PageKeys.{all-keys}
+use Rattle.std.proofs.Math.Bool.{or-true}
 
 module _ (n : ℕ) (all : List PlacedRow) (cut : IsCutAt n all) where
   -- rows of the first documents
@@ -96,7 +97,7 @@ module _ (n : ℕ) (all : List PlacedRow) (cut : IsCutAt n all) where
         same : insert_all (all_keys all k more) ks ≡ ks
         same = same_keys _ _ (ascending-insert_all (all_keys all k more) ks up) up (λ q. has_key-insert_all q (all_keys all k more) ks
             ∙ elim (has_key q ks) as (λ b. has_key q ks ≡ b → (has_key q (all_keys all k more) || b) ≡ b) [
-              | true ↦ λ e. or_true (has_key q (all_keys all k more))
+              | true ↦ λ e. or-true (has_key q (all_keys all k more))
               | false ↦ λ e. ap (λ b. b || false) (none_among q e more)
             ] refl)
 

@@ -1,5 +1,5 @@
 -- More rows, group by group, make of the buckets of some rows those of these rows and more.
-use Rattle.std.specs.Prelude.{◌≡◌, refl, Bool, true, false, cond, ◌||◌, ◌++◌, T, List, [], ◌∷◌, flat_map, length, map}
+use Rattle.std.specs.Prelude.{◌≡◌, refl, true, false, cond, ◌||◌, ◌++◌, T, List, [], ◌∷◌, flat_map, length, map}
 use Rattle.std.specs.declared.cmp.Ordering.TheVariants.{Less, Equal, Greater}
 use Rattle.std.specs.Ordering.{is_eq, is_lt, match_ordering}
 use Rattle.std.proofs.Common.{sym, ◌∙◌, ap, subst, length-append}
@@ -15,13 +15,15 @@ use Rattle.agg_evaluation.specs.Shard.{Collector}
 use Rattle.agg_evaluation.specs.Trees.{is_ascending}
 use Rattle.agg_evaluation.proofs.KeyExact.{exact_keys}
 use Rattle.agg_evaluation.proofs.DistinctKeys.{ascending-keys}
-use Rattle.agg_evaluation.proofs.KeyLists.{distinct_keys-ascending, ascending-distinct_keys, ascending-insert_once, below-absent, below-trans, has_key-distinct_keys, has_key-insert_once, is_below, key_eq-exact, key_eq-self, same_keys}
+use Rattle.agg_evaluation.proofs.KeyLists.{key_eq-sym, distinct_keys-ascending, ascending-distinct_keys, ascending-insert_once, below-absent, below-trans, has_key-distinct_keys, has_key-insert_once, is_below, key_eq-exact, key_eq-self, same_keys}
 use Rattle.agg_evaluation.proofs.UnionLaws.{has_key-append}
 use Rattle.list_laws.specs.Sorting.{insert_once}
 use Rattle.list_laws.proofs.Booleans.{and_left, and_right, both, holds}
 use Rattle.list_laws.proofs.Lists.{append-nil, filter-append, flat_map-append}
 use Rattle.growth_laws.specs.Gathering.{Gatherer, empty_bucket, gathered_bucket, gathered_children, kept_buckets, put_groups, put_rows}
-use Rattle.growth_laws.proofs.InsertedKeys.{ascending-insert_all, eq-swap, has_key-insert_all, insert_all, no_group, or_true}
+use Rattle.growth_laws.proofs.InsertedKeys.{ascending-insert_all, has_key-insert_all, insert_all, no_group}
+use Rattle.std.proofs.Math.Bool.{or-true}
+use Rattle.list_laws.proofs.Booleans.{or_comm}
 
 -- the rows so far and those that come
 module _ (First Then : List PlacedRow → Type 0) where
@@ -83,7 +85,7 @@ module _ (First Then : List PlacedRow → Type 0) where
     others h k rows [] e = refl
     others h k rows (j ∷ ks) e =
         let parts = or_parts _ _ e in
-        λ i. other-at h k j rows (eq-swap j k ∙ parts.0) i ∷ others h k rows ks parts.1 i
+        λ i. other-at h k j rows (key_eq-sym j k ∙ parts.0) i ∷ others h k rows ks parts.1 i
 
     -- one key's rows
     pub put-rows : (h : Key → List PlacedRow) (k : Key) (rows : List PlacedRow) (ks : List Key) → T (is_ascending ks) → First (h k) → Then rows → (has_key k ks ≡ false → h k ≡ [])
@@ -99,9 +101,9 @@ module _ (First Then : List PlacedRow → Type 0) where
           | Equal ↦ λ p.
               let same = exact_keys k j p in
               let absent : has_key k ks ≡ false = ap (λ q. has_key q ks) same ∙ below-absent j ks (and_left _ _ up) in
-              λ i. grown-at h k j rows (subst (λ q. First (h q)) same f) t (eq-swap j k ∙ ap is_eq p) i ∷ others h k rows ks absent i
+              λ i. grown-at h k j rows (subst (λ q. First (h q)) same f) t (key_eq-sym j k ∙ ap is_eq p) i ∷ others h k rows ks absent i
           | Greater ↦ λ p.
-              λ i. other-at h k j rows (eq-swap j k ∙ ap is_eq p) i ∷ put-rows h k rows ks (and_right _ _ up) f t (λ e. none (ap (λ r. is_eq r || has_key k ks) p ∙ e)) i
+              λ i. other-at h k j rows (key_eq-sym j k ∙ ap is_eq p) i ∷ put-rows h k rows ks (and_right _ _ up) f t (λ e. none (ap (λ r. is_eq r || has_key k ks) p ∙ e)) i
         ] refl
 
     -- a key at a time, where the first is none of the others
@@ -119,7 +121,7 @@ module _ (First Then : List PlacedRow → Type 0) where
     later-first h j rows js below f q e =
         elim (key_eq q j) as (λ b. key_eq q j ≡ b → First (cond b (h q ++ rows) (h q))) [
           | true ↦ λ same. absurd (true≢false (sym e ∙ ap (λ k. has_key k js) (key_eq-exact q j (holds _ same)) ∙ below-absent j js below))
-          | false ↦ λ other. f q (ap (λ b. key_eq q j || b) e ∙ or_true (key_eq q j))
+          | false ↦ λ other. f q (ap (λ b. key_eq q j || b) e ∙ or-true (key_eq q j))
         ] refl
 
     -- a key that is not there has no rows yet
@@ -148,14 +150,8 @@ module _ (all : List PlacedRow) (k : Kind) (rows more : List PlacedRow) where
   has_key-more q =
       has_key-distinct_keys q (flat_map (keys all k) (rows ++ more)) ∙ ap (has_key q) (flat_map-append (keys all k) rows more)
       ∙ has_key-append q (flat_map (keys all k) rows) (flat_map (keys all k) more)
-      ∙ turned (has_key q (flat_map (keys all k) rows)) (has_key q (flat_map (keys all k) more))
+      ∙ or_comm (has_key q (flat_map (keys all k) rows)) (has_key q (flat_map (keys all k) more))
       ∙ (λ i. sym (has_key-distinct_keys q (flat_map (keys all k) more)) i || sym (has_key-distinct_keys q (flat_map (keys all k) rows)) i)
-    where
-      turned : (a b : Bool) → (a || b) ≡ (b || a)
-      turned true true = refl
-      turned true false = refl
-      turned false true = refl
-      turned false false = refl
 
   -- the keys of all are those of the first rows with those of the others put in
   pub keys-more : all_keys all k (rows ++ more) ≡ insert_all (all_keys all k more) (all_keys all k rows)

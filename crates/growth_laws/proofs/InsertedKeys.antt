@@ -1,8 +1,5 @@
 -- Keys put into an ascending list, one after another, and the rows of a key that no row has.
 use Rattle.std.specs.Prelude.{◌≡◌, refl, Bool, true, false, cond, ◌||◌, T, List, [], ◌∷◌, flat_map}
-use Rattle.std.specs.declared.cmp.Ordering.{Ordering}
-use Rattle.std.specs.declared.cmp.Ordering.TheVariants.{Less, Equal, Greater}
-use Rattle.std.specs.Ordering.{is_eq, ordering_reverse}
 use Rattle.std.proofs.Common.{sym, ◌∙◌, ap}
 use Rattle.std.proofs.lemmas.Bool.{or_parts}
 use Rattle.agg_model.specs.declared.aggregation.Kind.{Kind}
@@ -12,24 +9,9 @@ use Rattle.agg_evaluation.specs.KeyOrder.{has_key, key_cmp, key_eq}
 use Rattle.agg_evaluation.specs.Keys.{keys}
 use Rattle.agg_evaluation.specs.Rows.{PlacedRow}
 use Rattle.agg_evaluation.specs.Trees.{is_ascending}
-use Rattle.agg_evaluation.proofs.KeyCompare.{key_cmp_total}
 use Rattle.agg_evaluation.proofs.KeyLists.{ascending-insert_once, has_key-insert_once}
 use Rattle.agg_evaluation.proofs.UnionLaws.{has_key-append}
 use Rattle.list_laws.specs.Sorting.{insert_once}
-
--- or true is true
-pub or_true : (b : Bool) → (b || true) ≡ true
-or_true true = refl
-or_true false = refl
-
--- either of two keys may come first
-pub eq-swap : (j k : Key) → key_eq j k ≡ key_eq k j
-eq-swap j k = ap is_eq (key_cmp_total.antisymm j k) ∙ reversed (key_cmp k j)
-  where
-    reversed : (o : Ordering) → is_eq (ordering_reverse o) ≡ is_eq o
-    reversed Less = refl
-    reversed Equal = refl
-    reversed Greater = refl
 
 -- the keys of the list put in, one after another
 abbrev pub insert_all : List Key → List Key → List Key

@@ -19,9 +19,10 @@ use Rattle.list_laws.proofs.Lists.{filter-map}
 use Rattle.bucket_order.specs.Composites.{is_composite_of}
 use Rattle.growth_laws.specs.Gathering.{Gatherer, kept_buckets, put_groups, put_rows}
 use Rattle.growth_laws.proofs.Gathering.{Gathers, bucket_at, later-first, later-none, one_by_one, put-rows, with_all, with_one}
-use Rattle.growth_laws.proofs.InsertedKeys.{insert_all, or_true}
+use Rattle.growth_laws.proofs.InsertedKeys.{insert_all}
 use Rattle.growth_laws.proofs.Ordered.{filter-has, has-filter}
 use Rattle.growth_laws.proofs.PageKeys.{AreKeys, found-has, has-found, insert-keys, page-among, page-fewer, page-insert, page-keys}
+use Rattle.std.proofs.Math.Bool.{or-true}
 
 -- two tests of which each implies the other
 same_test : (a b : Bool) → (a ≡ true → b ≡ true) → (b ≡ true → a ≡ true) → a ≡ b
@@ -62,7 +63,7 @@ module _ (First Then : List PlacedRow → Type 0) (none_first : First []) (gs : 
   same-at h h' [] same = refl
   same-at h h' (k ∷ ks) same = λ i.
       record { key = k; count = length (here i); covered = 0; children = map (λ c. c.collect (here i)) cs }
-      ∷ same-at h h' ks (λ q e. same q (ap (λ b. key_eq q k || b) e ∙ or_true (key_eq q k))) i
+      ∷ same-at h h' ks (λ q e. same q (ap (λ b. key_eq q k || b) e ∙ or-true (key_eq q k))) i
     where
       here : h k ≡ h' k
       here = same k (ap (λ b. b || has_key k ks) (key_eq-self k))
@@ -88,7 +89,7 @@ module _ (First Then : List PlacedRow → Type 0) (none_first : First []) (gs : 
           elim (has_key q (paged ks)) as (λ b. has_key q (paged ks) ≡ b → h q ≡ cond b (h q) []) [
             | true ↦ λ inside. refl
             | false ↦ λ outside. none q (⊎_elim (λ (there : has_key q ks ≡ true). absurd (true≢false (sym (page-fewer sources size after ks (insert_once key_cmp k ks) are (insert-keys sources size after k ks are composite)
-                (λ j g. has_key-insert_once j k ks ∙ ap (λ b. key_eq j k || b) g ∙ or_true (key_eq j k)) q there e) ∙ outside)))
+                (λ j g. has_key-insert_once j k ks ∙ ap (λ b. key_eq j k || b) g ∙ or-true (key_eq j k)) q there e) ∙ outside)))
                 (λ (absent : has_key q ks ≡ false). absent) (cases_Bool (has_key q ks)))
           ] refl
 

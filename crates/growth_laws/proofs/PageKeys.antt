@@ -1,5 +1,4 @@
 -- The page of a composite aggregation as keys come: what is outside stays outside, and one more key.
-use Rattle.growth_laws.proofs.InsertedKeys.{or_true}
 use Rattle.std.specs.Prelude.{◌≡◌, ◌⊎◌, ℕ, Bool, true, false, ◌||◌, T, List, [], ◌∷◌, ◌++◌, flat_map, length, Option}
 use Rattle.std.specs.List.{list_all}
 use Rattle.std.specs.declared.cmp.Ordering.{Ordering}
@@ -28,6 +27,7 @@ use Rattle.growth_laws.proofs.Combinations.{composite-parts}
 use Rattle.growth_laws.proofs.CompositeOrder.{beyond, exact_cmp, exact_cmp_exact, exact_cmp_total, page-front}
 use Rattle.growth_laws.proofs.Ordered.{Distinct, ascends-front, distinct-up, front, front-insert, front-more, has-front, has-insert, insert-has, sorted-distinct}
 use Rattle.growth_laws.proofs.Pages.{Has}
+use Rattle.std.proofs.Math.Bool.{or-true}
 
 -- what stands in a list does not depend on an order
 has-other : {A : Type 0} (R S : A → A → Ordering) (t : IsTotalOrder R) (u : IsTotalOrder S) (q : A) (xs : List A) → Has R t q xs → Has S u q xs
@@ -47,7 +47,7 @@ module _ (R : Key → Key → Ordering) (t : IsTotalOrder R) (exact : (j k : Key
   has-found q [] h = absurd h
   has-found q (k ∷ ks) h =
       ⊎_elim (λ (e : q ≡ k). ap (λ b. b || has_key q ks) (ap (key_eq q) (sym e) ∙ key_eq-self q))
-      (λ (i : Has R t q ks). ap (λ b. key_eq q k || b) (has-found q ks i) ∙ or_true (key_eq q k)) h
+      (λ (i : Has R t q ks). ap (λ b. key_eq q k || b) (has-found q ks i) ∙ or-true (key_eq q k)) h
 
   -- in an ascending list no key stands twice
   distinct-ascending : (ks : List Key) → T (is_ascending ks) → Distinct R t exact ks
@@ -69,7 +69,7 @@ all-has R t p (k ∷ ks) h q i = ⊎_elim (λ (e : q ≡ k). ap p e ∙ true_is 
 has-all : (p : Key → Bool) (ks : List Key) → ((q : Key) → has_key q ks ≡ true → p q ≡ true) → T (list_all p ks)
 has-all p [] h = tt
 has-all p (k ∷ ks) h =
-    both _ _ (holds _ (h k (ap (λ b. b || has_key k ks) (key_eq-self k)))) (has-all p ks (λ q e. h q (ap (λ b. key_eq q k || b) e ∙ or_true (key_eq q k))))
+    both _ _ (holds _ (h k (ap (λ b. b || has_key k ks) (key_eq-self k)))) (has-all p ks (λ q e. h q (ap (λ b. key_eq q k || b) e ∙ or-true (key_eq q k))))
 
 module _ (sources : List CompositeSource) (size : ℕ) (after : Option Key) where
   -- ascending keys with a part for each source

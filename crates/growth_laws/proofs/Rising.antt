@@ -11,6 +11,7 @@ use Rattle.list_laws.proofs.Options.{none_some, some_same}
 use Rattle.growth_laws.specs.Documents.{lie_before, lie_behind, lies_behind, starts_below, starts_from}
 use Rattle.growth_laws.proofs.DocumentRows.{all-filter}
 use Rattle.growth_laws.proofs.ShardRows.{all-children-at, at_most_holds, behind-from, document_rows, less_holds}
+use Rattle.list_laws.proofs.Booleans.{true_is}
 
 -- each row lies in a document, and the later ones in later documents
 abbrev pub Rising : List PlacedRow → Type 0
@@ -35,11 +36,7 @@ at-place p (r ∷ rows) (suc n) row h e = at-place p rows n row (and_right _ _ h
 
 -- a number that is known to be from another on
 from-at_most : (n d : ℕ) (rest : List ℕ) → T (starts_from n (d ∷ rest)) → n ≤ d
-from-at_most n d rest h = let e = true_of (nat_le n d) h in grind arith
-  where
-    true_of : (b : Bool) → T b → b ≡ true
-    true_of true h = refl
-    true_of false h = absurd h
+from-at_most n d rest h = let e = true_is (nat_le n d) h in grind arith
 
 -- the rows before a place lie before the document of the row there
 pub rising-split : (rows : List PlacedRow) (n : ℕ) (row : PlacedRow) → Rising rows → slice_get rows n ≡ Some row

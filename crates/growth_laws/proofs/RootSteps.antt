@@ -21,13 +21,7 @@ use Rattle.growth_laws.proofs.Built.{collector-same}
 use Rattle.growth_laws.proofs.Gathered.{collected-gathers, global-gathers}
 use Rattle.growth_laws.proofs.Rising.{Rising, own-document, rising-filter, rising-split, roots-rise}
 use Rattle.growth_laws.proofs.ShardRows.{shard-cut}
-
--- a place at which something stands
-within : {A : Type 0} (xs : List A) (n : ℕ) (x : A) → slice_get xs n ≡ Some x → n < length xs
-within [] zero x e = none_some x e
-within [] (suc n) x e = none_some x e
-within (y ∷ xs) zero x e = omega arith
-within (y ∷ xs) (suc n) x e = let rest = within xs n x e in omega arith
+use Rattle.std.proofs.lemmas.Option.{slice_get_within}
 
 -- one more item of the first ones
 take-next : {A : Type 0} (xs : List A) (n : ℕ) (x : A) → slice_get xs n ≡ Some x → take (suc n) xs ≡ take n xs ++ x ∷ []
@@ -63,7 +57,7 @@ module _ (search : Search) (documents : List (List ℕ × Row)) (a : Agg) (place
   -- one more matched root
   pub matched-step : (n : ℕ) (root : PlacedRow) → slice_get (matched search all) n ≡ Some root → tree_after search all a (n + 1) ≡ with_matched all a root (tree_after search all a n)
   matched-step n root e =
-      let few = within (matched search all) n root e in
+      let few = slice_get_within (matched search all) n root e in
       let none_next : (n + 1) - length (matched search all) ≡ 0 = omega arith in
       let none : n - length (matched search all) ≡ 0 = omega arith in
       let next : take (n + 1) (matched search all) ≡ take n (matched search all) ++ root ∷ [] = ap (λ m. take m (matched search all)) (add-one n) ∙ take-next (matched search all) n root e in

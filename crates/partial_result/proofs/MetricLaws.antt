@@ -34,7 +34,8 @@ fitting : (z : ℤ) → fits_i128 z ≡ true → saturate_signed w128 z ≡ z
 fitting (pos n) h = ap pos (grind (arith, nat_tests))
 fitting (negsuc n) h = ap negsuc (grind (arith, nat_tests))
 
-two_sum : (m n : ℕ) → fits_u64 (0 + m + n) ≡ true → sum_u64 m n ≡ 0 + m + n
+-- a sum of 64 bits that fits is the sum
+pub two_sum : (m n : ℕ) → fits_u64 (0 + m + n) ≡ true → sum_u64 m n ≡ 0 + m + n
 two_sum m n h = grind (arith, nat_tests)
 
 pub metric_sum-two : (m n : Metric) → fits_u64 (metric_sum (m ∷ n ∷ [])).count ≡ true → fits_i128 (metric_sum (m ∷ n ∷ [])).sum ≡ true → merged_metric n m ≡ metric_sum (m ∷ n ∷ [])

@@ -14,7 +14,7 @@ use Rattle.agg_evaluation.specs.Keys.{distinct_keys}
 use Rattle.agg_evaluation.specs.Shard.{fixed_keys}
 use Rattle.agg_evaluation.specs.Whole.{by_key, parts, parts_at, whole_by}
 use Rattle.agg_evaluation.specs.Trees.{is_ascending, have_children, is_tree_at, fits_u64, node_fits, node_fits_at, bucket_fits}
-use Rattle.partial_result.specs.Merged.{merged, sum_u64, sum_u32}
+use Rattle.partial_result.specs.Merged.{merged, sum_u32}
 use Rattle.agg_evaluation.proofs.NodeFolds.{fold_node-Keyed}
 use Rattle.partial_result.proofs.MergeLevels.{merged-Keyed}
 use Rattle.partial_result.proofs.KeyLists.{ascending-distinct, distinct-ascending}
@@ -25,6 +25,7 @@ use Rattle.partial_result.proofs.ColumnLaws.{IsWhole, EachWhole, false_true}
 use Rattle.partial_result.proofs.Found.{sorted-entries}
 use Rattle.partial_result.proofs.Tables.{table, keys-table, table-pass, table-one}
 use Rattle.partial_result.proofs.TableLaws.{bucket_passes, table-two}
+use Rattle.partial_result.proofs.MetricLaws.{two_sum}
 
 -- a node by its level
 abbrev pub Level : Type 0
@@ -46,9 +47,6 @@ all-map (b ∷ bs) = ap (λ r. bucket_passes b && r) (all-map bs)
 pub or_itself : (b : Bool) → b ≡ (b || b)
 or_itself true = refl
 or_itself false = refl
-
-sum_u64-fitting : (m n : ℕ) → fits_u64 (0 + m + n) ≡ true → sum_u64 m n ≡ 0 + m + n
-sum_u64-fitting m n h = grind (arith, nat_tests)
 
 sum_u32-fitting : (m n : ℕ) → nat_lt (0 + m + n) (2 ^ 32) ≡ true → sum_u32 m n ≡ 0 + m + n
 sum_u32-fitting m n h = grind (arith, nat_tests)
@@ -113,7 +111,7 @@ module _ (ws : List (List Node → Node)) (tests : List (Node → Bool)) (each :
       (sym (all-map (keyed_table (bs ++ cs))) ∙ and_second ((errors && fulls) && cuts) below level) in
       (λ i. merged ((node_of n (Node-F.Keyed cs e' f' c') is' ∙ rolls-Keyed cs e' f' c') i) ((node_of m (Node-F.Keyed bs e f c) is ∙ rolls-Keyed bs e f c) i))
       ∙ merged-Keyed cs bs e' f' c' e f c
-      ∙ (λ i. Keyed (buckets i) (sum_u64-fitting e e' (and_first errors fulls firsts) i) (sum_u32-fitting f f' (and_second errors fulls firsts) i) (sum_u64-fitting c c' (and_second (errors && fulls) cuts numbers) i))
+      ∙ (λ i. Keyed (buckets i) (two_sum e e' (and_first errors fulls firsts) i) (sum_u32-fitting f f' (and_second errors fulls firsts) i) (two_sum c c' (and_second (errors && fulls) cuts numbers) i))
       ∙ sym whole_is
     where
       map-append : (bs cs : List Bucket) → map bucket_key (bs ++ cs) ≡ map bucket_key bs ++ map bucket_key cs

@@ -12,7 +12,7 @@ use Rattle.agg_evaluation.specs.Orders.{bucket_key}
 use Rattle.agg_evaluation.specs.Whole.{whole_bucket}
 use Rattle.agg_evaluation.specs.Trees.{is_ascending, pass_each, have_children, fits_u64, node_fits, node_fits_at, bucket_fits}
 use Rattle.agg_evaluation.proofs.KeyExact.{exact_keys}
-use Rattle.partial_result.specs.Merged.{united, merged_bucket, sum_u64}
+use Rattle.partial_result.specs.Merged.{united, merged_bucket}
 use Rattle.agg_evaluation.proofs.NodeFolds.{fold_bucket}
 use Rattle.partial_result.proofs.MergeLevels.{merged_bucket_level}
 use Rattle.list_laws.proofs.Booleans.{and_first, and_second}
@@ -21,6 +21,7 @@ use Rattle.partial_result.proofs.Columns.{wholes, columns, wholes_are}
 use Rattle.partial_result.proofs.ColumnLaws.{EachWhole, columns-two}
 use Rattle.partial_result.proofs.Found.{found, both_found, IsRising, others, same_found, sorted-entries, same-found, is_some-found, found-key, found-pass, rising-united, found-united}
 use Rattle.partial_result.proofs.Tables.{same, made, table, children_of, keys-table, made-one}
+use Rattle.partial_result.proofs.MetricLaws.{two_sum}
 
 -- a sum that fits is not capped
 pub fitting : (m n : ℕ) → nat_lt (m + n) (2 ^ 64) ≡ true → min (m + n) (2 ^ 64 - 1) ≡ m + n
@@ -67,9 +68,6 @@ module _ (ws : List (List Node → Node)) (tests : List (Node → Bool)) (each :
         covered = (two_sum b.covered c.covered (and_second count covered counts)) i;
         children = (columns-two children_of ws tests b c b.children c.children each refl refl pass pass' below ∙ sym kids) i;
       })
-    where
-      two_sum : (m n : ℕ) → fits_u64 (0 + m + n) ≡ true → sum_u64 m n ≡ 0 + m + n
-      two_sum m n h = grind (arith, nat_tests)
 
   together : (q : Key) (one other : Option Bucket) → Has q one → Has q other → ((is_some one || is_some other) ≡ true → bucket_passes (made ws tests each q (option_to_list one ++ option_to_list other)) ≡ true)
       → both_found other one ≡ cond (is_some one || is_some other) (Some (made ws tests each q (option_to_list one ++ option_to_list other))) None

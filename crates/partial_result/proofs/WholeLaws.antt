@@ -1,8 +1,7 @@
 -- The whole of an aggregation and of a search keep the laws.
 use Rattle.std.specs.Prelude.{◌≡◌, refl, ℕ, ◌+◌, ◌-◌, ◌^◌, ◌<◌, true, ◌&&◌, List, [], ◌∷◌, ◌++◌, map, filter_map, slice_get}
 use Rattle.std.specs.List.{enumerate_from, list_all}
-use Rattle.std.proofs.Common.{sym, ◌∙◌, ap, arith}
-use Rattle.std.proofs.lemmas.Bool.Decides.{nat_tests}
+use Rattle.std.proofs.Common.{sym, ◌∙◌, ap}
 use Rattle.agg_model.specs.declared.partial.Node.{Node, out-Node}
 use Rattle.agg_model.specs.declared.partial.Partial.{Partial}
 use Rattle.agg_model.specs.declared.aggregation.Agg.{Agg, Agg', Row_of-Agg, end_of-Agg, more_of-Agg}
@@ -11,11 +10,12 @@ use Rattle.agg_evaluation.specs.Folds.{fold_aggs}
 use Rattle.agg_evaluation.specs.Shard.{fixed_keys}
 use Rattle.agg_evaluation.specs.Whole.{shape_of, whole_by, whole_node, whole}
 use Rattle.agg_evaluation.specs.Trees.{is_tree_at, is_tree_of, is_result_of, fits_u64, node_fits, numbers_fit}
-use Rattle.partial_result.specs.Merged.{merged_partial, sum_u64}
+use Rattle.partial_result.specs.Merged.{merged_partial}
 use Rattle.list_laws.proofs.Booleans.{and_first, and_second}
 use Rattle.partial_result.proofs.Columns.{columns, wholes_are}
 use Rattle.partial_result.proofs.ColumnLaws.{IsWhole, EachWhole, columns-two}
 use Rattle.partial_result.proofs.ShapeLaws.{shape_is}
+use Rattle.partial_result.proofs.MetricLaws.{two_sum}
 
 mutual
   pub whole_is : (a : Agg) → IsWhole (whole_node a) (is_tree_of a)
@@ -50,9 +50,6 @@ whole-two search p q pass pass' fits =
     let total = fits_u64 (0 + p.hits + q.hits) in
     let kept = list_all node_fits (whole search (p ∷ q ∷ [])).nodes in
     λ i. record {
-      hits = hits_fit p.hits q.hits (and_first total kept fits) i;
+      hits = two_sum p.hits q.hits (and_first total kept fits) i;
       nodes = (columns-two nodes_of (map whole_node search.aggs) (map is_tree_of search.aggs) p q p.nodes q.nodes (each_agg search.aggs) refl refl pass pass' (ap (list_all node_fits) (sym level) ∙ and_second total kept fits) ∙ sym level) i;
     }
-  where
-    hits_fit : (m n : ℕ) → fits_u64 (0 + m + n) ≡ true → sum_u64 m n ≡ 0 + m + n
-    hits_fit m n h = grind (arith, nat_tests)

@@ -1,10 +1,8 @@
-use Rattle.std.proofs.Common.{rules, ◌≡◌, ◌∷◌, [], false, sym, ap, ◌∙◌, refl, subst}
-use Rattle.arrival_moves.specs.declared.item.Item.{Item}
-use Rattle.arrival_moves.specs.declared.item.Item.TheVariants.{Claimed, Loaded, Arrived, Put}
-use Rattle.arrival_moves.specs.AfterMove.{after_take_task, after_arrive, after_put}
+use Rattle.std.proofs.Common.{◌≡◌, ◌∷◌, [], false, sym, ap, ◌∙◌, refl}
+use Rattle.arrival_moves.specs.declared.item.Item.TheVariants.{Loaded, Arrived, Put}
 use Rattle.arrival_moves.specs.Plans.{search_of}
 use Rattle.arrival_table.specs.Models.{DeskModel}
-use Rattle.arrival_table.proofs.OneItem.{claimed_has, loaded_hand, loaded_has, arrived_hand, arrived_has, arrived_task_is, arrived_mark_is, put_hand, put_has}
+use Rattle.arrival_table.proofs.OneItem.{claimed_has, loaded_hand, loaded_has, arrived_hand, arrived_has, put_hand, put_has}
 use Rattle.arrival_table.proofs.tests.run_task.Goals as goal
 
 pub take_task-load-requires-clause-claimed : goal.take_task-load-requires-clause-claimed
