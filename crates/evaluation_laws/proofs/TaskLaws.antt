@@ -159,7 +159,8 @@ module _ (kinds : List FieldKind) (search : Search) (all : List PlacedRow) (plac
       let held = prefix-at_most most 0 (map (λ c. task_overhead + c) (built_costs search all)) (cost (shard_answer search all)) n (omega arith) each end in
       omega (arith, ints)) _))
 
-ceiling-is : (kinds : List FieldKind) (search : Search) (all : List PlacedRow) (bound : ℕ) → ceiling kinds search all ≡ Some bound → task_bound kinds search all ≡ bound
+-- a ceiling that is there is the bound of its task
+pub ceiling-is : (kinds : List FieldKind) (search : Search) (all : List PlacedRow) (bound : ℕ) → ceiling kinds search all ≡ Some bound → task_bound kinds search all ≡ bound
 ceiling-is kinds search all bound e =
     elim (has_wide_row search all) as (λ b. ceiling_by b kinds search all ≡ Some bound → task_bound kinds search all ≡ bound) [
       | true ↦ λ e. none_some bound e

@@ -32,22 +32,18 @@ exact_cmp sources j k = ordering_then (any_parts_cmp sources (key_parts j) (key_
 pub exact_cmp_total : (sources : List CompositeSource) → IsTotalOrder (exact_cmp sources)
 exact_cmp_total sources = then_total (on_total key_parts (any_parts_total sources)) key_cmp_total
 
--- two comparisons in turn
-then_equal : (o p : Ordering) → ordering_then o p ≡ Equal → (o ≡ Equal) × (p ≡ Equal)
-then_equal Less p e = absurd (subst (λ o. T (is_lt o)) e tt)
-then_equal Equal p e = (refl, e)
-then_equal Greater p e = absurd (subst (λ o. T (is_gt o)) e tt)
+-- a comparison in a direction, and another where it is equal: both are
+parts_equal : (d : Bool) (o p : Ordering) → ordering_then (directed d o) p ≡ Equal → (o ≡ Equal) × (p ≡ Equal)
+parts_equal true Less p e = absurd (subst (λ o. T (is_gt o)) e tt)
+parts_equal true Equal p e = (refl, e)
+parts_equal true Greater p e = absurd (subst (λ o. T (is_lt o)) e tt)
+parts_equal false Less p e = absurd (subst (λ o. T (is_lt o)) e tt)
+parts_equal false Equal p e = (refl, e)
+parts_equal false Greater p e = absurd (subst (λ o. T (is_gt o)) e tt)
 
 -- keys that compare alike in it are one
 pub exact_cmp_exact : (sources : List CompositeSource) (j k : Key) → exact_cmp sources j k ≡ Equal → j ≡ k
-exact_cmp_exact sources j k e = exact_keys j k (then_equal (any_parts_cmp sources (key_parts j) (key_parts k)) (key_cmp j k) e).1
-
--- a comparison that is turned round
-directed_equal : (d : Bool) (o : Ordering) → directed d o ≡ Equal → o ≡ Equal
-directed_equal true Less e = absurd (subst (λ o. T (is_gt o)) e tt)
-directed_equal true Equal e = refl
-directed_equal true Greater e = absurd (subst (λ o. T (is_lt o)) e tt)
-directed_equal false o e = e
+exact_cmp_exact sources j k e = exact_keys j k (parts_equal false (any_parts_cmp sources (key_parts j) (key_parts k)) (key_cmp j k) e).1
 
 -- parts that compare alike are the same
 parts-exact : (sources : List CompositeSource) (js ks : List Key) → length js ≡ length sources → length ks ≡ length sources → any_parts_cmp sources js ks ≡ Equal → js ≡ ks
@@ -57,8 +53,8 @@ parts-exact [] [] (k ∷ ks) e f h = absurd (omega arith)
 parts-exact (s ∷ ss) [] ks e f h = absurd (omega arith)
 parts-exact (s ∷ ss) (j ∷ js) [] e f h = absurd (omega arith)
 parts-exact (s ∷ ss) (j ∷ js) (k ∷ ks) e f h =
-    let parts = then_equal (directed s.descending (key_cmp j k)) (any_parts_cmp ss js ks) h in
-    λ i. exact_keys j k (directed_equal s.descending (key_cmp j k) parts.0) i ∷ parts-exact ss js ks (omega arith) (omega arith) parts.1 i
+    let parts = parts_equal s.descending (key_cmp j k) (any_parts_cmp ss js ks) h in
+    λ i. exact_keys j k parts.0 i ∷ parts-exact ss js ks (omega arith) (omega arith) parts.1 i
 
 -- a composite key is made of its parts
 made-Many : (n : ℕ) (k : Key) → is_composite_of n k ≡ true → (Many (key_parts k) ≡ k) × (length (key_parts k) ≡ n)
