@@ -2,7 +2,7 @@ ghost use Rattle.std.specs.Prelude.{IfOk};
 ghost use Rattle.agg_mapping.specs.Paths.{IsOrdered};
 
 use crate::document::document_of;
-use crate::shards::shard_of;
+use crate::routing::shard_of;
 use crate::store::Store;
 use agg_mapping::index_line_of;
 use agg_model::{Action, ActionKind, Applied, Bytes, Document, List, Mapping, Scalar, Text};
