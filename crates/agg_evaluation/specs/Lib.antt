@@ -17,3 +17,11 @@ pub mod Ceiling
 pub mod TrueCounts
 pub mod ColumnBytes
 pub mod Conditions
+pub mod CompositeKeys
+pub mod RowsWeight
+pub mod DocumentFits
+pub mod PlacedFits
+pub mod QueryFits
+pub mod SearchFits
+pub mod Counted
+pub mod Finishable

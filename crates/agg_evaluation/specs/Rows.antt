@@ -1,10 +1,11 @@
 -- The rows of a shard as one list: the root of each document, and each of its nested documents, which is a row of its own
 -- (Elasticsearch Reference 8, 'Nested field type').
-use Rattle.std.specs.Prelude.{ℕ, ◌+◌, ◌==◌, ◌&&◌, Bool, List, [], ◌∷◌, ◌++◌, filter, flat_map, nat_eq, unwrap_or, option_map, find, true, slice_index_or}
+use Rattle.std.specs.Prelude.{ℕ, ◌+◌, ◌==◌, ◌&&◌, Bool, List, [], ◌∷◌, ◌++◌, filter, flat_map, map, nat_eq, unwrap_or, option_map, find, true, slice_index_or}
 use Rattle.std.specs.List.{list_any, enumerate_from, starts_with}
 use Rattle.agg_model.specs.declared.row.Scalar.{Scalar}
 use Rattle.agg_model.specs.declared.row.FieldValues.{FieldValues}
 use Rattle.agg_model.specs.declared.row.Row.{Row}
+use Rattle.agg_model.specs.declared.row.Document.{Document}
 use Rattle.agg_model.specs.declared.row.Children.TheOpen.{Row-F, Children-F}
 use Rattle.agg_evaluation.specs.Folds.{fold_row}
 
@@ -34,6 +35,10 @@ rows_of = fold_row walk_children walk_row
 -- the rows of a shard's documents, which are given as ids and root rows
 abbrev pub shard_rows : List (List ℕ × Row) → List PlacedRow
 shard_rows documents = flat_map (λ d. rows_of d.1.1 0 d.1.0 (d.0 ∷ [])) (enumerate_from 0 documents)
+
+-- the rows of these documents
+abbrev pub rows_of_documents : List Document → List PlacedRow
+rows_of_documents documents = shard_rows (map (λ d. (d.id, d.root)) documents)
 
 abbrev pub roots : List PlacedRow → List PlacedRow
 roots all = filter (λ r. r.context == 0) all

@@ -45,15 +45,6 @@ metric_of values =
     let numbers = filter_map integer_of values in
     record { count = length values; sum = int_sum numbers; least = reduce int_min numbers; greatest = reduce int_max numbers }
 
--- a value count keeps the number of the values alone
-abbrev pub count_of_values : List Scalar → Metric
-count_of_values values = record { count = length values; sum = pos 0; least = None; greatest = None }
-
--- what a metric of this kind keeps of the values
-abbrev pub kept_metric : Kind → List Scalar → Metric
-kept_metric (kind.ValueCount field missing) values = count_of_values values
-kept_metric _ values = metric_of values
-
 -- the keys of the buckets that exist from the start
 abbrev pub fixed_keys : Kind → List Key
 fixed_keys (kind.Filters names filters other) = map key.Fixed (range_with_len 0 (option_map_or (λ name. length filters + 1) other (length filters)))
@@ -104,7 +95,7 @@ module _ (trims : Bool) (all roots : List PlacedRow) where
         if trims then trimmed_node (map (λ c. c.kind) children) t.shard_size t.order (total_key_count all k counted) buckets else Keyed buckets 0 0 0)
     | Options.Histogram h ↦ Keyed (map (bucket_of k children counted) (all_keys all k counted)) 0 0 0
     | Options.Composite sources size after ↦ Keyed (map (bucket_of k children counted) (page sources size after (all_keys all k counted))) 0 0 0
-    | Options.Metric m ↦ Number (kept_metric k (flat_map (values_or m.field m.missing) counted))
+    | Options.Metric m ↦ Number (metric_of (flat_map (values_or m.field m.missing) counted))
     | _ ↦ Fixed (map (bucket_of k children counted) (fixed_keys k))
   ]
 

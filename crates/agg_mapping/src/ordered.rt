@@ -2,7 +2,8 @@
 
 ghost use Rattle.std.specs.Prelude.{◌≡◌, ◌+◌, ◌<◌, IfSome, length, option_map};
 ghost use Rattle.agg_model.specs.declared.mapping.Mapping.{Mapping};
-ghost use Rattle.agg_reading.specs.Fields.{encloses, field_from, is_in_context, nested_from};
+ghost use Rattle.agg_reading.specs.Fields.{field_from, nested_from};
+ghost use Rattle.agg_model.specs.Contexts.{encloses, is_in_context};
 ghost use Rattle.agg_reading.specs.Json.{is_among};
 ghost use Rattle.agg_mapping.specs.Paths.{IsOrdered};
 
@@ -94,7 +95,7 @@ impl<'m> OrderedMapping<'m> {
     }
 
     /// Whether a path lies strictly beneath a context: 0 is the root, i + 1 the i-th nested path.
-    #[tactic(auto, unfolding(agg_reading::specs::Fields::is_in_context))]
+    #[tactic(auto, unfolding(agg_model::specs::Contexts::is_in_context))]
     pub fn is_in_context(&self, context: u32, path: &[u8]) -> bool
         ensures { result ≡ is_in_context self.now.nested context path.now }
     {
@@ -108,7 +109,7 @@ impl<'m> OrderedMapping<'m> {
     }
 
     /// Whether a context lies strictly beneath a path; the root lies beneath none.
-    #[tactic(auto, unfolding(agg_reading::specs::Fields::encloses))]
+    #[tactic(auto, unfolding(agg_model::specs::Contexts::encloses))]
     pub fn encloses(&self, path: &[u8], context: u32) -> bool
         ensures { result ≡ encloses self.now.nested path.now context }
     {

@@ -2,7 +2,7 @@
 
 ghost use Rattle.std.specs.Prelude.{◌≡◌, ◌<◌, [], ℕ, List, IfOk, IfSome, length, option_map};
 ghost use Rattle.list_laws.specs.Sorting.{sorted};
-ghost use Rattle.agg_reading.specs.Fields.{is_beneath};
+ghost use Rattle.agg_model.specs.Contexts.{is_beneath};
 ghost use Rattle.agg_reading.specs.Properties.{by_path};
 ghost use Rattle.agg_mapping.specs.Paths.{AscendsBy, first_from};
 

@@ -1,6 +1,6 @@
 -- The options of an aggregation by their names (Elasticsearch Reference 8, 'Terms aggregation', 'Histogram aggregation',
 -- 'Metrics aggregations').
-use Rattle.std.specs.Prelude.{ℕ, Bool, List, Option}
+use Rattle.std.specs.Prelude.{ℕ, Bool, true, false, List, Option}
 use Rattle.agg_model.specs.declared.key.Key.{Key}
 use Rattle.agg_model.specs.declared.row.Scalar.{Scalar}
 use Rattle.agg_model.specs.declared.query.Probe.{Probe}
@@ -97,3 +97,11 @@ terms_kind t = kind.Terms t.field t.size t.shard_size t.min_doc_count t.order t.
 -- the histogram with these options
 abbrev pub histogram_kind : HistogramOptions → Kind
 histogram_kind h = kind.Histogram h.field h.interval h.offset h.min_doc_count h.extended h.hard h.keyed h.order h.missing
+
+-- a metric by whose value buckets can be ordered
+abbrev pub is_sortable : Kind → Bool
+is_sortable (kind.Sum field missing) = true
+is_sortable (kind.Min field missing) = true
+is_sortable (kind.Max field missing) = true
+is_sortable (kind.ValueCount field missing) = true
+is_sortable _ = false

@@ -140,6 +140,8 @@ pub struct Search {
     pub aggs: List<Agg>,
     /// The length of the body in bytes.
     pub body_bytes: u64,
+    /// `allow_partial_search_results`: a shard whose task a breaker refuses is left out.
+    pub partial: bool,
 }
 
 impl Copying for OrderBy {
@@ -294,6 +296,7 @@ impl Copying for Search {
             query: self.query.copy(alloc)?,
             aggs: self.aggs.copy(alloc)?,
             body_bytes: self.body_bytes,
+            partial: self.partial,
         })
     }
 }

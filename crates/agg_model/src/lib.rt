@@ -37,7 +37,7 @@ pub use copying::Copying;
 pub use key::Key;
 pub use list::List;
 pub use mapping::{Field, FieldKind, Mapping, NestedPath};
-pub use outcome::{Outcome, Refused};
+pub use outcome::{Answered, Failure, Outcome, Refused};
 pub use partial::{Bucket, Metric, Node, Partial};
 pub use query::{Probe, Query, RangeOp, RangeTest};
 pub use row::{Children, Document, FieldValues, Row, Scalar};

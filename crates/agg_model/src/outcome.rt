@@ -1,6 +1,7 @@
 //! What a search may end in.
 use crate::breaker::Tripped;
 use crate::copying::Copying;
+use crate::list::List;
 use crate::text::Text;
 use std::alloc::{AllocError, Global};
 
@@ -40,6 +41,26 @@ pub enum Outcome {
     Tripped(Tripped),
     /// Memory ran out.
     Memory,
+}
+
+/// A shard that a search with partial results leaves out, and the charge of its task that was refused.
+#[derive(Clone, Copy, Debug, PartialEq, Eq)]
+pub struct Failure {
+    pub shard: u32,
+    pub tripped: Tripped,
+}
+
+/// How a search ended, and the shards that it left out, by ascending number.
+#[derive(Drop)]
+pub struct Answered {
+    pub outcome: Outcome,
+    pub failures: List<Failure>,
+}
+
+impl Copying for Failure {
+    fn copy(&self, _alloc: Global) -> Result<Self, AllocError> {
+        Ok(*self)
+    }
 }
 
 impl Copying for Refused {

@@ -23,6 +23,8 @@ pub struct Settings {
     /// `--concurrent-searches`, 1 to 64.
     pub width: u32,
     pub limits: Limits,
+    /// `heap_size` in bytes, of which limits in per cent are parts.
+    pub heap: u64,
     /// `search.max_buckets`.
     pub max_buckets: u64,
     pub scan: bool,

@@ -40,6 +40,7 @@ fn search(alloc: Global) -> Result<Search, AllocError> {
         query: Query::Nested { path: 0, query },
         aggs: one(alloc, agg)?,
         body_bytes: 7,
+        partial: false,
     })
 }
 

@@ -17,7 +17,8 @@ use Rattle.agg_reading.specs.Reading.{Reading, ◌>>=◌, refuse, or_refuse, Giv
 use Rattle.agg_reading.specs.Pointer.{member_step, item_step}
 use Rattle.agg_reading.specs.Json.{object_at, list_at, text_at, required, optional_of, known, is_among, sole_at}
 use Rattle.agg_reading.specs.Numbers.{number_at, in_range, whole_at}
-use Rattle.agg_reading.specs.Fields.{field_at, is_in_context}
+use Rattle.agg_reading.specs.Fields.{field_at}
+use Rattle.agg_model.specs.Contexts.{is_in_context}
 use Rattle.agg_reading.specs.Leaves.{value_at, field_in, about, match_all_at, boxed_value, term_value, term_at, values_from, values_at, terms_at, test_of, test_at, is_boolean, tests_at, range_at, exists_at, ids_from, ids_at}
 use Rattle.agg_reading.specs.Query.{Counted, query_name, queries_from, clause_of, clause_at, all_at, clauses_at, bool_at, nested_at, path_in, within_at, named, named_at, query_at}
 

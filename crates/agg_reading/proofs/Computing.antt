@@ -12,7 +12,7 @@ unfolding
     Rattle.agg_reading.specs.Scalars.flag Rattle.agg_reading.specs.Scalars.probe_of Rattle.agg_reading.specs.Numbers.number_at
     Rattle.agg_reading.specs.Numbers.whole_at Rattle.agg_reading.specs.Numbers.signed_at Rattle.agg_reading.specs.Numbers.truth_at
     Rattle.agg_reading.specs.Numbers.choice_at Rattle.agg_reading.specs.Fields.field_from Rattle.agg_reading.specs.Fields.nested_from
-    Rattle.agg_reading.specs.Fields.field_at Rattle.agg_reading.specs.Fields.is_in_context Rattle.agg_reading.specs.Fields.encloses
+    Rattle.agg_reading.specs.Fields.field_at Rattle.agg_model.specs.Contexts.is_in_context Rattle.agg_model.specs.Contexts.encloses
     Rattle.agg_reading.specs.Properties.place Rattle.agg_reading.specs.Properties.is_field_name Rattle.agg_reading.specs.Properties.type_named
     Rattle.agg_reading.specs.Properties.type_at Rattle.agg_reading.specs.Properties.type_in Rattle.agg_reading.specs.Properties.bound_at
     Rattle.agg_reading.specs.Properties.leaf_at Rattle.agg_reading.specs.Properties.fields_from Rattle.agg_reading.specs.Properties.properties_at

@@ -193,3 +193,7 @@ the_field_is_read_before_other_members = refl
 the_kind_is_read_before_the_children : search_of plain (codes "{\"aggs\":{\"a\":{\"aggs\":{\"\":{}},\"terms\":{\"field\":\"x\"}}}}") ≡ refuse 108 (codes "/aggs/a/terms/field")
 unfolding computing
 the_kind_is_read_before_the_children = refl
+
+partial_results_are_true_or_false : search_of plain (codes "{\"allow_partial_search_results\":null,\"query\":{}}") ≡ refuse 103 (codes "/allow_partial_search_results")
+unfolding computing
+partial_results_are_true_or_false = refl

@@ -20,8 +20,10 @@ use Rattle.agg_reading.specs.declared.parts.Role.{Role}
 use Rattle.agg_reading.specs.declared.parts.Role.TheVariants as role
 use Rattle.agg_reading.specs.Reading.{Reading, ◌>>=◌, refuse, or_refuse}
 use Rattle.agg_reading.specs.Json.{reading, object_at, is_among}
-use Rattle.agg_reading.specs.Scalars.{whole, word, flag, fits_kind, is_longer}
-use Rattle.agg_reading.specs.Fields.{field_from, nested_from, is_beneath, is_in_context}
+use Rattle.agg_reading.specs.Scalars.{whole, word, flag, is_longer}
+use Rattle.agg_model.specs.FieldKinds.{fits_kind}
+use Rattle.agg_reading.specs.Fields.{field_from, nested_from}
+use Rattle.agg_model.specs.Contexts.{is_beneath, is_in_context}
 use Rattle.agg_reading.specs.Rows.{finished, empty_draft, count_in, with_value, with_row}
 
 -- what a path is to the rows of a context

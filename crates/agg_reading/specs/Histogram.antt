@@ -1,5 +1,5 @@
 -- Histograms (Elasticsearch Reference 8, 'Histogram aggregation').
-use Rattle.std.specs.Prelude.{ℕ, ℤ, int_le, List, [], ◌∷◌, ◌++◌, Option, Some, None, Ok, Bool, true, false, ◌&&◌, nat_lt, if◌then◌else◌, ⊤, codes, unwrap_or}
+use Rattle.std.specs.Prelude.{ℕ, ℤ, List, [], ◌∷◌, ◌++◌, Option, Some, None, Ok, Bool, true, false, ◌&&◌, nat_lt, if◌then◌else◌, ⊤, codes, unwrap_or}
 use Rattle.serde_json.specs.Data.{Data, Members}
 use Rattle.agg_model.specs.declared.body_refusal.TheConstants.{MISSING_MEMBER, NO_SUCH_FIELD, OUT_OF_RANGE, UNKNOWN_MEMBER, WRONG_TYPE}
 use Rattle.agg_model.specs.declared.mapping.Field.{Field}
@@ -9,11 +9,12 @@ use Rattle.agg_model.specs.declared.row.Scalar.{Scalar}
 use Rattle.agg_model.specs.declared.aggregation.Bounds.{Bounds}
 use Rattle.agg_model.specs.declared.aggregation.Kind.{Kind}
 use Rattle.agg_model.specs.Options.{histogram_kind}
+use Rattle.agg_model.specs.BoundsOrder.{is_at_most, lies_within}
 use Rattle.agg_reading.specs.declared.parts.NamedOrder.{NamedOrder}
 use Rattle.agg_reading.specs.Reading.{Reading, ◌>>=◌, ◌>>◌, refuse, or_refuse}
 use Rattle.agg_reading.specs.Pointer.{member_step}
 use Rattle.agg_reading.specs.Json.{object_at, known, optional}
-use Rattle.agg_reading.specs.Scalars.{is_whole_kind}
+use Rattle.agg_model.specs.FieldKinds.{is_whole_kind}
 use Rattle.agg_reading.specs.Numbers.{whole_at, signed_at, truth_at}
 use Rattle.agg_reading.specs.Leaves.{field_in}
 use Rattle.agg_reading.specs.Orders.{orders_at, by_default}
@@ -22,11 +23,6 @@ use Rattle.agg_reading.specs.Terms.{missing_at}
 -- the member `field`, which names a field of whole numbers
 unfoldable pub whole_field_in : Mapping → List ℕ → Members → Reading (ℕ × Field)
 whole_field_in m at ms = field_in m at ms >>= λ f. if is_whole_kind f.1.kind then Ok f else refuse NO_SUCH_FIELD (at ++ member_step (codes "field"))
-
--- a bound that is not given holds always
-abbrev pub is_at_most : Option ℤ → Option ℤ → Bool
-is_at_most (Some a) (Some b) = int_le a b
-is_at_most _ _ = true
 
 abbrev pub ordered_bounds : List ℕ → Option ℤ → Option ℤ → Reading Bounds
 ordered_bounds at least most = if is_at_most least most then Ok (record { min = least; max = most }) else refuse OUT_OF_RANGE at
@@ -41,10 +37,6 @@ bounds_at at d = do
 
 abbrev pub unbounded : Bounds
 unbounded = record { min = None; max = None }
-
--- each extended bound that is given lies between the hard bounds that are given
-abbrev pub lies_within : Bounds → Bounds → Bool
-lies_within extended hard = is_at_most hard.min extended.min && is_at_most extended.min hard.max && is_at_most hard.min extended.max && is_at_most extended.max hard.max
 
 abbrev pub histogram_members : List (List ℕ)
 histogram_members =

@@ -11,7 +11,8 @@ use Rattle.agg_model.specs.declared.aggregation.Kind.TheVariants as kind
 use Rattle.agg_reading.specs.Reading.{Reading, ◌>>=◌, ◌>>◌, refuse, or_refuse}
 use Rattle.agg_reading.specs.Pointer.{member_step}
 use Rattle.agg_reading.specs.Json.{object_at, text_at, known, optional}
-use Rattle.agg_reading.specs.Fields.{nested_from, encloses}
+use Rattle.agg_reading.specs.Fields.{nested_from}
+use Rattle.agg_model.specs.Contexts.{encloses}
 use Rattle.agg_reading.specs.Leaves.{field_in}
 use Rattle.agg_reading.specs.Query.{path_in}
 use Rattle.agg_reading.specs.Terms.{missing_at}

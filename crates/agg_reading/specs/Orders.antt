@@ -6,8 +6,7 @@ use Rattle.agg_model.specs.declared.limits.TheConstants.{MAX_ORDERS}
 use Rattle.agg_model.specs.declared.body_refusal.TheConstants.{NOT_ONE_MEMBER, NO_SUCH_CHILD, OUT_OF_RANGE, WRONG_TYPE}
 use Rattle.agg_model.specs.declared.aggregation.Agg.{Agg, out-Agg}
 use Rattle.agg_model.specs.declared.aggregation.Kind.{Kind}
-use Rattle.agg_model.specs.declared.aggregation.Kind.TheVariants as kind
-use Rattle.agg_model.specs.Options.{Options, options_of, terms_kind, histogram_kind}
+use Rattle.agg_model.specs.Options.{Options, options_of, terms_kind, histogram_kind, is_sortable}
 use Rattle.agg_model.specs.declared.aggregation.Order.{Order}
 use Rattle.agg_model.specs.declared.aggregation.OrderBy.{OrderBy}
 use Rattle.agg_model.specs.declared.aggregation.OrderBy.TheVariants as by
@@ -48,14 +47,6 @@ orders_at at _ = refuse WRONG_TYPE at
 -- the order where none is given
 abbrev pub by_default : List ℕ → Bool → NamedOrder
 by_default name descending = record { name = name; descending = descending; at = [] }
-
--- a child whose value can be compared
-abbrev pub is_sortable : Kind → Bool
-is_sortable (kind.Sum field missing) = true
-is_sortable (kind.Min field missing) = true
-is_sortable (kind.Max field missing) = true
-is_sortable (kind.ValueCount field missing) = true
-is_sortable _ = false
 
 -- the first such child with this name and an ending, counted from n
 unfoldable pub child_from : List ℕ → ℕ → List ℕ → List Agg → Option ℕ

@@ -15,7 +15,8 @@ use Rattle.agg_reading.specs.Reading.{Reading, ◌>>=◌, ◌>>◌, refuse, or_r
 use Rattle.agg_reading.specs.Pointer.{member_step, item_step}
 use Rattle.agg_reading.specs.Json.{object_at, text_at, required, optional, known, sole_at}
 use Rattle.agg_reading.specs.Numbers.{whole_at}
-use Rattle.agg_reading.specs.Fields.{nested_from, is_in_context}
+use Rattle.agg_reading.specs.Fields.{nested_from}
+use Rattle.agg_model.specs.Contexts.{is_in_context}
 use Rattle.agg_reading.specs.Leaves.{match_all_at, term_at, terms_at, range_at, exists_at, ids_at}
 
 unfoldable pub query_name : List ℕ → Option QueryName

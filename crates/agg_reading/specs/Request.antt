@@ -1,5 +1,5 @@
 -- Search bodies (Elasticsearch Reference 8, 'Search API', 'Aggregations').
-use Rattle.std.specs.Prelude.{ℕ, zero, suc, ◌+◌, List, [], ◌∷◌, ◌++◌, length, Option, Some, None, Ok, Bool, true, false, ◌&&◌, not, nat_le, if◌then◌else◌, ⊤, codes}
+use Rattle.std.specs.Prelude.{ℕ, zero, suc, ◌+◌, List, [], ◌∷◌, ◌++◌, length, Option, Some, None, Ok, Bool, true, false, ◌&&◌, not, nat_le, if◌then◌else◌, ⊤, codes, unwrap_or}
 use Rattle.serde_json.specs.Data.{Data, Members, no_members, member}
 use Rattle.serde_json.specs.Find.{get_member}
 use Rattle.agg_model.specs.declared.limits.TheConstants.{MAX_AGGREGATIONS, MAX_AGGREGATION_LEVELS}
@@ -13,7 +13,8 @@ use Rattle.agg_reading.specs.declared.parts.Counts.{Counts}
 use Rattle.agg_reading.specs.declared.parts.ReadKind.{ReadKind}
 use Rattle.agg_reading.specs.Reading.{Reading, ◌>>=◌, ◌>>◌, refuse, or_refuse}
 use Rattle.agg_reading.specs.Pointer.{member_step}
-use Rattle.agg_reading.specs.Json.{json_at, object_at, known}
+use Rattle.agg_reading.specs.Json.{json_at, object_at, known, optional}
+use Rattle.agg_reading.specs.Numbers.{truth_at}
 use Rattle.agg_reading.specs.Query.{top_query_at}
 use Rattle.agg_reading.specs.Orders.{resolved, with_order}
 use Rattle.agg_reading.specs.Aggregations.{kind_name, kind_at, kind_member, is_metric, is_top_kind, is_aggregation_name, has_both, children_name}
@@ -81,10 +82,10 @@ aggregation_at (suc left) m top context name at counts d =
     if nat_le MAX_AGGREGATIONS counts.aggregations then refuse LIMIT_EXCEEDED at
     else aggregation_of (aggregation_at left m false) m top context name at counts d
 
--- the members of a body; those beside aggregations and query have no effect
+-- the members of a body; those beside aggregations, query and `allow_partial_search_results` have no effect
 abbrev pub body_members : List (List ℕ)
 body_members =
-    codes "_source" ∷ codes "aggregations" ∷ codes "aggs" ∷ codes "docvalue_fields" ∷ codes "explain" ∷ codes "fields" ∷ codes "from" ∷ codes "query" ∷ codes "seq_no_primary_term"
+    codes "_source" ∷ codes "aggregations" ∷ codes "aggs" ∷ codes "allow_partial_search_results" ∷ codes "docvalue_fields" ∷ codes "explain" ∷ codes "fields" ∷ codes "from" ∷ codes "query" ∷ codes "seq_no_primary_term"
     ∷ codes "size" ∷ codes "sort" ∷ codes "stored_fields" ∷ codes "timeout" ∷ codes "track_scores" ∷ codes "track_total_hits" ∷ codes "version" ∷ []
 
 -- an absent query is match_all
@@ -99,8 +100,9 @@ no_counts = record { queries = 0; aggregations = 0 }
 unfoldable pub search_in : Mapping → ℕ → Members → Reading Search
 search_in m bytes ms = do
   aggs ← children_in (aggregation_at MAX_AGGREGATION_LEVELS m true) 0 [] no_counts ms
+  partial ← optional truth_at (codes "allow_partial_search_results") [] ms
   query ← query_or_all m aggs.1.queries (get_member (codes "query") ms)
-  Ok (record { query = query; aggs = aggs.0; body_bytes = bytes })
+  Ok (record { query = query; aggs = aggs.0; body_bytes = bytes; partial = unwrap_or partial false })
 
 unfoldable pub search_value_at : Mapping → ℕ → Data → Reading Search
 search_value_at m bytes d = do

@@ -1,5 +1,5 @@
 -- The values that a JSON value stands for in a field (Elasticsearch Reference 8, 'Field data types').
-use Rattle.std.specs.Prelude.{ℕ, ◌^◌, ℤ, pos, neg_ℤ, int_le, int_lt, List, length, drop, Option, Some, None, option_map, Bool, true, false, ◌&&◌, nat_lt, nat_le, if◌then◌else◌, codes}
+use Rattle.std.specs.Prelude.{ℕ, ◌^◌, ℤ, List, length, drop, Option, Some, None, option_map, Bool, true, false, ◌&&◌, nat_lt, nat_le, if◌then◌else◌, codes}
 use Rattle.std.specs.Str.{bytes_eq, all_ascii_digits, chars}
 use Rattle.std.specs.Str.Parse.{starts_with_minus, signed_digits_value}
 use Rattle.std.specs.Fmt.{signed_decimal}
@@ -11,7 +11,8 @@ use Rattle.agg_model.specs.declared.query.Probe.TheVariants as probe
 use Rattle.agg_model.specs.declared.row.Scalar.{Scalar}
 use Rattle.agg_model.specs.declared.row.Scalar.TheVariants as scalar
 use Rattle.agg_model.specs.declared.mapping.FieldKind.{FieldKind}
-use Rattle.agg_model.specs.declared.mapping.FieldKind.TheVariants.{Integer, Short, Byte, Keyword, Boolean}
+use Rattle.agg_model.specs.declared.mapping.FieldKind.TheVariants.{Keyword, Boolean}
+use Rattle.agg_model.specs.FieldKinds.{fits_below}
 
 abbrev pub digits_of : List ℕ → List ℕ
 digits_of s = if starts_with_minus s then drop 1 s else s
@@ -48,30 +49,11 @@ flag (boolean b) = Some b
 flag (string s) = flag_of s
 flag _ = None
 
-abbrev pub is_whole_kind : FieldKind → Bool
-is_whole_kind Keyword = false
-is_whole_kind Boolean = false
-is_whole_kind _ = true
-
 -- what a query, `include`, `exclude` or `after` asks a field for
 unfoldable pub probe_of : FieldKind → Data → Option Probe
 probe_of Keyword d = option_map probe.Word (word d)
 probe_of Boolean d = option_map probe.Flag (flag d)
 probe_of _ d = option_map probe.Whole (whole d)
-
--- from -2^(bits-1) up to, not including, 2^(bits-1)
-abbrev pub fits_below : ℕ → ℤ → Bool
-fits_below half z = int_le (neg_ℤ (pos half)) z && int_lt z (pos half)
-
-abbrev pub half_of : FieldKind → ℕ
-half_of Integer = 2 ^ 31
-half_of Short = 2 ^ 15
-half_of Byte = 2 ^ 7
-half_of _ = 2 ^ 63
-
--- whether a whole number lies in the range of a field of this kind
-abbrev pub fits_kind : FieldKind → ℤ → Bool
-fits_kind kind z = fits_below (half_of kind) z
 
 -- the same value as the value of a row, whose whole numbers have 64 bits
 abbrev pub stored : Probe → Option Scalar

@@ -15,7 +15,7 @@ use agg_model::limits::MAX_QUERIES;
 use agg_model::{Mapping, Query, Search};
 use agg_query::counted_query_at;
 use agg_reading::RequestFault;
-use json_walk::{At, check_names, json, member, object};
+use json_walk::{At, check_names, json, member, object, truth_in};
 use serde_json::{Map, Value};
 use std::alloc::Global;
 
@@ -51,11 +51,18 @@ fn search_in(
     ensures { Gives (λ s. s) result (search_in mapping.now body_bytes (members_view members.now.entries)) }
 {
     let (aggs, counts) = aggregations_in(alloc, mapping, &At::Start(""), members)?;
+    let partial = truth_in(
+        alloc,
+        "allow_partial_search_results",
+        &At::Start(""),
+        members,
+    )?;
     let query = query_or_all(alloc, mapping, counts.queries, members)?;
     Ok(Search {
         query,
         aggs,
         body_bytes,
+        partial: partial.unwrap_or(false),
     })
 }
 
@@ -83,6 +90,7 @@ fn search_value(
             "_source",
             "aggregations",
             "aggs",
+            "allow_partial_search_results",
             "docvalue_fields",
             "explain",
             "fields",
@@ -101,7 +109,7 @@ fn search_value(
     search_in(alloc, mapping, body_bytes, members)
 }
 
-/// The search that the bytes of a body are: `aggs` or `aggregations`, and `query`. Bytes that `serde_json` does not read
+/// The search that the bytes of a body are: `aggs` or `aggregations`, `allow_partial_search_results`, and `query`. Bytes that `serde_json` does not read
 /// are `NotJson`. Else the first thing in the walk that breaks a rule is refused with its number in
 /// `agg_model::body_refusal` and its pointer.
 #[tactic(auto, unfolding(agg_reading::specs::Request::search_of))]

@@ -16,6 +16,7 @@ plain = record {
   batch = 512;
   width = 1;
   limits = plain_limits;
+  heap = 1073741824;
   max_buckets = 65536;
   scan = false;
   generate = None;
@@ -51,7 +52,7 @@ scan_and_generate = refl
 
 -- a percentage is of the last `heap_size`, also where it stands before it
 the_last_heap : read (codes "-E" ∷ codes "indices.breaker.request.limit=50%" ∷ codes "-E" ∷ codes "heap_size=1kb" ∷ codes "-E" ∷ codes "heap_size=100b" ∷ [])
-    ≡ Ok (record plain { limits = record { request = 50; fielddata = 40; inflight = 100; parent = 70 } })
+    ≡ Ok (record plain { limits = record { request = 50; fielddata = 40; inflight = 100; parent = 70 }; heap = 100 })
 unfolding computing
 the_last_heap = refl
 
@@ -71,6 +72,6 @@ real_memory_off = refl
 
 -- the value of `-E` may stand in the same word, with one `=` before it
 attached : read (codes "-Eheap_size=100b" ∷ codes "-E=indices.breaker.total.limit=1%" ∷ [])
-    ≡ Ok (record plain { limits = record { request = 60; fielddata = 40; inflight = 100; parent = 1 } })
+    ≡ Ok (record plain { limits = record { request = 60; fielddata = 40; inflight = 100; parent = 1 }; heap = 100 })
 unfolding computing
 attached = refl

@@ -19,6 +19,7 @@ pub record AreInRange (settings : Settings) : Type 0 where
   pub some_search : 1 ≤ settings.width
   pub width : settings.width ≤ MAX_AT_ONCE
   pub limits : AreLimits settings.limits
+  pub heap : settings.heap ≤ MAX_BYTE_SIZE
   pub some_bucket : 1 ≤ settings.max_buckets
   pub max_buckets : settings.max_buckets ≤ GREATEST_MAX_BUCKETS
   pub one_scan : settings.scan ≡ true → settings.width ≡ 1

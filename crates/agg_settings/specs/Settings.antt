@@ -5,7 +5,7 @@ use Rattle.clap.specs.Walk.{Row, Text}
 use Rattle.agg_model.specs.declared.limits.TheConstants.{DEFAULT_BATCH, MAX_AT_ONCE, MAX_BATCH, MIN_BATCH}
 use Rattle.agg_model.specs.declared.settings.Settings.{Settings}
 use Rattle.agg_settings.specs.Usages.{Reading, ◌>>=◌, refuse}
-use Rattle.agg_settings.specs.Entries.{limits_in, max_buckets_in}
+use Rattle.agg_settings.specs.Entries.{heap_in, limits_in, max_buckets_in}
 use Rattle.agg_settings.specs.Options.{number_at, entries_at, scan_at, generate_at}
 use Rattle.agg_settings.specs.Words.{is_command, rows_in}
 
@@ -23,6 +23,7 @@ settings_at most rows =
       batch = batch;
       width = width;
       limits = limits_in entries;
+      heap = heap_in entries;
       max_buckets = max_buckets_in entries;
       scan = scan;
       generate = generate;

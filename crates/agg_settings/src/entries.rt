@@ -84,7 +84,7 @@ fn last_value<'a>(key: &str, entries: &[&'a str]) -> Option<&'a str>
 
 /// The bytes of the heap: the last `heap_size`, or 1gb.
 #[tactic(auto, unfolding(crate::specs::Entries::heap_in))]
-fn heap_in(entries: &[&str]) -> u64
+pub(crate) fn heap_in(entries: &[&str]) -> u64
     ensures value { result ≡ heap_in (map (λ s. s.now) entries.now) }
     ensures high { result ≤ MAX_BYTE_SIZE }
 {

@@ -7,7 +7,7 @@ ghost use Rattle.agg_settings.specs.Ranges.{AreInRange};
 ghost use Rattle.agg_settings.specs.Settings.{most_at_once, settings_at, settings_of};
 
 use crate::command::{matches, slices};
-use crate::entries::{limits_in, max_buckets_in};
+use crate::entries::{heap_in, limits_in, max_buckets_in};
 use crate::fault::SettingsFault;
 use crate::options::{entries_at, generate_at, number_at, scan_at};
 use agg_model::limits::{DEFAULT_BATCH, MAX_AT_ONCE, MAX_BATCH, MIN_BATCH};
@@ -54,6 +54,7 @@ fn settings_at(
         batch,
         width,
         limits: limits_in(entries.as_slice()),
+        heap: heap_in(entries.as_slice()),
         max_buckets: max_buckets_in(entries.as_slice()),
         scan,
         generate,

@@ -17,6 +17,7 @@ const PLAIN: Settings = Settings {
     batch: 512,
     width: 1,
     limits: LIMITS,
+    heap: 1_073_741_824,
     max_buckets: 65_536,
     scan: false,
     generate: None,
@@ -104,6 +105,7 @@ fn words_give_settings(rt: HostRuntime) -> Result<(), Fail> {
             "-Eindices.breaker.request.limit=007% -E=heap_size=1gb -E heap_size=100b",
             Settings {
                 limits: of_100,
+                heap: 100,
                 ..PLAIN
             },
         ),

@@ -85,7 +85,7 @@ abbrev pub leaf : List ℕ → Kind → Agg
 leaf name kind = agg name kind []
 
 abbrev pub search_of : Query → List Agg → Search
-search_of query aggs = record { query = query; aggs = aggs; body_bytes = 0 }
+search_of query aggs = record { query = query; aggs = aggs; body_bytes = 0; partial = false }
 
 -- the text of the member `aggregations` of the response
 abbrev pub aggregations_text : Index → Search → List ℕ
@@ -96,7 +96,7 @@ default_limits = record { request = 644245094; fielddata = 429496729; inflight =
 
 -- one worker that runs one search at a time
 abbrev pub settings : Limits → Settings
-settings limits = record { workers = 1; batch = 512; width = 1; limits = limits; max_buckets = 65536; scan = false; generate = None }
+settings limits = record { workers = 1; batch = 512; width = 1; limits = limits; heap = 1073741824; max_buckets = 65536; scan = false; generate = None }
 
 abbrev pub request_limit : ℕ → Settings
 request_limit n = settings (record default_limits { request = n })

@@ -12,7 +12,8 @@ use Rattle.agg_model.specs.declared.key.Key.TheOpen.{Key-F}
 use Rattle.agg_evaluation.specs.KeyOrder.{key_cmp, directed}
 use Rattle.agg_evaluation.specs.Orders.{parts_cmp, composite_cmp, composite_cmp_at}
 use Rattle.agg_evaluation.proofs.KeyCompare.{key_cmp_total}
-use Rattle.bucket_order.specs.Composites.{has_parts, is_composite_of, parts_at, key_parts, first_of, rest_of, part_cmp, any_parts_cmp}
+use Rattle.bucket_order.specs.Composites.{parts_at, key_parts, first_of, rest_of, part_cmp, any_parts_cmp}
+use Rattle.agg_evaluation.specs.CompositeKeys.{has_parts, is_composite_of}
 use Rattle.bucket_order.proofs.TotalLaws.{null_last, null_last_total, directed_total}
 
 part_is : (d : Bool) (x y : Option Key) → null_last (λ j k. directed d (key_cmp j k)) (directed_total key_cmp key_cmp_total d) x y ≡ part_cmp d x y

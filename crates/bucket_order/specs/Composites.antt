@@ -1,5 +1,5 @@
 -- Composite keys, which have a part for each source ('Composite aggregation').
-use Rattle.std.specs.Prelude.{ℕ, ◌==◌, Bool, false, List, [], ◌∷◌, length, Option, Some, None}
+use Rattle.std.specs.Prelude.{Bool, List, [], ◌∷◌, Option, Some, None}
 use Rattle.std.specs.declared.cmp.Ordering.{Ordering}
 use Rattle.std.specs.declared.cmp.Ordering.TheVariants.{Less, Equal, Greater}
 use Rattle.std.specs.Ordering.{ordering_then}
@@ -7,14 +7,6 @@ use Rattle.agg_model.specs.declared.aggregation.CompositeSource.{CompositeSource
 use Rattle.agg_model.specs.declared.key.Key.{Key, out-Key}
 use Rattle.agg_model.specs.declared.key.Key.TheOpen.{Key-F}
 use Rattle.agg_evaluation.specs.KeyOrder.{key_cmp, directed}
-
-abbrev pub has_parts : ℕ → Key-F Key → Bool
-has_parts n (Key-F.Many parts) = length parts == n
-has_parts n _ = false
-
--- a composite key of so many parts
-abbrev pub is_composite_of : ℕ → Key → Bool
-is_composite_of n k = has_parts n (out-Key k)
 
 abbrev pub parts_at : Key-F Key → List Key
 parts_at (Key-F.Many parts) = parts

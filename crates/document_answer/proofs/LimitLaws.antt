@@ -43,7 +43,7 @@ use Rattle.agg_spec.proofs.TermsBounds.{each-filter, each-take, each-sorted, eac
 use Rattle.terms_agg.specs.Trim.{trimmed}
 use Rattle.terms_agg.proofs.TrimLaws.{trimmed-Terms}
 use Rattle.keyword_documents.specs.SmallForm.{keyword_field}
-use Rattle.final_reduce.specs.Finishable.{is_finishable, can_finish, terms_fit}
+use Rattle.agg_evaluation.specs.Finishable.{is_finishable, can_finish, terms_fit}
 use Rattle.agg_evaluation.specs.Conditions.{has_intervals}
 use Rattle.document_terms.specs.Terms.{words_of, counted_bucket, times, term_node}
 use Rattle.document_terms.specs.SmallSearch.{terms_aggregation, IsTermsSearch, HaveKeywords}

@@ -9,7 +9,8 @@ use Rattle.std.proofs.lemmas.Cmp.{nat_eq_equiv}
 use Rattle.list_laws.proofs.Booleans.{and_false, and_true}
 use Rattle.agg_model.specs.declared.mapping.NestedPath.{NestedPath}
 use Rattle.agg_model.specs.declared.mapping.Mapping.{Mapping}
-use Rattle.agg_reading.specs.Fields.{nested_from, is_beneath, is_in_context}
+use Rattle.agg_reading.specs.Fields.{nested_from}
+use Rattle.agg_model.specs.Contexts.{is_beneath, is_in_context}
 use Rattle.agg_reading.specs.Document.{leads_deeper}
 use Rattle.document_rows.specs.Roles.{is_deeper}
 

@@ -21,12 +21,12 @@ use Rattle.agg_reading.specs.declared.parts.Role.TheVariants as role
 use Rattle.agg_reading.specs.Reading.{Reading, ◌>>=◌, refuse, or_refuse}
 use Rattle.agg_reading.specs.Json.{is_among}
 use Rattle.agg_reading.specs.Fields.{field_from, nested_from}
-use Rattle.agg_reading.specs.Scalars.{whole, word, fits_kind}
+use Rattle.agg_reading.specs.Scalars.{whole, word}
+use Rattle.agg_model.specs.FieldKinds.{fits_kind, is_of_kind}
 use Rattle.agg_reading.specs.Rows.{with_value, count_in, empty_draft}
 use Rattle.agg_reading.specs.Document.{State, leads_deeper, nested_role, inner_role, field_role, role_of, number_value, word_value, is_ignored, document_flag, scalar_at, with_scalar, leaf_at, around, object_by, chosen, value_at, items_at, members_at}
 use Rattle.document_rows.specs.Drafts.{is_typed}
 use Rattle.document_rows.specs.Roles.{kind_in, IsRoleIn}
-use Rattle.agg_model.specs.FieldKinds.{is_of_kind}
 use Rattle.document_rows.proofs.Places.{kind_found, nested_found}
 
 -- the role of a path is one of the mapping's

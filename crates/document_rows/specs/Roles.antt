@@ -7,7 +7,8 @@ use Rattle.agg_model.specs.declared.mapping.FieldKind.TheVariants.{Keyword}
 use Rattle.agg_model.specs.declared.mapping.Mapping.{Mapping}
 use Rattle.agg_reading.specs.declared.parts.Role.{Role}
 use Rattle.agg_reading.specs.declared.parts.Role.TheVariants as role
-use Rattle.agg_reading.specs.Fields.{nested_from, is_in_context}
+use Rattle.agg_reading.specs.Fields.{nested_from}
+use Rattle.agg_model.specs.Contexts.{is_in_context}
 
 -- the path is a nested path strictly beneath the context
 abbrev pub is_deeper : Mapping → ℕ → List ℕ → Bool

@@ -90,7 +90,7 @@ module _ (ds : List Document) (h : HaveKeywords ds) where
   unfolding computing
   shard_node-terms name matched = refl
 
-  answer-of : (name : List ℕ) (body_bytes : ℕ) → shard_answer (record { query = All; aggs = terms_aggregation name ∷ []; body_bytes = body_bytes }) rows
+  answer-of : (name : List ℕ) (body_bytes : ℕ) → shard_answer (record { query = All; aggs = terms_aggregation name ∷ []; body_bytes = body_bytes; partial = false }) rows
       ≡ record { hits = length ds; nodes = trimmed (terms_aggregation name) (term_node words) ∷ [] }
   answer-of name body_bytes =
       ap (λ matched. record { hits = length matched; nodes = shard_node rows (terms_aggregation name) matched ∷ [] }) (matched-all ds h)
@@ -101,8 +101,8 @@ module _ (ds : List Document) (h : HaveKeywords ds) where
 pub terms-answer : (search : Search) (ds : List Document) → IsTermsSearch search → HaveKeywords ds
     → shard_answer search (rows_in ds) ≡ record { hits = length ds; nodes = map (λ agg. trimmed agg (term_node (words_of keyword_field ds))) search.aggs }
 terms-answer search ds form h =
-    ap (λ query. shard_answer (record { query = query; aggs = search.aggs; body_bytes = search.body_bytes }) (rows_in ds)) form.0
-    ∙ ap (λ aggs. shard_answer (record { query = All; aggs = aggs; body_bytes = search.body_bytes }) (rows_in ds)) form.1.1
+    ap (λ query. shard_answer (record { query = query; aggs = search.aggs; body_bytes = search.body_bytes; partial = false }) (rows_in ds)) form.0
+    ∙ ap (λ aggs. shard_answer (record { query = All; aggs = aggs; body_bytes = search.body_bytes; partial = false }) (rows_in ds)) form.1.1
     ∙ answer-of ds h form.1.0 search.body_bytes
     ∙ ap (λ aggs. record { hits = length ds; nodes = map (λ agg. trimmed agg (term_node (words_of keyword_field ds))) aggs }) (sym form.1.1)
 

@@ -20,7 +20,7 @@ terms_aggregation name = roll-Agg (record { name = name; kind = terms_kind; chil
 
 -- the search of all documents with that one aggregation, by a body of so many bytes
 abbrev pub terms_search : List ℕ → ℕ → Search
-terms_search name body_bytes = record { query = All; aggs = terms_aggregation name ∷ []; body_bytes = body_bytes }
+terms_search name body_bytes = record { query = All; aggs = terms_aggregation name ∷ []; body_bytes = body_bytes; partial = false }
 
 -- a search of all documents with that one aggregation, whatever its name
 abbrev pub IsTermsSearch : Search → Type 0

@@ -44,5 +44,6 @@ pub fn terms_search(alloc: Global, name: &str, body_bytes: u64) -> Result<Search
         query: Query::All,
         aggs,
         body_bytes,
+        partial: false,
     })
 }

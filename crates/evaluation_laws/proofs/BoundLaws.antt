@@ -26,7 +26,7 @@ use Rattle.agg_evaluation.specs.Rows.{PlacedRow, is_within, beneath}
 use Rattle.agg_evaluation.specs.Keys.{keys, values_or}
 use Rattle.agg_evaluation.specs.Groups.{under, group, all_keys, total_key_count}
 use Rattle.agg_evaluation.specs.Orders.{bucket_key, bucket_count, bucket_cmp, composite_cmp}
-use Rattle.agg_evaluation.specs.Shard.{Collector, metric_of, count_of_values, fixed_keys, page, trimmed_node, with_covered, bucket_of, node_of, collector_of, collected_node}
+use Rattle.agg_evaluation.specs.Shard.{Collector, metric_of, fixed_keys, page, trimmed_node, with_covered, bucket_of, node_of, collector_of, collected_node}
 use Rattle.agg_evaluation.specs.Whole.{shape_of, by_key}
 use Rattle.agg_evaluation.specs.Cost.{key_bytes, node_cost}
 use Rattle.agg_evaluation.specs.Trace.{is_global}
@@ -298,7 +298,7 @@ module _ (kinds : List FieldKind) (all : List PlacedRow) where
     counted-bounded (kind.Min field missing) m hs rs few covers known = number-bounded (kind.Min field missing) (λ rows. cost-Number (metric_of (flat_map (values_or field missing) rows))) m hs _ few
     counted-bounded (kind.Max field missing) m hs rs few covers known = number-bounded (kind.Max field missing) (λ rows. cost-Number (metric_of (flat_map (values_or field missing) rows))) m hs _ few
     counted-bounded (kind.Avg field missing) m hs rs few covers known = number-bounded (kind.Avg field missing) (λ rows. cost-Number (metric_of (flat_map (values_or field missing) rows))) m hs _ few
-    counted-bounded (kind.ValueCount field missing) m hs rs few covers known = number-bounded (kind.ValueCount field missing) (λ rows. cost-Number (count_of_values (flat_map (values_or field missing) rows))) m hs _ few
+    counted-bounded (kind.ValueCount field missing) m hs rs few covers known = number-bounded (kind.ValueCount field missing) (λ rows. cost-Number (metric_of (flat_map (values_or field missing) rows))) m hs _ few
 
   known-under : (roots : List PlacedRow) (k : Kind) → is_global k ≡ false → (rows : List PlacedRow) → Each (Known all) rows → Each (Known all) (under all roots k rows)
   known-under roots (kind.Nested context) e rows h = each-flat_map (Known all) (beneath all context) rows (each-all _ (λ outer. each-filter (Known all) (λ r. (r.context == context) && is_within r outer) all (known-all all)) rows)

@@ -20,7 +20,7 @@ use Rattle.agg_evaluation.specs.Shard.{fixed_keys}
 use Rattle.agg_evaluation.specs.Trees.{is_ascending, is_tree_at, have_children, pass_each}
 use Rattle.agg_evaluation.specs.Whole.{Shape, by_key, from_start, a_number, shape_of, Parts, parts, parts_at}
 use Rattle.agg_spec.specs.Final.{Finisher, finisher, finisher_of, finish_at, finish_bucket, buckets_answer, metric_answer}
-use Rattle.final_reduce.specs.Finishable.{is_finishable, is_finishable_at, fits_at, terms_fit, has_histogram_keys}
+use Rattle.agg_evaluation.specs.Finishable.{is_finishable, is_finishable_at, fits_at, terms_fit, has_histogram_keys}
 use Rattle.agg_evaluation.specs.Conditions.{has_interval, has_intervals}
 use Rattle.final_reduce.specs.Planned.{has_composite_keys, returned_at}
 use Rattle.final_reduce.proofs.SelectLaws.{list_all-map, list_all-take, list_all-filter}

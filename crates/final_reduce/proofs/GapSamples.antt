@@ -17,7 +17,7 @@ use Rattle.agg_evaluation.specs.Shard.{fixed_keys}
 use Rattle.agg_evaluation.specs.Trees.{is_ascending, have_children, is_tree_at}
 use Rattle.agg_evaluation.specs.Whole.{by_key, parts_at}
 use Rattle.agg_evaluation.proofs.NodeForms.{out-Keyed}
-use Rattle.final_reduce.specs.Finishable.{is_finishable, is_finishable_at, is_histogram_key, fits_at}
+use Rattle.agg_evaluation.specs.Finishable.{is_finishable, is_finishable_at, is_histogram_key, fits_at}
 use Rattle.agg_evaluation.specs.Conditions.{has_interval, has_intervals}
 use Rattle.final_reduce.specs.SampleGaps.{counted_bucket, no_bounds, rises, IsHistogram}
 use Rattle.agg_evaluation.proofs.AggFolds.{fold_agg-level}

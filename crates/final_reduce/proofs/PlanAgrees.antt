@@ -44,7 +44,7 @@ use Rattle.agg_spec.specs.Final.{Finisher, finisher, finisher_of, finish_at, fin
 use Rattle.agg_spec.specs.GapCount.{Plan, plan, plan_of, plan_at, plan_each, below_empty, filled_count, planned_buckets}
 use Rattle.agg_spec.proofs.SumLaws.{sum_by-sorted}
 use Rattle.bucket_order.proofs.SameOrder.{list_all-sorted}
-use Rattle.final_reduce.specs.Finishable.{is_finishable, is_finishable_at, is_histogram_key, fits_at, can_finish}
+use Rattle.agg_evaluation.specs.Finishable.{is_finishable, is_finishable_at, is_histogram_key, fits_at, can_finish}
 use Rattle.agg_evaluation.specs.Conditions.{has_interval, has_intervals}
 use Rattle.final_reduce.specs.Steps.{key_numbers}
 use Rattle.final_reduce.specs.Planned.{returned_at, gap_count, gaps_of, planned_below, planned_at, planned_of_nothing, member_number, fixed_count}

@@ -10,7 +10,7 @@ use Rattle.agg_model.specs.declared.aggregation.Agg.{Agg, out-Agg}
 use Rattle.agg_evaluation.proofs.Computing.{computing}
 use Rattle.agg_evaluation.specs.Trees.{pass_each}
 use Rattle.std.specs.List.{list_all}
-use Rattle.final_reduce.specs.Finishable.{is_finishable, is_finishable_at}
+use Rattle.agg_evaluation.specs.Finishable.{is_finishable, is_finishable_at}
 use Rattle.agg_evaluation.specs.Conditions.{has_interval, has_intervals}
 use Rattle.final_reduce.specs.SampleTerms.{IsTermsAlone, IsTermsKind, returned_bucket}
 use Rattle.agg_evaluation.proofs.AggFolds.{fold_agg-level}

@@ -17,7 +17,7 @@ use Rattle.agg_evaluation.specs.Orders.{bucket_key}
 use Rattle.list_laws.proofs.Lists.{append-nil}
 use Rattle.agg_spec.specs.Filling.{number_of_key, least_key, greatest_key, has_buckets, filled_keys, steps_between}
 use Rattle.agg_spec.specs.GapCount.{step_count, filled_count, key_from, keys_between}
-use Rattle.final_reduce.specs.Finishable.{is_histogram_key, is_near}
+use Rattle.agg_evaluation.specs.Finishable.{is_histogram_key, is_near}
 use Rattle.final_reduce.specs.Steps.{IsSpan, keys_from, key_numbers, first_within, last_within}
 use Rattle.final_reduce.proofs.Intervals.{start-start, first-least, last-greatest}
 use Rattle.final_reduce.proofs.KeySteps.{filled-at, of_reduced}

@@ -1,6 +1,5 @@
 pub mod Causes
 pub mod Counts
-pub mod Finishable
 pub mod Paths
 pub mod Planned
 pub mod SampleGaps

@@ -10,7 +10,7 @@ use Rattle.agg_model.specs.declared.aggregation.Kind.TheVariants as kind
 use Rattle.list_laws.specs.Sorting.{sorted}
 use Rattle.agg_model.specs.Options.{Options, options_of}
 use Rattle.agg_evaluation.specs.Orders.{bucket_cmp, bucket_key, composite_cmp}
-use Rattle.bucket_order.specs.Composites.{is_composite_of}
+use Rattle.agg_evaluation.specs.CompositeKeys.{is_composite_of}
 use Rattle.agg_spec.specs.BucketCount.{member_count}
 use Rattle.agg_spec.specs.Filling.{frequent}
 use Rattle.agg_spec.specs.GapCount.{Plan, plan, plan_each, below_empty, filled_count}

@@ -3,7 +3,7 @@ ghost use Rattle.std.specs.Prelude.{◌≡◌, IfOk, IsTrue, map};
 ghost use Rattle.std.specs.List.{list_all};
 ghost use Rattle.agg_evaluation.specs.Trees.{pass_each};
 ghost use Rattle.agg_spec.specs.Final.{finisher, finish_each as finished_each};
-ghost use Rattle.final_reduce.specs.Finishable.{is_finishable};
+ghost use Rattle.agg_evaluation.specs.Finishable.{is_finishable};
 ghost use Rattle.agg_evaluation.specs.Conditions.{has_intervals};
 ghost use Rattle.final_reduce.specs.Selection.{chosen_pass, finish_chosen as finished_choice};
 

@@ -3,7 +3,7 @@ ghost use Rattle.std.specs.Prelude.{◌≡◌, IfOk, IsTrue, take, length};
 ghost use Rattle.std.specs.List.{list_all};
 ghost use Rattle.list_laws.specs.Sorting.{sorted};
 ghost use Rattle.agg_evaluation.specs.Orders.{bucket_key, composite_cmp};
-ghost use Rattle.bucket_order.specs.Composites.{is_composite_of};
+ghost use Rattle.agg_evaluation.specs.CompositeKeys.{is_composite_of};
 
 use agg_model::{Bucket, CompositeSource, List};
 use bucket_order::sort_composites;

@@ -8,7 +8,7 @@ ghost use Rattle.agg_evaluation.specs.Whole.{parts};
 ghost use Rattle.agg_spec.specs.BucketCount.{greatest_count};
 ghost use Rattle.agg_spec.specs.GapCount.{below_empty, plan, plan_each};
 ghost use Rattle.bucket_order.specs.Kinds.{kind_of};
-ghost use Rattle.final_reduce.specs.Finishable.{has_histogram_keys, is_finishable, is_histogram_key};
+ghost use Rattle.agg_evaluation.specs.Finishable.{has_histogram_keys, is_finishable, is_histogram_key};
 ghost use Rattle.agg_evaluation.specs.Conditions.{has_interval, has_intervals};
 ghost use Rattle.final_reduce.specs.Planned.{fixed_count, gap_count as count_of_gaps, gaps_of, member_number, planned_below as planned_below_buckets, planned_of_nothing};
 

@@ -9,7 +9,7 @@ ghost use Rattle.agg_evaluation.specs.Trees.{is_ascending};
 ghost use Rattle.agg_spec.specs.Filling.{bucket_at, filled, filled_keys};
 ghost use Rattle.agg_spec.specs.Final.{empty_bucket as empty_bucket_of, finisher};
 ghost use Rattle.bucket_order.specs.Kinds.{child_kinds};
-ghost use Rattle.final_reduce.specs.Finishable.{is_histogram_key};
+ghost use Rattle.agg_evaluation.specs.Finishable.{is_histogram_key};
 ghost use Rattle.final_reduce.specs.Steps.{key_numbers, left_by, taken};
 
 use crate::spans::{Spacing, filled_span};

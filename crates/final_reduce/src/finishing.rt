@@ -1,7 +1,7 @@
 ghost use Rattle.std.specs.Prelude.{IfOk, IfErr, IsTrue, ◌≡◌};
 ghost use Rattle.agg_spec.specs.Final.{final as final_answer};
 ghost use Rattle.final_reduce.specs.Causes.{IsCause, IsWithinLimits};
-ghost use Rattle.final_reduce.specs.Finishable.{can_finish};
+ghost use Rattle.agg_evaluation.specs.Finishable.{can_finish};
 ghost use Rattle.final_reduce.specs.declared.finishing.FinalFault.TheVariants.{Memory as OutOfMemory};
 
 use crate::answer::finish_each;

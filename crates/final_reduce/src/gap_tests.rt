@@ -3,7 +3,7 @@ ghost use Rattle.std.specs.List.{list_all};
 ghost use Rattle.agg_model.specs.declared.aggregation.Agg.{out-Agg};
 ghost use Rattle.agg_model.specs.declared.key.Key.TheVariants.{Whole};
 ghost use Rattle.agg_model.specs.declared.partial.Node.TheVariants.{Keyed};
-ghost use Rattle.final_reduce.specs.Finishable.{can_finish, is_histogram_key};
+ghost use Rattle.agg_evaluation.specs.Finishable.{can_finish, is_histogram_key};
 ghost use Rattle.agg_evaluation.specs.Conditions.{has_interval};
 ghost use Rattle.final_reduce.specs.SampleGaps.{IsHistogram, counted_bucket, no_bounds, rises};
 

@@ -5,7 +5,7 @@ ghost use Rattle.list_laws.specs.Sorting.{sorted};
 ghost use Rattle.agg_evaluation.specs.Orders.{bucket_cmp, bucket_key, composite_cmp};
 ghost use Rattle.agg_model.specs.declared.aggregation.Agg.{out-Agg};
 ghost use Rattle.agg_spec.specs.Filling.{frequent};
-ghost use Rattle.bucket_order.specs.Composites.{is_composite_of};
+ghost use Rattle.agg_evaluation.specs.CompositeKeys.{is_composite_of};
 ghost use Rattle.bucket_order.specs.Kinds.{child_kinds, kind_of};
 ghost use Rattle.final_reduce.specs.Planned.{returned_at, has_composite_keys};
 

@@ -4,7 +4,7 @@ ghost use Rattle.agg_evaluation.specs.Orders.{bucket_count};
 ghost use Rattle.agg_evaluation.specs.Trees.{have_children};
 ghost use Rattle.agg_model.specs.declared.aggregation.Agg.{out-Agg};
 ghost use Rattle.agg_spec.specs.Final.{finisher, no_metric as metric_of_nothing, terms_answer, buckets_answer, metric_answer, finish_bucket};
-ghost use Rattle.final_reduce.specs.Finishable.{is_finishable};
+ghost use Rattle.agg_evaluation.specs.Finishable.{is_finishable};
 ghost use Rattle.agg_evaluation.specs.Conditions.{has_intervals};
 ghost use Rattle.final_reduce.specs.Selection.{answer_of, chosen_bucket, chosen_pass, chosen_term};
 

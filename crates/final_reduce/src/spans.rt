@@ -7,7 +7,7 @@ ghost use Rattle.agg_evaluation.specs.Keys.{interval_start as start_of_interval}
 ghost use Rattle.agg_evaluation.specs.Orders.{bucket_key};
 ghost use Rattle.agg_spec.specs.Filling.{least_key as least_of_keys, greatest_key as greatest_of_keys, has_buckets as has_any_bucket, filled_keys};
 ghost use Rattle.agg_spec.specs.GapCount.{step_count as count_of_steps, key_from as first_key_from, filled_count};
-ghost use Rattle.final_reduce.specs.Finishable.{is_histogram_key};
+ghost use Rattle.agg_evaluation.specs.Finishable.{is_histogram_key};
 ghost use Rattle.final_reduce.specs.Steps.{IsSpan, key_numbers, first_within as first_within_bounds, last_within as last_within_bounds};
 
 use agg_model::{Bounds, Bucket, Key};

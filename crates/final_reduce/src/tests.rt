@@ -2,7 +2,7 @@ ghost use Rattle.std.specs.Prelude.{◌≡◌, ◌+◌, ◌∷◌, [], IfOk, IsT
 ghost use Rattle.agg_model.specs.declared.key.Key.TheVariants.{Word};
 ghost use Rattle.agg_model.specs.declared.aggregation.Agg.{out-Agg};
 ghost use Rattle.agg_model.specs.declared.partial.Node.TheVariants.{Keyed};
-ghost use Rattle.final_reduce.specs.Finishable.{can_finish, is_finishable};
+ghost use Rattle.agg_evaluation.specs.Finishable.{can_finish, is_finishable};
 ghost use Rattle.agg_evaluation.specs.Conditions.{has_interval, has_intervals};
 ghost use Rattle.final_reduce.specs.SampleTerms.{IsTermsAlone, returned_bucket};
 
@@ -39,6 +39,7 @@ pub(crate) fn of_one(alloc: Global, agg: Agg, node: Node) -> Result<Sample, Allo
             query: Query::All,
             aggs: one(alloc, agg)?,
             body_bytes: 0,
+            partial: false,
         },
         whole: Partial {
             hits: 9,

@@ -15,7 +15,7 @@ use Rattle.agg_evaluation.specs.Groups.{under}
 use Rattle.agg_evaluation.specs.Keys.{keys}
 use Rattle.agg_evaluation.specs.Matching.{matched_roots, matches}
 use Rattle.agg_evaluation.specs.Rows.{PlacedRow, roots}
-use Rattle.agg_evaluation.specs.Shard.{count_of_values, int_sum, integer_of, metric_of}
+use Rattle.agg_evaluation.specs.Shard.{int_sum, integer_of, metric_of}
 use Rattle.agg_evaluation.specs.Whole.{metric_sum}
 use Rattle.agg_evaluation.proofs.MetricLaws.{int_sum-append, join, max_assoc, min_assoc, reduce-append}
 use Rattle.list_laws.proofs.Lists.{filter_map-append, flat_map-append, map-append}
@@ -44,15 +44,6 @@ metrics-add xs ys =
       least = (ap (reduce int_min) numbers ∙ reduce-append int_min min_assoc m n ∙ join-two int_min min_assoc (reduce int_min m) (reduce int_min n)) i;
       greatest = (ap (reduce int_max) numbers ∙ reduce-append int_max max_assoc m n ∙ join-two int_max max_assoc (reduce int_max m) (reduce int_max n)) i;
     }
-
--- the count of two lists of values
-pub counts-add : (xs ys : List Scalar) → count_of_values (xs ++ ys) ≡ metric_sum (count_of_values xs ∷ count_of_values ys ∷ [])
-counts-add xs ys = λ i. record {
-  count = (length-append xs ys ∙ sym (two-counts (count_of_values xs) (count_of_values ys))) i;
-  sum = (let e : pos 0 ≡ pos 0 +ℤ (pos 0 +ℤ pos 0) = omega (arith, ints) in e) i;
-  least = None;
-  greatest = None;
-}
 
 module _ (kinds : List FieldKind) (all : List PlacedRow) (k : Kind) where
   -- rows that are handed on come list by list

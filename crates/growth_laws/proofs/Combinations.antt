@@ -25,7 +25,7 @@ use Rattle.agg_evaluation.proofs.KeyLists.{is_below, ascending-distinct_keys, as
 use Rattle.list_laws.proofs.Booleans.{and_left, and_right, both}
 use Rattle.list_laws.proofs.Orders.{less_is}
 use Rattle.list_laws.proofs.Lists.{map-append}
-use Rattle.bucket_order.specs.Composites.{has_parts, is_composite_of}
+use Rattle.agg_evaluation.specs.CompositeKeys.{has_parts, is_composite_of}
 use Rattle.evaluation_laws.proofs.KeyBounds.{Each, each-flat_map, each-map, each-all, each-then}
 
 -- a key that was made of its parts has these parts

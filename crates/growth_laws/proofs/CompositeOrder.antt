@@ -19,7 +19,8 @@ use Rattle.list_laws.specs.Sorting.{sorted}
 use Rattle.agg_evaluation.proofs.Computing.{computing}
 use Rattle.agg_evaluation.proofs.KeyCompare.{key_cmp_total}
 use Rattle.agg_evaluation.proofs.KeyExact.{exact_keys}
-use Rattle.bucket_order.specs.Composites.{any_parts_cmp, has_parts, is_composite_of, key_parts}
+use Rattle.bucket_order.specs.Composites.{any_parts_cmp, key_parts}
+use Rattle.agg_evaluation.specs.CompositeKeys.{has_parts, is_composite_of}
 use Rattle.bucket_order.proofs.CompositeLaws.{any_parts_total, same_composites}
 use Rattle.growth_laws.proofs.Pages.{Has}
 use Rattle.growth_laws.proofs.Ordered.{Distinct, front, sorted-agree, sorted-distinct}

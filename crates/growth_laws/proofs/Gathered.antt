@@ -20,7 +20,7 @@ use Rattle.agg_evaluation.specs.Keys.{keys, single_key, values_or}
 use Rattle.agg_evaluation.specs.Matching.{matches}
 use Rattle.agg_evaluation.specs.Placement.{is_placed, is_placed_at}
 use Rattle.agg_evaluation.specs.Rows.{PlacedRow, beneath}
-use Rattle.agg_evaluation.specs.Shard.{Collector, bucket_of, collected_node, collector_of, count_of_values, fixed_keys, metric_of, node_of, page}
+use Rattle.agg_evaluation.specs.Shard.{Collector, bucket_of, collected_node, collector_of, fixed_keys, metric_of, node_of, page}
 use Rattle.agg_evaluation.specs.Trace.{is_global}
 use Rattle.agg_evaluation.specs.Trees.{is_ascending}
 use Rattle.agg_evaluation.specs.Whole.{empty_by, empty_node, shape_of}
@@ -32,7 +32,7 @@ use Rattle.list_laws.proofs.Booleans.{and_left, and_right}
 use Rattle.list_laws.proofs.Lists.{append-nil, flat_map-append}
 use Rattle.growth_laws.specs.Documents.{IsCutAt, lie_before, lie_behind, lies_before, lies_behind}
 use Rattle.growth_laws.specs.Gathering.{Gatherer, counted, gathered, gathered_metric, gathered_node, gatherer_at, gatherer_of, kept_buckets}
-use Rattle.growth_laws.specs.Growth.{metric_with, with_count, with_values}
+use Rattle.growth_laws.specs.Growth.{metric_with, with_values}
 use Rattle.growth_laws.proofs.DocumentRows.{all-filter, beneath-before, beneath-behind, enclosing-apart, enclosing-before, enclosing-behind}
 use Rattle.agg_evaluation.proofs.Computing.{computing}
 use Rattle.growth_laws.proofs.Built.{collectors-same, node-same}
@@ -144,7 +144,7 @@ module _ (n : ℕ) (all : List PlacedRow) (cut : IsCutAt n all) where
     counted-more (kind.Max field missing) rows more f t = ap Number (number (kind.Max field missing) field missing metric_of with_values metric-append (λ row m. refl) rows more) ∙ ap (gathered_node all gs (kind.Max field missing) more) (sym (out-Number _))
     counted-more (kind.Avg field missing) rows more f t = ap Number (number (kind.Avg field missing) field missing metric_of with_values metric-append (λ row m. refl) rows more) ∙ ap (gathered_node all gs (kind.Avg field missing) more) (sym (out-Number _))
     counted-more (kind.ValueCount field missing) rows more f t =
-        ap Number (number (kind.ValueCount field missing) field missing count_of_values with_count count-append (λ row m. refl) rows more) ∙ ap (gathered_node all gs (kind.ValueCount field missing) more) (sym (out-Number _))
+        ap Number (number (kind.ValueCount field missing) field missing metric_of with_values metric-append (λ row m. refl) rows more) ∙ ap (gathered_node all gs (kind.ValueCount field missing) more) (sym (out-Number _))
     counted-more k rows more f t = keyed k (λ bs. refl) rows more f t
 
   -- what an aggregation counts of some rows and more, and in which documents that lies

@@ -16,7 +16,7 @@ use Rattle.agg_evaluation.proofs.KeyLists.{ascending-filter, has_key-insert_once
 use Rattle.list_laws.specs.Sorting.{insert_once}
 use Rattle.list_laws.proofs.Booleans.{and_left, and_right}
 use Rattle.list_laws.proofs.Lists.{filter-map}
-use Rattle.bucket_order.specs.Composites.{is_composite_of}
+use Rattle.agg_evaluation.specs.CompositeKeys.{is_composite_of}
 use Rattle.growth_laws.specs.Gathering.{Gatherer, kept_buckets, put_groups, put_rows}
 use Rattle.growth_laws.proofs.Gathering.{Gathers, bucket_at, later-first, later-none, one_by_one, put-rows, with_all, with_one}
 use Rattle.growth_laws.proofs.InsertedKeys.{insert_all}

@@ -22,7 +22,7 @@ use Rattle.agg_evaluation.proofs.KeyLists.{key_eq-exact, key_eq-self, below-abse
 use Rattle.list_laws.proofs.Booleans.{and_left, and_right, both, holds, true_is}
 use Rattle.list_laws.proofs.Lists.{flat_map-append}
 use Rattle.agg_evaluation.proofs.UnionLaws.{has_key-append}
-use Rattle.bucket_order.specs.Composites.{is_composite_of}
+use Rattle.agg_evaluation.specs.CompositeKeys.{is_composite_of}
 use Rattle.growth_laws.proofs.Combinations.{composite-parts}
 use Rattle.growth_laws.proofs.CompositeOrder.{beyond, exact_cmp, exact_cmp_exact, exact_cmp_total, page-front}
 use Rattle.growth_laws.proofs.Ordered.{Distinct, ascends-front, distinct-up, front, front-insert, front-more, has-front, has-insert, insert-has, sorted-distinct}

@@ -1,7 +1,8 @@
 //! What a field keeps of a value.
 
 ghost use Rattle.std.specs.Prelude.{◌≡◌};
-ghost use Rattle.agg_reading.specs.Scalars.{fits_kind, stored, is_longer};
+ghost use Rattle.agg_reading.specs.Scalars.{stored, is_longer};
+ghost use Rattle.agg_model.specs.FieldKinds.{fits_kind};
 
 use agg_model::{FieldKind, Probe, Scalar};
 

@@ -29,6 +29,7 @@ fn search(alloc: Global) -> Result<Search, AllocError> {
         query: Query::All,
         aggs,
         body_bytes: 95,
+        partial: false,
     })
 }
 

@@ -4,7 +4,7 @@ ghost use Rattle.std.specs.Prelude.{◌≡◌};
 ghost use Rattle.serde_json.specs.View.{members_view};
 ghost use Rattle.json_walk.specs.Places.{pointer};
 ghost use Rattle.agg_reading.specs.Reading.{Gives};
-ghost use Rattle.agg_reading.specs.Scalars.{is_whole_kind};
+ghost use Rattle.agg_model.specs.FieldKinds.{is_whole_kind};
 ghost use Rattle.agg_reading.specs.Histogram.{whole_field_in};
 ghost use Rattle.agg_reading.specs.Metrics.{enclosing_at};
 
@@ -47,7 +47,7 @@ pub fn whole_field_in<'m>(
 
 /// The context of a nested path that strictly encloses this context; any other path is refused with `NO_SUCH_PATH` at
 /// `at`.
-#[tactic(auto, unfolding(agg_reading::specs::Metrics::enclosing_at, agg_reading::specs::Query::nested_at, agg_reading::specs::Fields::is_in_context))]
+#[tactic(auto, unfolding(agg_reading::specs::Metrics::enclosing_at, agg_reading::specs::Query::nested_at, agg_model::specs::Contexts::is_in_context))]
 pub fn enclosing(
     alloc: Global,
     mapping: &OrderedMapping<'_>,

@@ -5,7 +5,8 @@ ghost use Rattle.serde_json.specs.View.{view, members_view};
 ghost use Rattle.json_walk.specs.Places.{pointer};
 ghost use Rattle.agg_reading.specs.Reading.{Gives};
 ghost use Rattle.agg_reading.specs.Json.{optional};
-ghost use Rattle.agg_reading.specs.Histogram.{is_at_most, ordered_bounds, bounds_at, unbounded, lies_within, histogram_ranges_in, histogram_counts_in, histogram_rules, histogram_in, histogram_at};
+ghost use Rattle.agg_reading.specs.Histogram.{ordered_bounds, bounds_at, unbounded, histogram_ranges_in, histogram_counts_in, histogram_rules, histogram_in, histogram_at};
+ghost use Rattle.agg_model.specs.BoundsOrder.{is_at_most, lies_within};
 
 use crate::fields::whole_field_in;
 use crate::orders::{orders_in, orders_or};

@@ -3,7 +3,8 @@
 ghost use Rattle.std.specs.Prelude.{◌≡◌, ◌≤◌, ◌++◌, [], codes, length};
 ghost use Rattle.std.specs.Str.{bytes_eq};
 ghost use Rattle.agg_reading.specs.Reading.{Gives};
-ghost use Rattle.agg_reading.specs.Orders.{is_sortable, child_from, child_named, compared_by, resolved, with_order};
+ghost use Rattle.agg_reading.specs.Orders.{child_from, child_named, compared_by, resolved, with_order};
+ghost use Rattle.agg_model.specs.Options.{is_sortable};
 
 use agg_model::body_refusal::NO_SUCH_CHILD;
 use agg_model::limits::MAX_AGGREGATIONS;

@@ -10,11 +10,12 @@ use Rattle.agg_model.specs.declared.row.Row.{Row, Row', Row_of-Children, end_of-
 use Rattle.agg_model.specs.declared.row.Children.{Children, Children', Row_of-Row, end_of-Row, more_of-Row}
 use Rattle.agg_model.specs.declared.row.Document.{Document}
 use Rattle.agg_evaluation.specs.Folds.{fold_rows, fold_all_children}
-use Rattle.agg_evaluation.specs.Rows.{PlacedRow, rows_of, walk_row, walk_children, is_within, no_row, row_of}
+use Rattle.agg_evaluation.specs.Rows.{PlacedRow, rows_of, walk_row, walk_children, is_within, no_row, row_of, rows_of_documents}
 use Rattle.list_laws.proofs.Booleans.{and_left, and_right}
 use Rattle.shard_columns.specs.Ends.{each, row_ends, children_ends, ends_row, ends_children, root_ends}
-use Rattle.shard_columns.specs.Layout.{children_of, rows_of_documents}
-use Rattle.shard_columns.specs.Rising.{path_of, paths_rise, rise_from, children_rise, all_rise, documents_rise}
+use Rattle.shard_columns.specs.Layout.{children_of}
+use Rattle.shard_columns.specs.Rising.{paths_rise, rise_from, children_rise, all_rise, documents_rise}
+use Rattle.agg_evaluation.specs.DocumentFits.{path_of}
 
 same-yes : (a : ℕ) → nat_eq a a ≡ true
 same-yes a = grind (arith, nat_tests)

@@ -10,11 +10,11 @@ use Rattle.agg_model.specs.declared.row.FieldValues.{FieldValues}
 use Rattle.agg_model.specs.declared.row.Row.{Row, out-Row}
 use Rattle.agg_model.specs.declared.row.Children.{Children, out-Children}
 use Rattle.agg_model.specs.declared.row.Document.{Document}
-use Rattle.agg_evaluation.specs.Rows.{PlacedRow, Walk, rows_of, walk_children, walk_row, shard_rows, no_row}
+use Rattle.agg_evaluation.specs.Rows.{PlacedRow, Walk, rows_of, walk_children, walk_row, shard_rows, no_row, rows_of_documents}
 use Rattle.shard_columns.specs.declared.layout.Entry.{Entry}
 use Rattle.shard_columns.specs.declared.layout.Origin.TheVariants.{Root, Nested}
 use Rattle.shard_columns.specs.declared.layout.Laid.{Laid}
-use Rattle.shard_columns.specs.Layout.{placed, row_at, flat_rows, children_of, place_at, context_of, AddsRow, AddsChildren, ids_of, rows_of_documents}
+use Rattle.shard_columns.specs.Layout.{placed, row_at, flat_rows, children_of, place_at, context_of, AddsRow, AddsChildren, ids_of}
 use Rattle.shard_columns.specs.Ends.{Ends, each, row_ends, children_ends, ends_row, ends_children, root_ends}
 use Rattle.shard_columns.proofs.Levels.{fold_row-out, fold_children-out}
 use Rattle.shard_columns.proofs.Placing.{flat_rows-push, length-flat_rows}

@@ -25,7 +25,7 @@ use Rattle.agg_model.specs.declared.row.FieldValues.{FieldValues}
 use Rattle.shard_columns.specs.Columns.{Columns}
 use Rattle.shard_columns.specs.Layout.{context_of, numbers_at}
 use Rattle.shard_columns.specs.Values.{Words, row_values, fields_of, field_at, cut, shown, held_in, no_span, IsPart, FieldsAscend}
-use Rattle.shard_columns.specs.Weight.{rows_weight}
+use Rattle.agg_evaluation.specs.RowsWeight.{rows_weight}
 use Rattle.shard_columns.specs.Shard.{columns_of, placed_rows, IsSound}
 use Rattle.shard_columns.proofs.Storing.{held_values, find-field, cut-map, length-cut, get_or-cut}
 use Rattle.shard_columns.proofs.Building.{values-are, size-is, contexts-are, context-at, id-at}

@@ -20,7 +20,7 @@ use Rattle.list_laws.specs.Sorting.{ascending, insert_once}
 use Rattle.shard_columns.specs.Dictionary.{all_words, words_of, longest_word}
 use Rattle.agg_evaluation.specs.ColumnBytes.{value_count, dictionary_bytes}
 use Rattle.shard_columns.specs.Values.{Words, word_in, words_in}
-use Rattle.shard_columns.specs.Weight.{row_weight, rows_weight}
+use Rattle.agg_evaluation.specs.RowsWeight.{row_weight, rows_weight}
 use Rattle.agg_model.specs.Weight.{scalar_weight, field_weight}
 use Rattle.shard_columns.proofs.Dictionaries.{found_values, sum-cons, dictionary_bytes-words}
 use Rattle.shard_columns.proofs.Laying.{take-next}

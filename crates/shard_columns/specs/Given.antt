@@ -5,13 +5,12 @@ use Rattle.agg_model.specs.declared.limits.TheConstants.{MAX_PATHS, WEIGHT_LIMIT
 use Rattle.agg_model.specs.declared.mapping.FieldKind.{FieldKind}
 use Rattle.agg_model.specs.declared.mapping.Mapping.{Mapping}
 use Rattle.agg_model.specs.declared.row.Document.{Document}
-use Rattle.agg_evaluation.specs.Rows.{PlacedRow, row_of}
+use Rattle.agg_evaluation.specs.Rows.{PlacedRow, row_of, rows_of_documents}
 use Rattle.shard_columns.specs.Columns.{Columns}
-use Rattle.shard_columns.specs.Layout.{rows_of_documents}
 use Rattle.shard_columns.specs.Values.{FieldsBelow}
 use Rattle.shard_columns.specs.Kinds.{AreOfKind}
 use Rattle.shard_columns.specs.Rising.{documents_rise}
-use Rattle.shard_columns.specs.Weight.{rows_weight}
+use Rattle.agg_evaluation.specs.RowsWeight.{rows_weight}
 
 -- the fields of each row are fields of the mapping, of which there are n
 unfoldable pub RowsBelow : ℕ → List PlacedRow → Type 0

@@ -5,7 +5,7 @@ use Rattle.agg_model.specs.declared.row.Row.{Row}
 use Rattle.agg_model.specs.declared.row.Children.{Children}
 use Rattle.agg_model.specs.declared.row.Document.{Document}
 use Rattle.agg_evaluation.specs.Folds.{fold_children}
-use Rattle.agg_evaluation.specs.Rows.{PlacedRow, Walk, walk_children, walk_row, rows_of, shard_rows, no_row}
+use Rattle.agg_evaluation.specs.Rows.{PlacedRow, Walk, walk_children, walk_row, rows_of, no_row}
 use Rattle.shard_columns.specs.declared.layout.Origin.{Origin}
 use Rattle.shard_columns.specs.declared.layout.Origin.TheVariants.{Root, Nested}
 use Rattle.shard_columns.specs.declared.layout.Entry.{Entry}
@@ -45,10 +45,6 @@ pub record AddsChildren (old new : List Laid) (children : Children) (document pa
 
 abbrev pub ids_of : List Document → List (List ℕ)
 ids_of documents = map (λ d. d.id) documents
-
--- the rows of these documents
-abbrev pub rows_of_documents : List Document → List PlacedRow
-rows_of_documents documents = shard_rows (map (λ d. (d.id, d.root)) documents)
 
 abbrev pub values_of_laid : List Laid → List (List FieldValues)
 values_of_laid rows = map (λ l. l.values.now) rows

@@ -11,6 +11,5 @@ pub mod Dictionary
 pub mod Kinds
 pub mod Beneath
 pub mod Rising
-pub mod Weight
 pub mod Example
 pub mod Contexts

@@ -4,9 +4,7 @@ use Rattle.std.specs.List.{list_all}
 use Rattle.agg_model.specs.declared.row.Row.{Row, Row', Row_of-Children, end_of-Children, more_of-Children}
 use Rattle.agg_model.specs.declared.row.Children.{Children, Children', Row_of-Row, end_of-Row, more_of-Row}
 use Rattle.agg_model.specs.declared.row.Document.{Document}
-
-abbrev pub path_of : Children → ℕ
-path_of (Children' path n rows) = path
+use Rattle.agg_evaluation.specs.DocumentFits.{path_of}
 
 abbrev mutual
   pub paths_rise : Row → Bool

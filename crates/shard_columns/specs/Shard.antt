@@ -11,7 +11,7 @@ use Rattle.agg_evaluation.specs.ColumnBytes.{value_count}
 use Rattle.shard_columns.specs.Given.{FieldsRise, KindsHold}
 use Rattle.shard_columns.specs.Layout.{placed}
 use Rattle.shard_columns.specs.Values.{row_values, IsWithin}
-use Rattle.shard_columns.specs.Weight.{rows_weight}
+use Rattle.agg_evaluation.specs.RowsWeight.{rows_weight}
 
 abbrev pub placed_rows : Inside → List PlacedRow
 placed_rows s = placed s.ids.items [] (zip s.rows.items (row_values s.words.items s.values))

@@ -1,7 +1,7 @@
 // The rows of documents in order, each before those that it encloses.
 ghost use Rattle.std.specs.Prelude.{◌≡◌, ◌+◌, ◌++◌, ◌<◌, ℕ, List, [], OnOk, map, length, slice_index_or, IfOk, vec_len};
-ghost use Rattle.agg_evaluation.specs.Rows.{rows_of};
-ghost use Rattle.shard_columns.specs.Layout.{flat_rows, place_at, context_of, children_of, AddsRow, AddsChildren, ids_of, rows_of_documents};
+ghost use Rattle.agg_evaluation.specs.Rows.{rows_of, rows_of_documents};
+ghost use Rattle.shard_columns.specs.Layout.{flat_rows, place_at, context_of, children_of, AddsRow, AddsChildren, ids_of};
 ghost use Rattle.shard_columns.specs.Ends.{row_ends, children_ends, root_ends, each};
 
 use agg_model::{Children, Document, FieldValues, List, Row};

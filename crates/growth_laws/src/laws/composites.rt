@@ -13,7 +13,7 @@ ghost use Rattle.agg_evaluation.specs.Rows.{PlacedRow};
 ghost use Rattle.agg_evaluation.specs.Shard.{page};
 ghost use Rattle.list_laws.specs.Sorting.{insert_once};
 ghost use Rattle.agg_evaluation.specs.Trees.{is_ascending};
-ghost use Rattle.bucket_order.specs.Composites.{is_composite_of};
+ghost use Rattle.agg_evaluation.specs.CompositeKeys.{is_composite_of};
 
 /// A row has a key for each combination of its values, in their order, and each has a part for each
 /// source.

@@ -10,16 +10,14 @@ ghost use Rattle.agg_model.specs.declared.row.Scalar.TheVariants as scalar;
 ghost use Rattle.agg_evaluation.specs.Ceiling.{Reached, field_bytes, greatest_of, handed_on, least_bytes, path_count};
 ghost use Rattle.agg_evaluation.specs.Matching.{matched_roots, matches};
 ghost use Rattle.agg_evaluation.specs.Rows.{PlacedRow, roots, values_of};
-ghost use Rattle.agg_evaluation.specs.Shard.{count_of_values, metric_of};
+ghost use Rattle.agg_evaluation.specs.Shard.{metric_of};
 ghost use Rattle.agg_evaluation.specs.Whole.{metric_sum};
 ghost use Rattle.growth_laws.specs.FieldBytes.{is_number_or_flag};
 
-/// The metric of two lists of values is the sum of their metrics, and so is the count.
+/// The metric of two lists of values is the sum of their metrics.
 pub fn metrics_add_up()
-    ensures metric { (xs ys : List Scalar) → metric_of (xs ++ ys)
+    ensures { (xs ys : List Scalar) → metric_of (xs ++ ys)
         ≡ metric_sum (metric_of xs ∷ metric_of ys ∷ []) }
-    ensures count { (xs ys : List Scalar) →
-        count_of_values (xs ++ ys) ≡ metric_sum (count_of_values xs ∷ count_of_values ys ∷ []) }
 {}
 
 /// The bytes of a field's keys are those of the longest of its words and the missing one, and 8

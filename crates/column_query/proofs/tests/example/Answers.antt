@@ -9,14 +9,13 @@ use Rattle.agg_model.specs.declared.mapping.FieldKind.TheVariants.{Boolean, Keyw
 use Rattle.agg_model.specs.declared.mapping.Field.{Field}
 use Rattle.agg_model.specs.declared.mapping.Mapping.{Mapping}
 use Rattle.agg_model.specs.declared.row.Scalar.TheVariants.{Word}
-use Rattle.agg_evaluation.specs.Rows.{PlacedRow, row_of}
+use Rattle.agg_evaluation.specs.Rows.{PlacedRow, row_of, rows_of_documents}
 use Rattle.agg_evaluation.proofs.Computing.{computing}
 use Rattle.shard_columns.specs.Given.{IsGiven, RowsBelow, FieldsRise, KindsHold}
 use Rattle.shard_columns.specs.Kinds.{AreOfKind}
-use Rattle.shard_columns.specs.Layout.{rows_of_documents}
 use Rattle.shard_columns.specs.Rising.{documents_rise}
 use Rattle.shard_columns.specs.Values.{FieldsBelow}
-use Rattle.shard_columns.specs.Weight.{rows_weight}
+use Rattle.agg_evaluation.specs.RowsWeight.{rows_weight}
 use Rattle.column_query.specs.Example.{values_for, flags, numbers, words, example_documents, example_kinds}
 use Rattle.column_query.proofs.tests.example.Goals as goal
 use Rattle.agg_model.specs.declared.row.Scalar.TheVariants.{Whole}

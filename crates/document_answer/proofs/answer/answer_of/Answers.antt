@@ -6,7 +6,7 @@ use Rattle.agg_spec.specs.Final.{final}
 use Rattle.agg_spec.specs.BucketCount.{total_buckets}
 use Rattle.agg_spec.specs.RangeCheck.{out_of_range}
 use Rattle.final_reduce.specs.Causes.{IsCause}
-use Rattle.final_reduce.specs.Finishable.{can_finish}
+use Rattle.agg_evaluation.specs.Finishable.{can_finish}
 use Rattle.document_answer.proofs.LimitLaws.{can-finish, none-out-of-range, at-most-ten, whole-is}
 use Rattle.document_answer.proofs.answer.answer_of.Goals as goal
 

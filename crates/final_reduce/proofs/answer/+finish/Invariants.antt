@@ -2,7 +2,7 @@ use Rattle.std.proofs.Common.{◌≡◌, ◌++◌, map, drop, true}
 use Rattle.std.specs.Vec.Iter.{into_iter_items}
 use Rattle.agg_evaluation.specs.Trees.{pass_each}
 use Rattle.agg_spec.specs.Final.{finisher, finish_each}
-use Rattle.final_reduce.specs.Finishable.{is_finishable}
+use Rattle.agg_evaluation.specs.Finishable.{is_finishable}
 use Rattle.final_reduce.specs.Selection.{chosen_pass, finish_chosen}
 use Rattle.final_reduce.proofs.answer.+finish.Given as goal
 

@@ -9,7 +9,7 @@ use Rattle.agg_spec.specs.BucketCount.{greatest_count}
 use Rattle.agg_spec.specs.GapCount.{below_empty, plan}
 use Rattle.bucket_order.specs.Kinds.{child_kinds}
 use Rattle.final_reduce.specs.Counts.{planned_from, below_from}
-use Rattle.final_reduce.specs.Finishable.{has_histogram_keys, is_finishable}
+use Rattle.agg_evaluation.specs.Finishable.{has_histogram_keys, is_finishable}
 use Rattle.final_reduce.specs.Planned.{gap_count, has_composite_keys, member_number, planned_below, returned_at}
 use Rattle.final_reduce.proofs.AggSizes.{children_less}
 use Rattle.final_reduce.proofs.CountLaws.{planned_from-min, below_from-min}

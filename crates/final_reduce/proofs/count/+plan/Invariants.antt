@@ -4,7 +4,7 @@ use Rattle.std.specs.Slice.Iter.{iter_rest}
 use Rattle.agg_evaluation.specs.Trees.{have_children, pass_each}
 use Rattle.agg_spec.specs.GapCount.{plan}
 use Rattle.final_reduce.specs.Counts.{planned_from, below_from}
-use Rattle.final_reduce.specs.Finishable.{is_finishable}
+use Rattle.agg_evaluation.specs.Finishable.{is_finishable}
 use Rattle.agg_evaluation.specs.Conditions.{has_intervals}
 use Rattle.final_reduce.proofs.count.+plan.Given as goal
 

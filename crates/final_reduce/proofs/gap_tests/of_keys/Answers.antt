@@ -1,6 +1,6 @@
 use Rattle.std.proofs.Common.{◌∙◌, ap, refl, []}
 use Rattle.agg_model.specs.declared.aggregation.Agg.{out-Agg}
-use Rattle.final_reduce.specs.Finishable.{is_finishable}
+use Rattle.agg_evaluation.specs.Finishable.{is_finishable}
 use Rattle.final_reduce.specs.SampleGaps.{IsHistogram, no_bounds}
 use Rattle.final_reduce.proofs.GapSamples.{has-interval, keys-finishable}
 use Rattle.agg_model.specs.declared.partial.Node.TheVariants.{Keyed}

@@ -2,7 +2,7 @@ use Rattle.std.proofs.Common.{◌∙◌, ap, refl, arith}
 use Rattle.std.proofs.lemmas.Bool.{and_from}
 use Rattle.std.specs.List.{list_all}
 use Rattle.agg_model.specs.declared.partial.Node.TheVariants.{Keyed}
-use Rattle.final_reduce.specs.Finishable.{is_finishable}
+use Rattle.agg_evaluation.specs.Finishable.{is_finishable}
 use Rattle.agg_evaluation.specs.Conditions.{has_intervals}
 use Rattle.final_reduce.proofs.GapSamples.{has-interval, nothing-finishable}
 use Rattle.final_reduce.proofs.SampleLaws.{alone_has_intervals}

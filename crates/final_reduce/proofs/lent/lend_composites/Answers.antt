@@ -4,7 +4,7 @@ use Rattle.std.specs.List.{list_all}
 use Rattle.agg_model.specs.declared.partial.Bucket.{Bucket}
 use Rattle.list_laws.specs.Sorting.{sorted}
 use Rattle.agg_evaluation.specs.Orders.{bucket_key, composite_cmp}
-use Rattle.bucket_order.specs.Composites.{is_composite_of}
+use Rattle.agg_evaluation.specs.CompositeKeys.{is_composite_of}
 use Rattle.final_reduce.proofs.PlannedLaws.{all_frequent}
 use Rattle.final_reduce.proofs.SelectLaws.{map-take}
 use Rattle.final_reduce.proofs.lent.lend_composites.Goals as goal

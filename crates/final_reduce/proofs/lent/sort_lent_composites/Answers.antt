@@ -4,7 +4,8 @@ use Rattle.std.proofs.lemmas.Result.{on_ok_weaker}
 use Rattle.std.proofs.lemmas.Cmp.{on_total}
 use Rattle.agg_model.specs.declared.partial.Bucket.{Bucket}
 use Rattle.agg_evaluation.specs.Orders.{bucket_key, composite_cmp}
-use Rattle.bucket_order.specs.Composites.{is_composite_of, key_parts, any_parts_cmp}
+use Rattle.bucket_order.specs.Composites.{key_parts, any_parts_cmp}
+use Rattle.agg_evaluation.specs.CompositeKeys.{is_composite_of}
 use Rattle.list_laws.proofs.StableSort.{sorted_from_sort_by}
 use Rattle.bucket_order.proofs.SameOrder.{sorted_same}
 use Rattle.bucket_order.proofs.CompositeLaws.{any_parts_total, same_composites}

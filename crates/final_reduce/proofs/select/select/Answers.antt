@@ -11,9 +11,9 @@ use Rattle.agg_evaluation.specs.Trees.{have_children, is_ascending, pass_each}
 use Rattle.agg_evaluation.specs.Whole.{Parts, parts, shape_of}
 use Rattle.agg_spec.specs.Final.{finisher, finish_at, finish_bucket, buckets_answer, metric_answer, terms_answer, empty_bucket}
 use Rattle.list_laws.specs.Sorting.{sorted}
-use Rattle.bucket_order.specs.Composites.{is_composite_of}
+use Rattle.agg_evaluation.specs.CompositeKeys.{is_composite_of}
 use Rattle.bucket_order.proofs.SameOrder.{list_all-sorted}
-use Rattle.final_reduce.specs.Finishable.{is_finishable, is_histogram_key, fits_at}
+use Rattle.agg_evaluation.specs.Finishable.{is_finishable, is_histogram_key, fits_at}
 use Rattle.agg_evaluation.specs.Conditions.{has_interval}
 use Rattle.std.proofs.lemmas.Bool.{ltb-true}
 use Rattle.agg_spec.specs.Filling.{filled}

@@ -2,7 +2,7 @@ use Rattle.std.proofs.Common.{◌∙◌, ap, map, pos}
 use Rattle.agg_model.specs.declared.answer.NodeAnswer.{roll-NodeAnswer}
 use Rattle.agg_evaluation.specs.Trees.{pass_each}
 use Rattle.agg_spec.specs.Final.{finisher}
-use Rattle.final_reduce.specs.Finishable.{is_finishable}
+use Rattle.agg_evaluation.specs.Finishable.{is_finishable}
 use Rattle.final_reduce.specs.Selection.{chosen_bucket, chosen_pass, finish_chosen}
 use Rattle.final_reduce.specs.declared.select.Chosen.{Chosen}
 use Rattle.final_reduce.proofs.SelectLaws.{map-map, list_all-map}

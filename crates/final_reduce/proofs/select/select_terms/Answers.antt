@@ -10,7 +10,7 @@ use Rattle.agg_evaluation.specs.Trees.{pass_each}
 use Rattle.agg_spec.specs.Final.{finisher}
 use Rattle.bucket_order.specs.Kinds.{child_kinds}
 use Rattle.bucket_order.proofs.SameOrder.{list_all-sorted}
-use Rattle.final_reduce.specs.Finishable.{is_finishable}
+use Rattle.agg_evaluation.specs.Finishable.{is_finishable}
 use Rattle.final_reduce.specs.Terms.{ordered_terms}
 use Rattle.final_reduce.specs.Selection.{chosen_term, chosen_pass, finish_chosen}
 use Rattle.final_reduce.specs.declared.select.Chosen.{Chosen}

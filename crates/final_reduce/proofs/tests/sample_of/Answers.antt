@@ -1,5 +1,5 @@
 use Rattle.std.proofs.Common.{◌∙◌, ap, arith}
-use Rattle.final_reduce.specs.Finishable.{is_finishable}
+use Rattle.agg_evaluation.specs.Finishable.{is_finishable}
 use Rattle.final_reduce.proofs.SampleLaws.{alone_has_intervals, sample_can_finish}
 use Rattle.final_reduce.proofs.tests.sample_of.Goals as goal
 

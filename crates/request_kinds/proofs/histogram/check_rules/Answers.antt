@@ -1,6 +1,7 @@
 use Rattle.std.proofs.Common.{◌≡◌, true, false, sym, ◌∙◌, rules, tests}
 use Rattle.std.specs.Prelude.{nat_lt}
-use Rattle.agg_reading.specs.Histogram.{histogram_rules, lies_within}
+use Rattle.agg_reading.specs.Histogram.{histogram_rules}
+use Rattle.agg_model.specs.BoundsOrder.{lies_within}
 use Rattle.request_kinds.proofs.histogram.check_rules.Goals as goal
 
 pub returns-then-offset-interval : goal.returns-then-offset-interval

@@ -5,11 +5,11 @@ use Rattle.std.proofs.lemmas.List.{length-map}
 use Rattle.agg_model.specs.declared.mapping.FieldKind.{FieldKind}
 use Rattle.agg_model.specs.declared.mapping.Field.{Field}
 use Rattle.agg_model.specs.declared.mapping.NestedPath.{NestedPath}
-use Rattle.agg_evaluation.specs.Rows.{PlacedRow, row_of}
+use Rattle.agg_evaluation.specs.Rows.{PlacedRow, row_of, rows_of_documents}
 use Rattle.shard_columns.specs.declared.layout.Entry.{Entry}
 use Rattle.shard_columns.specs.declared.layout.Laid.{Laid}
 use Rattle.shard_columns.specs.Columns.{Columns}
-use Rattle.shard_columns.specs.Layout.{ids_of, rows_of_documents, placed, entries_of_laid, values_of_laid}
+use Rattle.shard_columns.specs.Layout.{ids_of, placed, entries_of_laid, values_of_laid}
 use Rattle.shard_columns.specs.Words.{AllFieldsBelow, AreDictionaries}
 use Rattle.shard_columns.specs.Values.{Words, row_values, total_count}
 use Rattle.shard_columns.specs.Given.{RowsBelow, FieldsRise, KindsHold}
@@ -17,7 +17,7 @@ use Rattle.shard_columns.specs.Contexts.{ContextsBelow, AreNumbered, AreEnclosed
 use Rattle.shard_columns.specs.Dictionary.{words_of}
 use Rattle.agg_evaluation.specs.ColumnBytes.{value_count}
 use Rattle.shard_columns.specs.Ends.{each, root_ends}
-use Rattle.shard_columns.specs.Weight.{rows_weight}
+use Rattle.agg_evaluation.specs.RowsWeight.{rows_weight}
 use Rattle.shard_columns.proofs.Building.{AllFieldsBelow-given, rows-stored, total-values}
 use Rattle.shard_columns.proofs.Enclosing.{all-rows-laid}
 use Rattle.shard_columns.proofs.Making.{values-laid, contexts-below, AreEnclosed-laid, dictionaries-are}

@@ -1,0 +1,62 @@
+-- Which wholes can be finished: those of shard answers to the search, in whose terms no number leaves its type ('Terms
+-- aggregation', sum of other document counts and errors of counts; 'Histogram' and 'Composite aggregation', keys).
+use Rattle.std.specs.Prelude.{ℕ, ℤ, pos, ◌+◌, ◌^◌, ◌-ℤ◌, Bool, true, false, ◌&&◌, nat_lt, nat_le, int_le, int_lt, List, map, length, sum_by}
+use Rattle.std.specs.List.{list_all}
+use Rattle.std.specs.Ordering.{int_eq}
+use Rattle.agg_model.specs.declared.key.Key.{Key}
+use Rattle.agg_model.specs.declared.key.Key.TheVariants.{Whole}
+use Rattle.agg_model.specs.declared.partial.Bucket.{Bucket}
+use Rattle.agg_model.specs.declared.partial.Node.{Node, out-Node}
+use Rattle.agg_model.specs.declared.partial.Partial.{Partial}
+use Rattle.agg_model.specs.declared.aggregation.Bounds.{Bounds}
+use Rattle.agg_model.specs.declared.aggregation.Kind.{Kind}
+use Rattle.agg_model.specs.Options.{Options, options_of}
+use Rattle.agg_model.specs.declared.aggregation.Agg.{Agg}
+use Rattle.agg_model.specs.declared.aggregation.Search.{Search}
+use Rattle.agg_evaluation.specs.Folds.{fold_agg}
+use Rattle.agg_evaluation.specs.Keys.{interval_start, is_between}
+use Rattle.agg_evaluation.specs.Orders.{bucket_key, bucket_count}
+use Rattle.agg_evaluation.specs.Shard.{fixed_keys}
+use Rattle.agg_evaluation.specs.Trees.{is_tree_at, pass_each}
+use Rattle.agg_evaluation.specs.CompositeKeys.{is_composite_of}
+use Rattle.agg_evaluation.specs.Whole.{Parts, parts, shape_of}
+use Rattle.agg_evaluation.specs.Conditions.{has_intervals}
+
+-- all counts together are one, an error is a signed number, and no term was covered by more than all the shards' errors
+abbrev pub terms_fit : Parts → Bool
+terms_fit p = nat_lt (p.cut + sum_by bucket_count p.buckets) (2 ^ 64) && (nat_lt p.error (2 ^ 63) && list_all (λ b. nat_le b.covered p.error) p.buckets)
+
+-- whether the key can be that of a number of 64 bits, where the interval has 64 bits too
+abbrev pub is_near : ℤ → Bool
+is_near key = int_le (pos 0 -ℤ pos (2 ^ 65)) key && int_lt key (pos (2 ^ 63))
+
+-- a key as a histogram has it: the start of an interval, within `hard_bounds`
+abbrev pub is_histogram_key : ℕ → ℕ → Bounds → Key → Bool
+is_histogram_key interval offset hard (Whole key) = int_eq (interval_start interval offset key) key && (is_near key && is_between hard (Whole key))
+is_histogram_key interval offset hard _ = false
+
+abbrev pub has_histogram_keys : Kind → List Bucket → Bool
+has_histogram_keys k bs = elim (options_of k) [
+  | Options.Histogram h ↦ list_all (λ b. is_histogram_key h.interval h.offset h.hard (bucket_key b)) bs
+  | _ ↦ true
+]
+
+abbrev pub fits_at : Kind → Parts → Bool
+fits_at k p = elim (options_of k) [
+  | Options.Terms t ↦ terms_fit p
+  | Options.Histogram h ↦ has_histogram_keys k p.buckets
+  | Options.Composite sources size after ↦ list_all (λ b. is_composite_of (length sources) (bucket_key b)) p.buckets
+  | _ ↦ true
+]
+
+-- the tests are those of the children
+abbrev pub is_finishable_at : List (Node → Bool) → Kind → Node → Bool
+is_finishable_at tests k n = is_tree_at tests (fixed_keys k) (shape_of k) (out-Node n) && fits_at k (parts n)
+
+-- whether a node is a tree of the aggregation, and its numbers and keys are as those of shard answers
+abbrev pub is_finishable : Agg → Node → Bool
+is_finishable = fold_agg (λ a n. is_finishable_at a.children a.kind n)
+
+-- whether the search has intervals, and all nodes of a partial result can be finished
+abbrev pub can_finish : Search → Partial → Bool
+can_finish search p = list_all has_intervals search.aggs && pass_each (map is_finishable search.aggs) p.nodes

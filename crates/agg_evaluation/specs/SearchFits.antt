@@ -1,0 +1,145 @@
+-- Searches that are made for a mapping (Elasticsearch Reference 8, 'Aggregations').
+use Rattle.std.specs.Prelude.{ℕ, ◌^◌, ◌==◌, List, [], ◌∷◌, length, map, slice_get, Option, Some, None, Bool, true, false, not, ◌&&◌, ◌||◌, nat_le, nat_lt, zero, suc}
+use Rattle.std.specs.List.{list_all}
+use Rattle.std.specs.Option.{option_map_or}
+use Rattle.agg_model.specs.declared.limits.TheConstants.{MAX_FILTERS, MAX_ORDERS, MAX_PAGE, MAX_SOURCES}
+use Rattle.agg_model.specs.declared.mapping.FieldKind.{FieldKind}
+use Rattle.agg_model.specs.declared.mapping.FieldKind.TheVariants.{Keyword, Boolean}
+use Rattle.agg_model.specs.declared.mapping.Mapping.{Mapping}
+use Rattle.agg_model.specs.declared.row.Scalar.{Scalar}
+use Rattle.agg_model.specs.declared.row.Scalar.TheVariants as scalar
+use Rattle.agg_model.specs.declared.key.Key.{Key}
+use Rattle.agg_model.specs.declared.key.Key.TheOpen.{Key-F}
+use Rattle.agg_model.specs.declared.aggregation.Agg.{Agg}
+use Rattle.agg_model.specs.declared.aggregation.Agg.TheOpen.{Agg-F}
+use Rattle.agg_model.specs.declared.aggregation.CompositeSource.{CompositeSource}
+use Rattle.agg_model.specs.declared.aggregation.Kind.{Kind}
+use Rattle.agg_model.specs.declared.aggregation.Kind.TheVariants as kind
+use Rattle.agg_model.specs.Options.{Options, MetricOptions, options_of, is_sortable}
+use Rattle.agg_model.specs.declared.aggregation.Order.{Order}
+use Rattle.agg_model.specs.declared.aggregation.OrderBy.{OrderBy}
+use Rattle.agg_model.specs.declared.aggregation.OrderBy.TheVariants as by
+use Rattle.agg_model.specs.declared.aggregation.Search.{Search}
+use Rattle.agg_evaluation.specs.Folds.{fold_agg, fold_key}
+use Rattle.agg_model.specs.Contexts.{encloses}
+use Rattle.agg_model.specs.BoundsOrder.{is_at_most, lies_within}
+use Rattle.agg_model.specs.FieldKinds.{is_whole_kind, fits_below}
+use Rattle.agg_evaluation.specs.QueryFits.{field_is, are_probes, is_path_beneath, query_fits}
+
+-- the value of rows without one: of the field's kind, a whole number in 64 bits
+abbrev pub is_stored : FieldKind → Scalar → Bool
+is_stored Keyword (scalar.Word w) = true
+is_stored Keyword _ = false
+is_stored Boolean (scalar.Flag b) = true
+is_stored Boolean _ = false
+is_stored _ (scalar.Whole z) = fits_below (2 ^ 63) z
+is_stored _ _ = false
+
+abbrev pub is_missing : FieldKind → Option Scalar → Bool
+is_missing k missing = option_map_or (is_stored k) missing true
+
+-- an order by a child needs one there whose value can be compared
+abbrev pub by_fits : List Kind → OrderBy → Bool
+by_fits children by.Count = true
+by_fits children by.Key = true
+by_fits children (by.Child n) = option_map_or is_sortable (slice_get children n) false
+
+abbrev pub order_fits : List Kind → Order → Bool
+order_fits children o = by_fits children o.by
+
+abbrev pub orders_fit : List Kind → List Order → Bool
+orders_fit children orders = nat_le 1 (length orders) && (nat_le (length orders) MAX_ORDERS && list_all (order_fits children) orders)
+
+abbrev pub is_whole_field : Mapping → ℕ → Option Scalar → Bool
+is_whole_field m field missing = field_is m (λ k. is_whole_kind k && is_missing k missing) field
+
+-- one source of a composite: an interval only over whole numbers
+abbrev pub interval_fits : Mapping → ℕ → Option ℕ → Bool
+interval_fits m field None = field_is m (λ k. true) field
+interval_fits m field (Some interval) = nat_le 1 interval && field_is m is_whole_kind field
+
+abbrev pub source_fits : Mapping → CompositeSource → Bool
+source_fits m s = interval_fits m s.field s.interval
+
+-- a key with as many parts as there are sources
+abbrev pub parts_of : Key-F (Option ℕ) → Option ℕ
+parts_of (Key-F.Many parts) = Some (length parts)
+parts_of _ = None
+
+abbrev pub has_parts : ℕ → Key → Bool
+has_parts n k = option_map_or (λ parts. parts == n) (fold_key parts_of k) false
+
+-- a context that encloses another strictly; the root encloses all others
+abbrev pub is_around : Mapping → ℕ → ℕ → Bool
+is_around m context zero = not (context == 0)
+is_around m context (suc path) = option_map_or (λ p. encloses m.nested p.path context) (slice_get m.nested path) false
+
+-- the context of one nested path beneath another
+abbrev pub is_within : Mapping → ℕ → ℕ → Bool
+is_within m context zero = false
+is_within m context (suc path) = is_path_beneath m context path
+
+-- a value count takes any field, and each other metric a field of whole numbers
+abbrev pub metric_fits : Mapping → Kind → MetricOptions → Bool
+metric_fits m (kind.ValueCount field missing) o = field_is m (λ k. is_missing k missing) field
+metric_fits m _ o = is_whole_field m o.field o.missing
+
+-- a kind of aggregation over rows of a context, at the top or below, with children of these kinds
+abbrev pub kind_fits : Mapping → Bool → ℕ → List Kind → Kind → Bool
+kind_fits m top context children kind = elim (options_of kind) [
+  | Options.Terms t ↦
+      field_is m (λ k. option_map_or (are_probes k) t.include true && (are_probes k t.exclude && is_missing k t.missing)) t.field
+      && (nat_le 1 t.size && (nat_le t.size t.shard_size && (nat_le 1 t.min_doc_count && orders_fit children t.order)))
+  | Options.Histogram h ↦
+      is_whole_field m h.field h.missing
+      && (nat_le 1 h.interval && (nat_lt h.offset h.interval && (is_at_most h.extended.min h.extended.max && (is_at_most h.hard.min h.hard.max && (lies_within h.extended h.hard && orders_fit children h.order)))))
+  | Options.Filters names filters other ↦
+      nat_le 1 (length filters) && (nat_le (length filters) MAX_FILTERS && (option_map_or (λ ns. length ns == length filters) names true && list_all (query_fits m context) filters))
+  | Options.Filter query ↦ query_fits m context query
+  | Options.Missing field ↦ field_is m (λ k. true) field
+  | Options.Global ↦ top
+  | Options.Nested inner ↦ is_within m context inner
+  | Options.ReverseNested outer ↦ is_around m context outer
+  | Options.Composite sources size after ↦
+      top && (nat_le 1 (length sources) && (nat_le (length sources) MAX_SOURCES && (list_all (source_fits m) sources && (nat_le 1 size && (nat_le size MAX_PAGE && option_map_or (has_parts (length sources)) after true)))))
+  | Options.Metric o ↦ metric_fits m kind o
+]
+
+abbrev pub is_metric : Kind → Bool
+is_metric k = elim (options_of k) [ Options.Metric m ↦ true | _ ↦ false ]
+
+-- `global` and `composite` stand at the top alone
+abbrev pub is_top : Kind → Bool
+is_top kind.Global = true
+is_top (kind.Composite sources size after) = true
+is_top _ = false
+
+-- the context of the rows that it hands on
+abbrev pub handed : ℕ → Kind → ℕ
+handed context kind.Global = 0
+handed context (kind.Nested inner) = inner
+handed context (kind.ReverseNested outer) = outer
+handed context _ = context
+
+-- an aggregation's kind, and whether it is made for the mapping at the top or below, over rows of a context
+pub record Made : Type 0 where
+  pub kind : Kind
+  pub fits : Bool → ℕ → Bool
+
+abbrev pub no_children : List Made → Bool
+no_children [] = true
+no_children (c ∷ cs) = false
+
+abbrev pub is_made : Mapping → Kind → List Made → Bool → ℕ → Bool
+is_made m k children top context =
+    kind_fits m top context (map (λ c. c.kind) children) k && ((not (is_metric k) || no_children children) && list_all (λ c. c.fits false (handed context k)) children)
+
+abbrev pub made_at : Mapping → Agg-F Made → Made
+made_at m a = record { kind = a.kind; fits = is_made m a.kind a.children }
+
+abbrev pub agg_fits : Mapping → Bool → ℕ → Agg → Bool
+agg_fits m top context a = (fold_agg (made_at m) a).fits top context
+
+-- a search that is made for the mapping
+abbrev pub search_fits : Mapping → Search → Bool
+search_fits m s = query_fits m 0 s.query && list_all (agg_fits m true 0) s.aggs

@@ -1,0 +1,17 @@
+-- A key behind which a search can be asked for its next page.
+use Rattle.std.specs.Prelude.{Bool, true, length}
+use Rattle.std.specs.List.{list_all}
+use Rattle.agg_model.specs.declared.aggregation.Agg.{out-Agg}
+use Rattle.agg_model.specs.declared.aggregation.Kind.{Kind}
+use Rattle.agg_model.specs.declared.aggregation.Kind.TheVariants as kind
+use Rattle.agg_model.specs.declared.aggregation.Search.{Search}
+use Rattle.agg_model.specs.declared.key.Key.{Key}
+use Rattle.agg_evaluation.specs.SearchFits.{has_parts}
+
+-- a composite's key has a part for each source
+abbrev pub takes : Key → Kind → Bool
+takes key (kind.Composite sources size after) = has_parts (length sources) key
+takes key _ = true
+
+abbrev pub search_takes : Key → Search → Bool
+search_takes key s = list_all (λ a. takes key (out-Agg a).kind) s.aggs
