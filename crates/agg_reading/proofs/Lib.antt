@@ -15,3 +15,4 @@ pub mod Steps
 pub mod MappingLaws
 pub mod IndexLineLaws
 pub mod ValueLaws
+pub mod ShardWeights

@@ -12,4 +12,5 @@ pub mod Numbering
 pub mod Weighing
 pub mod Givens
 pub mod Making
+pub mod Indexing
 pub mod Parents

@@ -1,10 +1,15 @@
-ghost use Rattle.std.specs.Prelude.{◌<◌, ◌≤◌, ◌+◌, length, IsTrue};
+ghost use Rattle.std.specs.Prelude.{◌≡◌, ◌<◌, ◌≤◌, ◌+◌, length, map, IsTrue, IfOk};
+ghost use Rattle.std.specs.List.{list_all};
 ghost use Rattle.agg_model.specs.declared.limits.TheConstants.{MAX_PATHS, MAX_SHARDS, WEIGHT_LIMIT};
 ghost use Rattle.agg_model.specs.Contexts.{parents_before};
-ghost use Rattle.shard_columns.specs.Index.{AreShardsOf, shards_weight};
+ghost use Rattle.agg_evaluation.specs.DocumentFits.{all_fit};
+ghost use Rattle.agg_evaluation.specs.Rows.{rows_of_documents};
+ghost use Rattle.shard_columns.specs.Built.{columns_from};
+ghost use Rattle.shard_columns.specs.Index.{AreShardsOf, rows_by_shard, shards_weight, lists_weight};
 
 use crate::shard::Shard;
-use agg_model::{List, Mapping, Text};
+use agg_model::{Document, List, Mapping, Text};
+use std::alloc::{AllocError, Global};
 
 /// An index: its name, its mapping, and from 1 to `MAX_SHARDS` shards ('Index modules' of Elasticsearch Reference 8).
 ///
@@ -21,4 +26,53 @@ pub struct Index {
     ghost paths: { IsTrue (parents_before mapping) },
     ghost built: { ∥ AreShardsOf mapping shards ∥₁ },
     ghost light: { shards_weight shards < WEIGHT_LIMIT },
+}
+
+// A shard of each list.
+fn shards_from(
+    alloc: Global,
+    mapping: &Mapping,
+    documents: &[List<Document>],
+) -> Result<List<Shard>, AllocError>
+    requires few { length mapping.now.fields + length mapping.now.nested ≤ MAX_PATHS }
+    requires paths { IsTrue (parents_before mapping.now) }
+    requires each_fits { IsTrue (list_all (all_fit mapping.now) documents.now) }
+    requires all_light { lists_weight documents.now < WEIGHT_LIMIT }
+    ensures { IfOk result (λ shards. shards ≡ map (columns_from mapping.now) documents.now) }
+{
+    let mut shards = List::new(alloc);
+    for list in documents {
+        shards.push(Shard::build(alloc, list, mapping)?)?;
+    }
+    Ok(shards)
+}
+
+impl Index {
+    /// An index with a shard for each list of documents, from 1 to `MAX_SHARDS`, in time n log n.
+    ///
+    /// The mapping has up to `MAX_PATHS` fields and nested paths, each path behind the one around it. The documents are such
+    /// as their reader gives them for it, with rows, values and bytes of words that are fewer than `WEIGHT_LIMIT` together.
+    pub fn build(
+        alloc: Global,
+        name: Text,
+        mapping: Mapping,
+        documents: &List<List<Document>>,
+    ) -> Result<Index, AllocError>
+        requires some { 0 < length documents.now }
+        requires at_most { length documents.now ≤ MAX_SHARDS }
+        requires few { length mapping.fields + length mapping.nested ≤ MAX_PATHS }
+        requires paths { IsTrue (parents_before mapping) }
+        requires fit { IsTrue (list_all (all_fit mapping) documents.now) }
+        requires light { lists_weight documents.now < WEIGHT_LIMIT }
+        ensures name { IfOk result (λ index. index.name ≡ name) }
+        ensures mapping { IfOk result (λ index. index.mapping ≡ mapping) }
+        ensures rows { IfOk result (λ index. rows_by_shard index.shards ≡ map rows_of_documents documents.now) }
+    {
+        let shards = shards_from(alloc, &mapping, documents.as_slice())?;
+        Ok(Index {
+            name,
+            mapping,
+            shards,
+        })
+    }
 }
