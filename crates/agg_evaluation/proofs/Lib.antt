@@ -20,3 +20,5 @@ pub mod AddUpLaws
 pub mod AggFolds
 pub mod QueryFolds
 pub mod NodeFolds
+pub mod RowsFit
+pub mod QueriesFit

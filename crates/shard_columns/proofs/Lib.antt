@@ -10,5 +10,6 @@ pub mod Enclosing
 pub mod Dictionaries
 pub mod Numbering
 pub mod Weighing
+pub mod Givens
 pub mod Making
 pub mod Parents

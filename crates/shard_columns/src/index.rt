@@ -1,11 +1,15 @@
-ghost use Rattle.std.specs.Prelude.{◌<◌, ◌≤◌, length};
-ghost use Rattle.agg_model.specs.declared.limits.TheConstants.{MAX_SHARDS};
-ghost use Rattle.shard_columns.specs.Index.{AreBuilt};
+ghost use Rattle.std.specs.Prelude.{◌<◌, ◌≤◌, ◌+◌, length, IsTrue};
+ghost use Rattle.agg_model.specs.declared.limits.TheConstants.{MAX_PATHS, MAX_SHARDS, WEIGHT_LIMIT};
+ghost use Rattle.agg_model.specs.Contexts.{parents_before};
+ghost use Rattle.shard_columns.specs.Index.{AreShardsOf, shards_weight};
 
 use crate::shard::Shard;
 use agg_model::{List, Mapping, Text};
 
-/// An index: its name, its mapping, and from 1 to `MAX_SHARDS` shards, each built with that mapping.
+/// An index: its name, its mapping, and from 1 to `MAX_SHARDS` shards ('Index modules' of Elasticsearch Reference 8).
+///
+/// Each shard was built with this mapping from documents that fit it, and all of them weigh less than `WEIGHT_LIMIT`
+/// together. The mapping has up to `MAX_PATHS` fields and nested paths, and each path stands behind the one around it.
 #[derive(Drop)]
 pub struct Index {
     pub name: Text,
@@ -13,5 +17,8 @@ pub struct Index {
     pub shards: List<Shard>,
     ghost some_shards: { 0 < length shards },
     ghost few_shards: { length shards ≤ MAX_SHARDS },
-    ghost built: { ∥ AreBuilt mapping shards ∥₁ },
+    ghost few_paths: { length mapping.fields + length mapping.nested ≤ MAX_PATHS },
+    ghost paths: { IsTrue (parents_before mapping) },
+    ghost built: { ∥ AreShardsOf mapping shards ∥₁ },
+    ghost light: { shards_weight shards < WEIGHT_LIMIT },
 }

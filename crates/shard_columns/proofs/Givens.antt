@@ -1,4 +1,4 @@
--- Documents that fit are such as a shard is built from.
+-- What a shard is built on, of documents that fit: fields, kinds and paths that rise, row by row.
 use Rattle.std.specs.Prelude.{◌≡◌, refl, ℕ, ◌+◌, ◌^◌, ◌<◌, ◌≤◌, suc, zero, List, [], ◌∷◌, map, sum_by, length, slice_get, slice_index, slice_index_or, Option, Some, None, Bool, true, false, ◌&&◌, ◌==◌, cond, nat_le, find, option_map, unwrap_or, is_some}
 use Rattle.std.specs.List.{list_all}
 use Rattle.std.specs.List.Sorted.{IsStrictlyIncreasing}
@@ -6,6 +6,7 @@ use Rattle.std.specs.Option.{option_map_or}
 use Rattle.std.proofs.Common.{sym, ◌∙◌, ap, subst, arith}
 use Rattle.std.proofs.lemmas.Bool.{false≢true, and_parts, and_from}
 use Rattle.std.proofs.lemmas.Bool.Decides.{nat_tests}
+use Rattle.agg_model.specs.declared.limits.TheConstants.{MAX_PATHS, WEIGHT_LIMIT}
 use Rattle.agg_model.specs.declared.mapping.Field.{Field}
 use Rattle.agg_model.specs.declared.mapping.FieldKind.{FieldKind}
 use Rattle.agg_model.specs.declared.mapping.FieldKind.TheVariants.{Long, Integer, Short, Byte, Keyword, Boolean}
@@ -13,17 +14,19 @@ use Rattle.agg_model.specs.declared.mapping.Mapping.{Mapping}
 use Rattle.agg_model.specs.declared.row.Scalar.{Scalar}
 use Rattle.agg_model.specs.declared.row.Scalar.TheVariants.{Whole, Word, Flag}
 use Rattle.agg_model.specs.declared.row.FieldValues.{FieldValues}
+use Rattle.agg_model.specs.declared.row.Row.{Row, Row', Row_of-Children, end_of-Children, more_of-Children}
+use Rattle.agg_model.specs.declared.row.Children.{Children, Children', Row_of-Row, end_of-Row, more_of-Row}
 use Rattle.agg_model.specs.declared.row.Document.{Document}
 use Rattle.agg_evaluation.specs.Rows.{PlacedRow, row_of, no_row, rows_of_documents}
-use Rattle.agg_reading.specs.Store.{weight}
 use Rattle.shard_columns.specs.Values.{FieldsBelow}
 use Rattle.agg_model.specs.FieldKinds.{is_of_kind}
 use Rattle.shard_columns.specs.Given.{IsGiven, RowsBelow}
-use Rattle.agg_evaluation.specs.DocumentFits.{is_value, ascend, is_own, is_number_of_values, field_fits, fields_fit, all_fit}
+use Rattle.agg_evaluation.specs.DocumentFits.{is_value, ascend, is_own, is_number_of_values, path_of, is_path_of, field_fits, fields_fit, row_fits, children_fit, child_fits, rows_fit, fits, all_fit}
 use Rattle.agg_evaluation.specs.PlacedFits.{placed_fits, rows_placed}
-use Rattle.fitting_laws.proofs.Weights.{weights_agree}
-use Rattle.fitting_laws.proofs.Placed.{rows_fit_placed, all_rise_from_fit}
 use Rattle.std.proofs.lemmas.Option.{slice_get_within}
+use Rattle.agg_evaluation.specs.RowsWeight.{rows_weight}
+use Rattle.agg_evaluation.proofs.RowsFit.{rows_fit_placed}
+use Rattle.shard_columns.specs.Rising.{paths_rise, rise_from, children_rise, all_rise, documents_rise}
 
 -- what holds of each item holds of the item at each place, where it holds of the one behind the end
 pub all_at : {A : Type 0} (p : A → Bool) (xs : List A) (none : A) → p none ≡ true → list_all p xs ≡ true → (n : ℕ) → p (slice_index_or xs n none) ≡ true
@@ -32,6 +35,28 @@ all_at p (x ∷ xs) none d h zero = (and_parts (p x) (list_all p xs) h).0
 all_at p (x ∷ xs) none d h (suc n) = all_at p xs none d (and_parts (p x) (list_all p xs) h).1 n
 
 module _ (m : Mapping) where
+  mutual
+    row_rises : (r : Row) (context : ℕ) → row_fits m context r ≡ true → paths_rise r ≡ true
+    row_rises (Row' values n children) context h = children_rise_from children context 0 (and_parts (fields_fit m context 0 values) (children_fit m context 0 children) h).1
+
+    children_rise_from : {n : _} (cs : Row_of-Children n) (context least : ℕ) → children_fit m context least cs ≡ true → rise_from least cs ≡ true
+    children_rise_from end_of-Children context least h = refl
+    children_rise_from (more_of-Children c rest) context least h =
+        let first = and_parts (nat_le least (path_of c)) (child_fits m context c && children_fit m context (path_of c + 1) rest) h in
+        let parts = and_parts (child_fits m context c) (children_fit m context (path_of c + 1) rest) first.1 in
+        and_from _ _ first.0 (and_from _ _ (child_rises c context parts.0) (children_rise_from rest context (path_of c + 1) parts.1))
+
+    child_rises : (c : Children) (context : ℕ) → child_fits m context c ≡ true → children_rise c ≡ true
+    child_rises (Children' path n rows) context h = rows_rise rows (path + 1) (and_parts (is_path_of m context path) (rows_fit m (path + 1) rows) h).1
+
+    rows_rise : {n : _} (rs : Row_of-Row n) (context : ℕ) → rows_fit m context rs ≡ true → all_rise rs ≡ true
+    rows_rise end_of-Row context h = refl
+    rows_rise (more_of-Row r rest) context h = let parts = and_parts (row_fits m context r) (rows_fit m context rest) h in and_from _ _ (row_rises r context parts.0) (rows_rise rest context parts.1)
+
+  pub all_rise_from_fit : (ds : List Document) → all_fit m ds ≡ true → documents_rise ds ≡ true
+  all_rise_from_fit [] h = refl
+  all_rise_from_fit (d ∷ ds) h = let parts = and_parts (fits m d.root) (all_fit m ds) h in and_from _ _ (row_rises d.root 0 parts.0) (all_rise_from_fit ds parts.1)
+
   no_row_fits : placed_fits m no_row ≡ true
   no_row_fits = and_from (nat_le 0 (length m.nested)) _ (grind (arith, nat_tests)) refl
 
@@ -121,8 +146,8 @@ module _ (m : Mapping) where
         | false ↦ λ t. kinds_hold context (f.field + 1) fs parts.2 field k e
       ] refl
 
-  pub documents_given : (ds : List Document) → length m.fields ≤ 1000 → length m.nested ≤ 1000 → sum_by weight ds < 2 ^ 32 → all_fit m ds ≡ true → IsGiven m ds
-  documents_given ds few_fields few_paths light h =
+  pub documents_given : (ds : List Document) → length m.fields + length m.nested ≤ MAX_PATHS → rows_weight (rows_of_documents ds) < WEIGHT_LIMIT → all_fit m ds ≡ true → IsGiven m ds
+  documents_given ds few light h =
       let rows = rows_of_documents ds in
       let placed : rows_placed m (rows_of_documents ds) ≡ true = rows_fit_placed m ds h in
       let at : (n : ℕ) → placed_fits m (row_of (rows_of_documents ds) n) ≡ true = all_at (placed_fits m) (rows_of_documents ds) no_row no_row_fits placed in
@@ -132,8 +157,8 @@ module _ (m : Mapping) where
         rising = λ n. rises (row_of rows n).context 0 (row_of rows n).values (parts n).1;
         kinds = λ field kind e n. kinds_hold (row_of rows n).context 0 (row_of rows n).values (parts n).1 field kind e;
         contexts = λ n. let c = (parts n).0 in grind (arith, nat_tests, c);
-        paths = all_rise_from_fit m ds h;
-        few_fields = few_fields;
-        few_paths = few_paths;
-        light = subst (λ (w : ℕ). w < 2 ^ 32) (sym (weights_agree ds)) light;
+        paths = all_rise_from_fit ds h;
+        few_fields = omega (arith, few);
+        few_paths = omega (arith, few);
+        light = light;
       }

@@ -1,22 +1,31 @@
--- The rows of a document that fits fit each by itself, and its nested paths rise.
-use Rattle.std.specs.Prelude.{◌≡◌, refl, ℕ, ◌+◌, ◌<◌, ◌≤◌, List, [], ◌∷◌, ◌++◌, length, slice_get, Some, None, true, false, ◌&&◌, ◌==◌, nat_le}
+-- The rows of documents that fit fit each by itself.
+use Rattle.std.specs.Prelude.{◌≡◌, refl, ℕ, ◌+◌, ◌<◌, ◌≤◌, List, [], ◌∷◌, ◌++◌, map, flat_map, length, slice_get, Some, None, true, false, ◌&&◌, ◌==◌, nat_le}
+use Rattle.std.specs.List.{enumerate_from}
 use Rattle.std.specs.Option.{option_map_or}
 use Rattle.std.proofs.Common.{◌∙◌, arith}
 use Rattle.std.proofs.lemmas.Bool.{false≢true, and_parts, and_from}
 use Rattle.std.proofs.lemmas.Bool.Decides.{nat_tests}
 use Rattle.std.proofs.lemmas.List.Folds.{list_all-append}
+use Rattle.std.proofs.lemmas.Option.{slice_get_within}
 use Rattle.agg_model.specs.declared.mapping.Mapping.{Mapping}
 use Rattle.agg_model.specs.declared.row.Row.{Row, Row', Row_of-Children, end_of-Children, more_of-Children}
 use Rattle.agg_model.specs.declared.row.Children.{Children, Children', Row_of-Row, end_of-Row, more_of-Row}
 use Rattle.agg_model.specs.declared.row.Document.{Document}
-use Rattle.agg_evaluation.specs.Folds.{fold_rows, fold_all_children}
-use Rattle.agg_evaluation.specs.Rows.{walk_children, walk_row, rows_of, rows_of_documents}
-use Rattle.shard_columns.specs.Layout.{children_of}
-use Rattle.shard_columns.specs.Rising.{paths_rise, rise_from, children_rise, all_rise, documents_rise}
+use Rattle.agg_evaluation.specs.Folds.{fold_rows, fold_all_children, fold_children}
+use Rattle.agg_evaluation.specs.Rows.{PlacedRow, Walk, walk_children, walk_row, rows_of, rows_of_documents}
 use Rattle.agg_evaluation.specs.DocumentFits.{path_of, fields_fit, is_path_of, row_fits, children_fit, child_fits, rows_fit, fits, all_fit}
 use Rattle.agg_evaluation.specs.PlacedFits.{placed_fits, rows_placed}
-use Rattle.fitting_laws.proofs.Weights.{rows_at, beneath_at, rows_from}
-use Rattle.std.proofs.lemmas.Option.{slice_get_within}
+
+-- the rows of a path, numbered from k
+abbrev pub rows_at : ℕ → List ℕ → List ℕ → ℕ → List (ℕ → Walk) → List PlacedRow
+rows_at path id place k ws = flat_map (λ (r : ℕ × (ℕ → Walk)). r.1 (path + 1) id (place ++ path ∷ r.0 ∷ [])) (enumerate_from k ws)
+
+abbrev pub beneath_at : List ℕ → List ℕ → List Walk → List PlacedRow
+beneath_at id place ws = flat_map (λ c. c id place) ws
+
+-- the rows of documents that are numbered from k
+abbrev pub rows_from : ℕ → List Document → List PlacedRow
+rows_from k ds = flat_map (λ (d : ℕ × (List ℕ × Row)). rows_of d.1.1 0 d.1.0 (d.0 ∷ [])) (enumerate_from k (map (λ (d : Document). (d.id, d.root)) ds))
 
 path_below : (m : Mapping) (context path : ℕ) → is_path_of m context path ≡ true → path < length m.nested
 path_below m context path h =
@@ -37,10 +46,10 @@ module _ (m : Mapping) where
     all_placed (more_of-Children c rest) context least id place h =
         let first = and_parts (nat_le least (path_of c)) (child_fits m context c && children_fit m context (path_of c + 1) rest) h in
         let parts = and_parts (child_fits m context c) (children_fit m context (path_of c + 1) rest) first.1 in
-        list_all-append (placed_fits m) (children_of c id place) (beneath_at id place (fold_all_children walk_children walk_row rest))
+        list_all-append (placed_fits m) (fold_children walk_children walk_row c id place) (beneath_at id place (fold_all_children walk_children walk_row rest))
         ∙ and_from _ _ (child_placed c context id place parts.0) (all_placed rest context (path_of c + 1) id place parts.1)
 
-    child_placed : (c : Children) (context : ℕ) (id place : List ℕ) → child_fits m context c ≡ true → rows_placed m (children_of c id place) ≡ true
+    child_placed : (c : Children) (context : ℕ) (id place : List ℕ) → child_fits m context c ≡ true → rows_placed m (fold_children walk_children walk_row c id place) ≡ true
     child_placed (Children' path n rows) context id place h =
         let parts = and_parts (is_path_of m context path) (rows_fit m (path + 1) rows) h in
         rows_of_path rows path 0 id place (path_below m context path parts.0) parts.1
@@ -61,25 +70,3 @@ module _ (m : Mapping) where
 
   pub rows_fit_placed : (ds : List Document) → all_fit m ds ≡ true → rows_placed m (rows_of_documents ds) ≡ true
   rows_fit_placed ds h = placed_from 0 ds h
-
-  mutual
-    row_rises : (r : Row) (context : ℕ) → row_fits m context r ≡ true → paths_rise r ≡ true
-    row_rises (Row' values n children) context h = children_rise_from children context 0 (and_parts (fields_fit m context 0 values) (children_fit m context 0 children) h).1
-
-    children_rise_from : {n : _} (cs : Row_of-Children n) (context least : ℕ) → children_fit m context least cs ≡ true → rise_from least cs ≡ true
-    children_rise_from end_of-Children context least h = refl
-    children_rise_from (more_of-Children c rest) context least h =
-        let first = and_parts (nat_le least (path_of c)) (child_fits m context c && children_fit m context (path_of c + 1) rest) h in
-        let parts = and_parts (child_fits m context c) (children_fit m context (path_of c + 1) rest) first.1 in
-        and_from _ _ first.0 (and_from _ _ (child_rises c context parts.0) (children_rise_from rest context (path_of c + 1) parts.1))
-
-    child_rises : (c : Children) (context : ℕ) → child_fits m context c ≡ true → children_rise c ≡ true
-    child_rises (Children' path n rows) context h = rows_rise rows (path + 1) (and_parts (is_path_of m context path) (rows_fit m (path + 1) rows) h).1
-
-    rows_rise : {n : _} (rs : Row_of-Row n) (context : ℕ) → rows_fit m context rs ≡ true → all_rise rs ≡ true
-    rows_rise end_of-Row context h = refl
-    rows_rise (more_of-Row r rest) context h = let parts = and_parts (row_fits m context r) (rows_fit m context rest) h in and_from _ _ (row_rises r context parts.0) (rows_rise rest context parts.1)
-
-  pub all_rise_from_fit : (ds : List Document) → all_fit m ds ≡ true → documents_rise ds ≡ true
-  all_rise_from_fit [] h = refl
-  all_rise_from_fit (d ∷ ds) h = let parts = and_parts (fits m d.root) (all_fit m ds) h in and_from _ _ (row_rises d.root 0 parts.0) (all_rise_from_fit ds parts.1)
