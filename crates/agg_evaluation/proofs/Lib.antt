@@ -20,3 +20,4 @@ pub mod AddUpLaws
 pub mod AggFolds
 pub mod QueryFolds
 pub mod NodeFolds
+pub mod KeyParts
