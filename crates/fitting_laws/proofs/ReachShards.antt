@@ -1,0 +1,98 @@
+-- No number of a shard's answer is above the weight of the shard, where a metric's number is not.
+use Rattle.std.specs.Prelude.{◌≡◌, refl, ℕ, zero, suc, ◌+◌, ◌-◌, ◌==◌, ◌≤◌, max, Bool, true, false, cond, T, List, [], ◌∷◌, map, flat_map, take, sum_by, length, nat_le, if◌then◌else◌, Option, None, Some, unwrap_or}
+use Rattle.std.specs.List.{list_all, last_or}
+use Rattle.std.proofs.Common.{sym, ◌∙◌, ap, subst, arith}
+use Rattle.std.proofs.lemmas.Bool.{and_parts}
+use Rattle.std.proofs.lemmas.Bool.Decides.{nat_tests}
+use Rattle.std.proofs.lemmas.List.Concat.{length-flat_map}
+use Rattle.agg_model.specs.declared.aggregation.Agg.{Agg, Agg', Row_of-Agg, end_of-Agg, more_of-Agg}
+use Rattle.agg_model.specs.declared.aggregation.Kind.{Kind}
+use Rattle.agg_model.specs.declared.aggregation.Kind.TheVariants as kind
+use Rattle.agg_model.specs.declared.aggregation.Order.{Order}
+use Rattle.agg_model.specs.declared.key.Key.{Key}
+use Rattle.agg_model.specs.declared.mapping.Mapping.{Mapping}
+use Rattle.agg_model.specs.declared.partial.Bucket.{Bucket}
+use Rattle.agg_model.specs.declared.partial.Metric.{Metric}
+use Rattle.agg_model.specs.declared.partial.Node.{Node}
+use Rattle.agg_model.specs.declared.partial.Node.TheVariants.{Keyed, Fixed, Number}
+use Rattle.agg_model.specs.declared.row.Scalar.{Scalar}
+use Rattle.agg_evaluation.specs.Counted.{IsApart, IsCounted}
+use Rattle.agg_evaluation.specs.Folds.{fold_aggs}
+use Rattle.agg_evaluation.specs.Groups.{under, group, all_keys, total_key_count}
+use Rattle.agg_evaluation.specs.KeyOrder.{key_cmp, has_key}
+use Rattle.agg_evaluation.specs.Keys.{keys, values_or}
+use Rattle.agg_evaluation.specs.Orders.{bucket_key, bucket_count, bucket_cmp}
+use Rattle.agg_evaluation.specs.Rows.{PlacedRow, roots}
+use Rattle.agg_evaluation.specs.RowsWeight.{rows_weight}
+use Rattle.agg_evaluation.specs.SearchFits.{kind_fits, Made, made_at, handed, agg_fits, metric_fits}
+use Rattle.agg_evaluation.specs.Shard.{Collector, fixed_keys, page, with_covered, metric_of, bucket_of, trimmed_node, node_of, collector_of, collected_node}
+use Rattle.agg_evaluation.specs.Whole.{Parts, parts, parts_at}
+use Rattle.list_laws.specs.Sorting.{sorted}
+use Rattle.agg_evaluation.proofs.AddUpLaws.{terms-add_up}
+use Rattle.agg_evaluation.proofs.NodeForms.{out-Keyed, out-Fixed, out-Number}
+use Rattle.list_laws.proofs.Booleans.{and_left, and_right, both}
+use Rattle.list_laws.proofs.Lists.{sum_by-map}
+use Rattle.list_laws.proofs.Occurrences.{all-sorted, all-take, all-map}
+use Rattle.list_laws.proofs.Sums.{sum_by-sorted, sum_by-take}
+use Rattle.fitting_laws.proofs.Counting.{under_counted, filter_counted, key_counts_light, distinct_length}
+use Rattle.fitting_laws.proofs.Follows.{made_parts}
+use Rattle.fitting_laws.proofs.Hits.{length_is, counted_light}
+use Rattle.fitting_laws.proofs.Reach.{most, most_each, most_within, most_map, max_within, returned, bucket_reach, parts_reach, reach}
+
+-- A bound on the numbers: the shard weighs no more.
+module _ (number : Metric → ℕ) (bound : ℕ) (all : List PlacedRow) (heavy : rows_weight all ≤ bound) where
+  abbrev Collects : ℕ → Collector → (Node → ℕ) → Type 0
+  Collects context c f = (rows : List PlacedRow) → IsCounted all context rows → f (c.collect rows) ≤ bound
+
+  abbrev EachCollects : ℕ → List Collector → List (Node → ℕ) → Type 0
+  EachCollects context [] [] = Unit {0}
+  EachCollects context (c ∷ cs) (f ∷ fs) = Collects context c f × EachCollects context cs fs
+  EachCollects context _ _ = ⊥
+
+  children_within : (context : ℕ) (cs : List Collector) (fs : List (Node → ℕ)) → EachCollects context cs fs → (rows : List PlacedRow) → IsCounted all context rows → most_each fs (map (λ c. c.collect rows) cs) ≤ bound
+  children_within context [] [] h rows counted = omega arith
+  children_within context [] (f ∷ fs) h rows counted = absurd h
+  children_within context (c ∷ cs) [] h rows counted = absurd h
+  children_within context (c ∷ cs) (f ∷ fs) h rows counted = max_within _ _ bound (h.0 rows counted) (children_within context cs fs h.1 rows counted)
+
+  module _ (context : ℕ) (cs : List Collector) (fs : List (Node → ℕ)) (laws : EachCollects context cs fs) (k : Kind) (rows : List PlacedRow) (counted : IsCounted all context rows) where
+    abbrev made : Key → Bucket
+    made key = bucket_of true all (roots all) k cs rows key
+
+    made_within : (key : Key) → bucket_reach fs (made key) ≤ bound
+    made_within key =
+        let here = filter_counted all context rows (λ row. has_key key (keys all k row)) counted in
+        let light = counted_light all context (group all k rows key) here in
+        let children = children_within context cs fs laws (group all k rows key) here in
+        omega (arith, light, heavy, children)
+
+    -- buckets by key that are not cut
+    plain_within : (ks : List Key) → parts_reach number fs k (record { buckets = map made ks; error = 0; full = 0; cut = 0; metrics = [] }) ≤ max bound (returned k (map made ks))
+    plain_within ks = let buckets = most_map (bucket_reach fs) bound made ks made_within in omega (arith, buckets)
+
+    abbrev is_within_bound : Bucket → Bool
+    is_within_bound b = nat_le (bucket_reach fs b) bound
+
+    all_within : (ks : List Key) → T (list_all is_within_bound (map made ks))
+    all_within ks = all-map is_within_bound made ks (λ key. let h = made_within key in grind (arith, nat_tests, h))
+
+    -- the count of the last one is one of theirs
+    last_within : (o : Option ℕ) (bs : List Bucket) → unwrap_or o 0 ≤ bound → T (list_all is_within_bound bs) → unwrap_or (last_or o (map bucket_count bs)) 0 ≤ bound
+    last_within o [] g h = g
+    last_within o (b ∷ bs) g h =
+        let here : T (is_within_bound b) = and_left (is_within_bound b) (list_all is_within_bound bs) h in
+        last_within (Some b.count) bs (grind (arith, nat_tests, here)) (and_right (is_within_bound b) (list_all is_within_bound bs) h)
+
+    marked : (e : ℕ) → e ≤ bound → (bs : List Bucket) → T (list_all is_within_bound bs) → T (list_all is_within_bound (map (with_covered e) bs))
+    marked e low [] h = tt
+    marked e low (b ∷ bs) h =
+        let here : T (is_within_bound b) = and_left (is_within_bound b) (list_all is_within_bound bs) h in
+        let now : T (is_within_bound (with_covered e b)) = grind (arith, nat_tests, here, low) in
+        both (is_within_bound (with_covered e b)) (list_all is_within_bound (map (with_covered e) bs)) now (marked e low bs (and_right (is_within_bound b) (list_all is_within_bound bs) h))
+
+    some_length : (bs : List Bucket) → length bs ≡ sum_by (λ (b : Bucket). 1) bs
+    some_length bs = omega (arith, lengths bs)
+      where
+        lengths : (bs : List Bucket) → length bs ≡ sum_by (λ (b : Bucket). 1) bs
+        lengths [] = refl
+        lengths (b ∷ bs) = let cons = Rattle.std.proofs.lemmas.List.Sums.sum_by-cons (λ (b : Bucket). 1) b bs in omega (arith, cons, lengths bs)
