@@ -5,10 +5,11 @@ use Rattle.std.proofs.Common.{sym, ◌∙◌, ap, subst, arith}
 use Rattle.std.proofs.lemmas.Bool.{and_parts}
 use Rattle.std.proofs.lemmas.Bool.Decides.{nat_tests}
 use Rattle.std.proofs.lemmas.List.Concat.{length-flat_map}
+use Rattle.std.proofs.lemmas.List.Sums.{sum_by-cons}
 use Rattle.agg_model.specs.declared.aggregation.Agg.{Agg, Agg', Row_of-Agg, end_of-Agg, more_of-Agg}
 use Rattle.agg_model.specs.declared.aggregation.Kind.{Kind}
 use Rattle.agg_model.specs.declared.aggregation.Kind.TheVariants as kind
-use Rattle.agg_model.specs.declared.aggregation.Order.{Order}
+use Rattle.agg_model.specs.Options.{TermsOptions, terms_kind}
 use Rattle.agg_model.specs.declared.key.Key.{Key}
 use Rattle.agg_model.specs.declared.mapping.Mapping.{Mapping}
 use Rattle.agg_model.specs.declared.partial.Bucket.{Bucket}
@@ -90,9 +91,51 @@ module _ (number : Metric → ℕ) (bound : ℕ) (all : List PlacedRow) (heavy :
         let now : T (is_within_bound (with_covered e b)) = grind (arith, nat_tests, here, low) in
         both (is_within_bound (with_covered e b)) (list_all is_within_bound (map (with_covered e) bs)) now (marked e low bs (and_right (is_within_bound b) (list_all is_within_bound bs) h))
 
-    some_length : (bs : List Bucket) → length bs ≡ sum_by (λ (b : Bucket). 1) bs
-    some_length bs = omega (arith, lengths bs)
-      where
-        lengths : (bs : List Bucket) → length bs ≡ sum_by (λ (b : Bucket). 1) bs
-        lengths [] = refl
-        lengths (b ∷ bs) = let cons = Rattle.std.proofs.lemmas.List.Sums.sum_by-cons (λ (b : Bucket). 1) b bs in omega (arith, cons, lengths bs)
+  bucket_lengths : (bs : List Bucket) → length bs ≡ sum_by (λ (b : Bucket). 1) bs
+  bucket_lengths [] = refl
+  bucket_lengths (b ∷ bs) = let cons = sum_by-cons (λ (b : Bucket). 1) b bs in let rest = bucket_lengths bs in omega (arith, cons, rest)
+
+  key_lengths : (ks : List Key) → length ks ≡ sum_by (λ (k : Key). 1) ks
+  key_lengths [] = refl
+  key_lengths (k ∷ ks) = let cons = sum_by-cons (λ (k : Key). 1) k ks in let rest = key_lengths ks in omega (arith, cons, rest)
+
+  -- there are at least so many buckets only where there are so many rows
+  full_within : (n size : ℕ) → 1 ≤ size → n ≤ bound → (if n == size then 1 else 0) ≤ bound
+  full_within n size some low = elim (n == size) as (λ b. (n == size) ≡ b → (if b then 1 else 0) ≤ bound) [ true ↦ λ e. grind (arith, nat_tests, e, some, low) | false ↦ λ e. omega arith ] refl
+
+  error_within : (b : Bool) (n : ℕ) → n ≤ bound → (if b then n else 0) ≤ bound
+  error_within true n h = h
+  error_within false n h = omega arith
+
+  module _ (context : ℕ) (cs : List Collector) (fs : List (Node → ℕ)) (laws : EachCollects context cs fs) (rows : List PlacedRow) (counted : IsCounted all context rows) where
+    terms_within : (t : TermsOptions) → 1 ≤ t.shard_size → parts_reach number fs (terms_kind t) (parts (node_of true all (roots all) cs (terms_kind t) rows)) ≤ bound
+    terms_within t some =
+        let k = terms_kind t in
+        let ks = all_keys all k rows in
+        let bs = map (bucket_of true all (roots all) k cs rows) ks in
+        let cmp = bucket_cmp (map (λ (c : Collector). c.kind) cs) t.order in
+        let kept = take t.shard_size (sorted cmp bs) in
+        let is_full = length kept == t.shard_size in
+        let last = unwrap_or (last_or None (map bucket_count kept)) 0 in
+        let error = if is_full then last else 0 in
+        let by_key = sorted (λ (a b : Bucket). key_cmp (bucket_key a) (bucket_key b)) (map (with_covered error) kept) in
+        let cut = total_key_count all k rows - sum_by bucket_count kept in
+        let test = is_within_bound context cs fs laws k rows counted in
+        let light = key_counts_light all context k rows refl counted in
+        let each : T (list_all test kept) = all-take test t.shard_size (sorted cmp bs) (all-sorted cmp test bs (all_within context cs fs laws k rows counted ks)) in
+        let low : error ≤ bound = error_within is_full last (last_within context cs fs laws k rows counted None kept (omega arith) each) in
+        let buckets : T (list_all test by_key) = all-sorted (λ (a b : Bucket). key_cmp (bucket_key a) (bucket_key b)) test (map (with_covered error) kept) (marked context cs fs laws k rows counted error low kept each) in
+        let below = most_within (bucket_reach fs) bound by_key buckets in
+        let form : parts (node_of true all (roots all) cs k rows) ≡ record { buckets = by_key; error = error; full = if is_full then 1 else 0; cut = cut; metrics = [] } = ap parts_at (out-Keyed by_key error (if is_full then 1 else 0) cut) in
+        let added : sum_by bucket_count by_key + cut ≡ total_key_count all k rows = sym (ap (λ (p : Parts). sum_by bucket_count p.buckets + p.cut) form) ∙ terms-add_up all (roots all) cs k refl rows in
+        let a = bucket_lengths kept in
+        let b = sum_by-take (λ (b : Bucket). 1) t.shard_size (sorted cmp bs) in
+        let c = sum_by-sorted (λ (b : Bucket). 1) cmp bs in
+        let d = sum_by-map (λ (b : Bucket). 1) (bucket_of true all (roots all) k cs rows) ks in
+        let e = key_lengths ks in
+        let f = distinct_length (flat_map (keys all k) rows) in
+        let g = length-flat_map (keys all k) rows in
+        let few : length kept ≤ bound = omega (arith, a, b, c, d, e, f, g, light, heavy) in
+        let full = full_within (length kept) t.shard_size some few in
+        let all_parts : parts_reach number fs k (record { buckets = by_key; error = error; full = if is_full then 1 else 0; cut = cut; metrics = [] }) ≤ bound = omega (arith, below, low, full, added, light, heavy) in
+        subst (λ (p : Parts). parts_reach number fs k p ≤ bound) (sym form) all_parts
