@@ -1,6 +1,7 @@
 -- No number of a shard's answer is above the weight of the shard, where a metric's number is not.
-use Rattle.std.specs.Prelude.{◌≡◌, refl, ℕ, zero, suc, ◌+◌, ◌-◌, ◌==◌, ◌≤◌, max, Bool, true, false, cond, T, List, [], ◌∷◌, map, flat_map, take, sum_by, length, nat_le, if◌then◌else◌, Option, None, Some, unwrap_or}
+use Rattle.std.specs.Prelude.{◌≡◌, refl, ℕ, zero, suc, ◌+◌, ◌-◌, ◌==◌, ◌≤◌, max, Bool, true, false, cond, T, List, [], ◌∷◌, map, flat_map, take, sum_by, length, slice_get, ◌&&◌, nat_le, if◌then◌else◌, Option, None, Some, unwrap_or}
 use Rattle.std.specs.List.{list_all, last_or}
+use Rattle.std.specs.Option.{option_map_or}
 use Rattle.std.proofs.Common.{sym, ◌∙◌, ap, subst, arith}
 use Rattle.std.proofs.lemmas.Bool.{and_parts}
 use Rattle.std.proofs.lemmas.Bool.Decides.{nat_tests}
@@ -11,7 +12,9 @@ use Rattle.agg_model.specs.declared.aggregation.Kind.{Kind}
 use Rattle.agg_model.specs.declared.aggregation.Kind.TheVariants as kind
 use Rattle.agg_model.specs.Options.{TermsOptions, terms_kind}
 use Rattle.agg_model.specs.declared.key.Key.{Key}
+use Rattle.agg_model.specs.declared.mapping.Field.{Field}
 use Rattle.agg_model.specs.declared.mapping.Mapping.{Mapping}
+use Rattle.agg_model.specs.FieldKinds.{is_whole_kind}
 use Rattle.agg_model.specs.declared.partial.Bucket.{Bucket}
 use Rattle.agg_model.specs.declared.partial.Metric.{Metric}
 use Rattle.agg_model.specs.declared.partial.Node.{Node}
@@ -25,8 +28,9 @@ use Rattle.agg_evaluation.specs.Keys.{keys, values_or}
 use Rattle.agg_evaluation.specs.Orders.{bucket_key, bucket_count, bucket_cmp}
 use Rattle.agg_evaluation.specs.Rows.{PlacedRow, roots}
 use Rattle.agg_evaluation.specs.RowsWeight.{rows_weight}
-use Rattle.agg_evaluation.specs.SearchFits.{kind_fits, Made, made_at, handed, agg_fits, metric_fits}
-use Rattle.agg_evaluation.specs.Shard.{Collector, fixed_keys, page, with_covered, metric_of, bucket_of, trimmed_node, node_of, collector_of, collected_node}
+use Rattle.agg_evaluation.specs.QueryFits.{field_is, are_probes}
+use Rattle.agg_evaluation.specs.SearchFits.{kind_fits, Made, made_at, handed, agg_fits, is_missing, is_whole_field, orders_fit}
+use Rattle.agg_evaluation.specs.Shard.{Collector, fixed_keys, is_terms, page, with_covered, metric_of, bucket_of, trimmed_node, node_of, collector_of, collected_node}
 use Rattle.agg_evaluation.specs.Whole.{Parts, parts, parts_at}
 use Rattle.list_laws.specs.Sorting.{sorted}
 use Rattle.agg_evaluation.proofs.AddUpLaws.{terms-add_up}
@@ -139,3 +143,77 @@ module _ (number : Metric → ℕ) (bound : ℕ) (all : List PlacedRow) (heavy :
         let full = full_within (length kept) t.shard_size some few in
         let all_parts : parts_reach number fs k (record { buckets = by_key; error = error; full = if is_full then 1 else 0; cut = cut; metrics = [] }) ≤ bound = omega (arith, below, low, full, added, light, heavy) in
         subst (λ (p : Parts). parts_reach number fs k p ≤ bound) (sym form) all_parts
+
+    plain : (k : Kind) (ks : List Key) → is_terms k ≡ false → parts_reach number fs k (parts (Keyed (map (bucket_of true all (roots all) k cs rows) ks) 0 0 0)) ≤ bound
+    plain k ks e =
+        let bs = map (bucket_of true all (roots all) k cs rows) ks in
+        let within = plain_within context cs fs laws k rows counted ks in
+        let none : returned k bs ≡ 0 = ap (λ b. cond b (sum_by bucket_count bs) 0) e in
+        let all_parts : parts_reach number fs k (record { buckets = bs; error = 0; full = 0; cut = 0; metrics = [] }) ≤ bound = omega (arith, within, none) in
+        subst (λ (p : Parts). parts_reach number fs k p ≤ bound) (sym (ap parts_at (out-Keyed bs 0 0 0))) all_parts
+
+    started : (k : Kind) (ks : List Key) → is_terms k ≡ false → parts_reach number fs k (parts (Fixed (map (bucket_of true all (roots all) k cs rows) ks))) ≤ bound
+    started k ks e =
+        let bs = map (bucket_of true all (roots all) k cs rows) ks in
+        let within = plain_within context cs fs laws k rows counted ks in
+        let none : returned k bs ≡ 0 = ap (λ b. cond b (sum_by bucket_count bs) 0) e in
+        let all_parts : parts_reach number fs k (record { buckets = bs; error = 0; full = 0; cut = 0; metrics = [] }) ≤ bound = omega (arith, within, none) in
+        subst (λ (p : Parts). parts_reach number fs k p ≤ bound) (sym (ap parts_at (out-Fixed bs))) all_parts
+
+    measured : (k : Kind) (x : Metric) → is_terms k ≡ false → number x ≤ bound → parts_reach number fs k (parts (Number x)) ≤ bound
+    measured k x e low =
+        let none : returned k [] ≡ 0 = ap (λ b. cond b 0 0) e in
+        let all_parts : parts_reach number fs k (record { buckets = []; error = 0; full = 0; cut = 0; metrics = x ∷ [] }) ≤ bound = omega (arith, none, low) in
+        subst (λ (p : Parts). parts_reach number fs k p ≤ bound) (sym (ap parts_at (out-Number x))) all_parts
+
+  -- numbers of metrics over fields of the mapping
+  module _ (m : Mapping) (numbers : (field : ℕ) (missing : Option Scalar) → field_is m (λ k. is_missing k missing) field ≡ true → (context : ℕ) (rows : List PlacedRow) → IsCounted all context rows
+      → number (metric_of (flat_map (values_or field missing) rows)) ≤ bound) where
+    whole_field : (field : ℕ) (missing : Option Scalar) → is_whole_field m field missing ≡ true → field_is m (λ k. is_missing k missing) field ≡ true
+    whole_field field missing h =
+        elim (slice_get m.fields field) as (λ o. option_map_or (λ (f : Field). is_whole_kind f.kind && is_missing f.kind missing) o false ≡ true → option_map_or (λ (f : Field). is_missing f.kind missing) o false ≡ true) [
+          | None ↦ λ e. e
+          | Some f ↦ λ e. (and_parts (is_whole_kind f.kind) (is_missing f.kind missing) e).1
+        ] h
+
+    node_within : (context : ℕ) (cs : List Collector) (fs : List (Node → ℕ)) → EachCollects context cs fs → (top : Bool) (outer : ℕ) (children : List Kind) (k : Kind) → kind_fits m top outer children k ≡ true
+        → (rows : List PlacedRow) → IsCounted all context rows → parts_reach number fs k (parts (node_of true all (roots all) cs k rows)) ≤ bound
+    node_within context cs fs laws top outer children (kind.Terms field size shard_size least order include exclude missing show) h rows counted =
+        let t : TermsOptions = record { field = field; size = size; shard_size = shard_size; min_doc_count = least; order = order; include = include; exclude = exclude; missing = missing; show_error = show } in
+        let first = and_parts (field_is m (λ k. option_map_or (are_probes k) include true && (are_probes k exclude && is_missing k missing)) field) (nat_le 1 size && (nat_le size shard_size && (nat_le 1 least && orders_fit children order))) h in
+        let second = and_parts (nat_le 1 size) (nat_le size shard_size && (nat_le 1 least && orders_fit children order)) first.1 in
+        let third = (and_parts (nat_le size shard_size) (nat_le 1 least && orders_fit children order) second.1).0 in
+        let some = second.0 in
+        terms_within context cs fs laws rows counted t (grind (arith, nat_tests, some, third))
+    node_within context cs fs laws top outer children (kind.Histogram field interval offset least extended hard keyed order missing) h rows counted =
+        let k = kind.Histogram field interval offset least extended hard keyed order missing in
+        plain context cs fs laws rows counted k (all_keys all k rows) refl
+    node_within context cs fs laws top outer children (kind.Composite sources size after) h rows counted =
+        let k = kind.Composite sources size after in
+        plain context cs fs laws rows counted k (page sources size after (all_keys all k rows)) refl
+    node_within context cs fs laws top outer children (kind.Sum field missing) h rows counted = measured context cs fs laws rows counted (kind.Sum field missing) _ refl (numbers field missing (whole_field field missing h) context rows counted)
+    node_within context cs fs laws top outer children (kind.Min field missing) h rows counted = measured context cs fs laws rows counted (kind.Min field missing) _ refl (numbers field missing (whole_field field missing h) context rows counted)
+    node_within context cs fs laws top outer children (kind.Max field missing) h rows counted = measured context cs fs laws rows counted (kind.Max field missing) _ refl (numbers field missing (whole_field field missing h) context rows counted)
+    node_within context cs fs laws top outer children (kind.Avg field missing) h rows counted = measured context cs fs laws rows counted (kind.Avg field missing) _ refl (numbers field missing (whole_field field missing h) context rows counted)
+    node_within context cs fs laws top outer children (kind.ValueCount field missing) h rows counted = measured context cs fs laws rows counted (kind.ValueCount field missing) _ refl (numbers field missing h context rows counted)
+    node_within context cs fs laws top outer children (kind.Filters a b c) h rows counted = started context cs fs laws rows counted (kind.Filters a b c) (fixed_keys (kind.Filters a b c)) refl
+    node_within context cs fs laws top outer children (kind.Filter a) h rows counted = started context cs fs laws rows counted (kind.Filter a) (fixed_keys (kind.Filter a)) refl
+    node_within context cs fs laws top outer children (kind.Missing a) h rows counted = started context cs fs laws rows counted (kind.Missing a) (fixed_keys (kind.Missing a)) refl
+    node_within context cs fs laws top outer children kind.Global h rows counted = started context cs fs laws rows counted kind.Global (fixed_keys kind.Global) refl
+    node_within context cs fs laws top outer children (kind.Nested a) h rows counted = started context cs fs laws rows counted (kind.Nested a) (fixed_keys (kind.Nested a)) refl
+    node_within context cs fs laws top outer children (kind.ReverseNested a) h rows counted = started context cs fs laws rows counted (kind.ReverseNested a) (fixed_keys (kind.ReverseNested a)) refl
+
+    module _ (apart : IsApart all) where
+      mutual
+        pub collected_within : (top : Bool) (context : ℕ) (a : Agg) → agg_fits m top context a ≡ true → (rows : List PlacedRow) → IsCounted all context rows → reach number a (collected_node true all (roots all) a rows) ≤ bound
+        collected_within top context (Agg' name k n children) h rows counted =
+            let made = made_parts m k (fold_aggs (made_at m) children) top context h in
+            node_within (handed context k) (fold_aggs (collector_of true all (roots all)) children) (fold_aggs (λ a n. parts_reach number a.children a.kind (parts n)) children)
+            (each_within (handed context k) children made.1) top context (map (λ (c : Made). c.kind) (fold_aggs (made_at m) children)) k made.0 (under all (roots all) k rows) (under_counted all context k rows apart counted)
+
+        each_within : {n : _} (context : ℕ) (cs : Row_of-Agg n) → list_all (λ (c : Made). c.fits false context) (fold_aggs (made_at m) cs) ≡ true
+            → EachCollects context (fold_aggs (collector_of true all (roots all)) cs) (fold_aggs (λ a n. parts_reach number a.children a.kind (parts n)) cs)
+        each_within context end_of-Agg h = tt
+        each_within context (more_of-Agg c rest) h =
+            let both = and_parts (agg_fits m false context c) (list_all (λ (c : Made). c.fits false context) (fold_aggs (made_at m) rest)) h in
+            (collected_within false context c both.0, each_within context rest both.1)
