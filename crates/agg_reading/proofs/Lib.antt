@@ -12,6 +12,13 @@ mod Hashes
 mod Scripts
 mod Limits
 pub mod Steps
+pub mod PathOrder
 pub mod MappingLaws
 pub mod IndexLineLaws
 pub mod ValueLaws
+pub mod Refusing
+pub mod QueryRefusals
+pub mod KindRefusals
+pub mod BodyRefusals
+pub mod LineRefusals
+pub mod DocumentRefusals
