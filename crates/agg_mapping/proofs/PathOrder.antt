@@ -9,7 +9,7 @@ use Rattle.std.proofs.lemmas.Cmp.{on_total, nat_list_cmp_total}
 use Rattle.list_laws.specs.Sorting.{sorted}
 use Rattle.list_laws.proofs.StableSort as laws
 use Rattle.agg_reading.specs.Properties.{is_before, by_path, place}
-use Rattle.agg_mapping.specs.Paths.{AscendsBy}
+use Rattle.agg_reading.specs.MappingOrder.{AscendsBy}
 use denote.Param.Members.{Mut}
 use denote.Ref.{Bor}
 

@@ -14,7 +14,7 @@ use Rattle.agg_reading.specs.declared.parts.NamedOrder.{NamedOrder}
 use Rattle.agg_reading.specs.declared.parts.ReadKind.{ReadKind}
 use Rattle.agg_reading.specs.Reading.{Reading, ◌>>=◌, ◌>>◌}
 use Rattle.agg_reading.specs.Pointer.{member_step}
-use Rattle.agg_reading.specs.Json.{json_at}
+use Rattle.agg_reading.specs.Json.{reading, or_not_json, json_at}
 use Rattle.agg_reading.specs.Orders.{child_named, compared_by, resolved}
 use Rattle.agg_reading.specs.Aggregations.{is_aggregation_name, is_metric, is_top_kind, has_both, kind_member, kind_name, children_name}
 use Rattle.agg_reading.specs.Request.{Aggregated, aggregations_from, aggregations_at, children_of, children_in, is_childless, placed, assembled, counts_after, aggregation_of, aggregation_at, query_or_all, search_in, search_value_at, search_of}
@@ -116,3 +116,12 @@ lacks (Err Memory) f h e = cc
 pub json_lacks : (m : Mapping) (body : List ℕ) → search_of m body ≡ Err NotJson → json_at body ≡ Err NotJson
 unfolding search_of
 json_lacks m body e = lacks (json_at body) (search_value_at m (length body)) (a_search_value m (length body)) e
+
+-- and memory never
+remembers : (o : Option Data) (f : Data → Reading Search) → ((d : Data) → Refusing body_refusals (f d)) → (or_not_json o >>= f) ≢ Err Memory
+remembers None f h = λ q. cc
+remembers (Some d) f h = not_memory (f d) (h d)
+
+pub memory_stays : (m : Mapping) (body : List ℕ) → search_of m body ≢ Err Memory
+unfolding search_of json_at
+memory_stays m body = remembers (reading body) (search_value_at m (length body)) (a_search_value m (length body))

@@ -1,5 +1,5 @@
 -- What every index line keeps that is read: a mapping in order, and 1 to 1,024 shards.
-use Rattle.std.specs.Prelude.{ℕ, ℤ, pos, negsuc, ◌≤◌, List, [], ◌∷◌, Option, Some, None, Ok, IfOk, IfSome, nat_le, ◌&&◌, ◌==◌, unwrap_or, codes}
+use Rattle.std.specs.Prelude.{ℕ, ℤ, pos, negsuc, ◌≤◌, List, [], ◌∷◌, Option, Some, None, Ok, Err, IfOk, IfSome, nat_le, ◌&&◌, ◌==◌, unwrap_or, codes}
 use Rattle.std.proofs.Common.{arith}
 use Rattle.std.proofs.lemmas.Bool.Decides.{nat_tests}
 use Rattle.serde_json.specs.Data.{Data, null, boolean, number, string, array, object, Members}
@@ -114,3 +114,19 @@ index_value_at-fits d =
 pub index_line_at-fits : (bytes : List ℕ) → IfOk (index_line_at bytes) LineFits
 unfolding index_line_at
 index_line_at-fits bytes = then_ok LineFits (or_refuse 31 [] (reading bytes)) index_value_at index_value_at-fits
+
+-- both, one by one
+
+mapping_of : (r : Reading IndexLine) → IfOk r LineFits → IfOk r (λ l. IsOrdered l.mapping)
+mapping_of (Ok l) h = h.mapping
+mapping_of (Err e) h = tt
+
+shards_of : (r : Reading IndexLine) → IfOk r LineFits → IfOk r (λ l. ShardsFit l.shards)
+shards_of (Ok l) h = h.shards
+shards_of (Err e) h = tt
+
+pub index_line_at-ordered : (bytes : List ℕ) → IfOk (index_line_at bytes) (λ l. IsOrdered l.mapping)
+index_line_at-ordered bytes = mapping_of (index_line_at bytes) (index_line_at-fits bytes)
+
+pub index_line_at-shards : (bytes : List ℕ) → IfOk (index_line_at bytes) (λ l. ShardsFit l.shards)
+index_line_at-shards bytes = shards_of (index_line_at bytes) (index_line_at-fits bytes)

@@ -22,3 +22,4 @@ pub mod KindRefusals
 pub mod BodyRefusals
 pub mod LineRefusals
 pub mod DocumentRefusals
+pub mod ScriptRefusals
