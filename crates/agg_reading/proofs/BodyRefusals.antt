@@ -1,5 +1,5 @@
 -- Each reading of a search body is refused with a number of search bodies, unless the bytes are no JSON.
-use Rattle.std.specs.Prelude.{◌≡◌, ◌≢◌, refl, ℕ, zero, suc, ◌+◌, List, [], ◌∷◌, ◌++◌, length, Bool, true, false, not, ◌&&◌, Option, Some, None, Ok, Err, nat_le, codes}
+use Rattle.std.specs.Prelude.{◌≡◌, ◌≢◌, refl, ℕ, zero, suc, List, [], ◌∷◌, ◌++◌, length, Bool, true, false, not, ◌&&◌, Option, Some, None, Ok, Err, nat_le, codes}
 use Rattle.serde_json.specs.Data.{Data, Members, no_members, member}
 use Rattle.serde_json.specs.Find.{get_member}
 use Rattle.std.specs.Str.{bytes_eq}
@@ -12,7 +12,7 @@ use Rattle.agg_reading.specs.declared.names.KindName.{KindName}
 use Rattle.agg_reading.specs.declared.parts.Counts.{Counts}
 use Rattle.agg_reading.specs.declared.parts.NamedOrder.{NamedOrder}
 use Rattle.agg_reading.specs.declared.parts.ReadKind.{ReadKind}
-use Rattle.agg_reading.specs.Reading.{Reading, ◌>>=◌, ◌>>◌}
+use Rattle.agg_reading.specs.Reading.{Reading, ◌>>=◌}
 use Rattle.agg_reading.specs.Pointer.{member_step}
 use Rattle.agg_reading.specs.Json.{reading, or_not_json, json_at}
 use Rattle.agg_reading.specs.Orders.{child_named, compared_by, resolved}

@@ -1,5 +1,5 @@
 -- Each reading of a document is refused with a number of items, and so is each action.
-use Rattle.std.specs.Prelude.{◌≡◌, refl, ℕ, ℤ, ◌+◌, ◌==◌, List, [], ◌∷◌, ◌++◌, length, Bool, true, ◌&&◌, Option, Some, None, Ok, Err, is_some, nat_lt, nat_le}
+use Rattle.std.specs.Prelude.{◌≡◌, refl, ℕ, ℤ, ◌+◌, List, [], ◌∷◌, ◌++◌, length, true, ◌&&◌, Option, Some, None, is_some, nat_lt, nat_le}
 use Rattle.std.proofs.lemmas.Bool.{or_right}
 use Rattle.serde_json.specs.Data.{Data, null, boolean, number, string, array, object, Items, no_items, item, Members, no_members, member}
 use Rattle.agg_model.specs.FieldKinds.{fits_kind}
@@ -16,7 +16,7 @@ use Rattle.agg_reading.specs.declared.fault.RequestFault.{RequestFault}
 use Rattle.agg_reading.specs.declared.fault.RequestFault.TheVariants.{NotJson, Bad, Memory}
 use Rattle.agg_reading.specs.declared.parts.Role.{Role}
 use Rattle.agg_reading.specs.declared.parts.Role.TheVariants as role
-use Rattle.agg_reading.specs.Reading.{Reading, ◌>>=◌}
+use Rattle.agg_reading.specs.Reading.{Reading}
 use Rattle.agg_reading.specs.Json.{reading}
 use Rattle.agg_reading.specs.Scalars.{whole, word}
 use Rattle.agg_reading.specs.Rows.{empty_draft, count_in}

@@ -1,5 +1,5 @@
 -- Each reading of a kind of aggregation is refused with a number of search bodies.
-use Rattle.std.specs.Prelude.{refl, ℕ, ◌+◌, ◌==◌, List, [], ◌∷◌, ◌++◌, Bool, ◌&&◌, ◌||◌, Option, Some, None, is_some, unwrap_or, length, nat_lt, nat_le, codes}
+use Rattle.std.specs.Prelude.{refl, ℕ, ◌+◌, ◌==◌, List, [], ◌∷◌, ◌++◌, Bool, ◌&&◌, Option, Some, None, unwrap_or, length, nat_lt, nat_le, codes}
 use Rattle.serde_json.specs.Data.{Data, null, boolean, number, string, array, object, Items, no_items, item, Members, no_members, member}
 use Rattle.serde_json.specs.Find.{get_member, as_i64, as_number}
 use Rattle.agg_model.specs.BoundsOrder.{is_at_most, lies_within}
@@ -16,15 +16,13 @@ use Rattle.agg_reading.specs.declared.names.KindName.TheVariants as name
 use Rattle.agg_reading.specs.declared.names.SourceName.{SourceName}
 use Rattle.agg_reading.specs.declared.names.SourceName.TheVariants as source
 use Rattle.agg_reading.specs.declared.parts.NamedOrder.{NamedOrder}
-use Rattle.agg_reading.specs.Reading.{◌>>=◌, ◌>>◌}
-use Rattle.agg_reading.specs.Pointer.{member_step, item_step}
-use Rattle.agg_reading.specs.Json.{sole, is_among}
-use Rattle.agg_reading.specs.Numbers.{number_at, signed_at, truth_at, choice_at, whole_at}
-use Rattle.agg_reading.specs.Query.{top_query_at}
+use Rattle.agg_reading.specs.Pointer.{item_step}
+use Rattle.agg_reading.specs.Json.{is_among}
+use Rattle.agg_reading.specs.Numbers.{number_at, signed_at, choice_at, whole_at}
 use Rattle.agg_reading.specs.Orders.{direction_at, order_at, orders_from, item_count, orders_at}
 use Rattle.agg_reading.specs.Terms.{missing_at, term_lists_in, term_counts_in, term_sizes_in, terms_in, terms_at}
-use Rattle.agg_reading.specs.Histogram.{whole_field_in, ordered_bounds, bounds_at, histogram_ranges_in, histogram_counts_in, histogram_rules, histogram_in, histogram_at}
-use Rattle.agg_reading.specs.Filters.{is_name, name_at, listed_from, named_from, filter_list_at, is_taken, free_key, other_of, filters_in, filters_at}
+use Rattle.agg_reading.specs.Histogram.{whole_field_in, bounds_at, histogram_ranges_in, histogram_counts_in, histogram_rules, histogram_in, histogram_at}
+use Rattle.agg_reading.specs.Filters.{is_name, name_at, listed_from, named_from, filter_list_at, is_taken, other_of, filters_in, filters_at}
 use Rattle.agg_reading.specs.Composite.{Source, source_named, terms_source_at, histogram_source_at, source_by, source_at, source_name_at, sole_of, named_source_at, sources_from, some_sources, sources_at}
 use Rattle.agg_reading.specs.After.{After, part_at, source_of, part_of, parts_from, has_names, after_at, source_names, after_rule, distinct_from, composite_in, composite_at}
 use Rattle.agg_reading.specs.Metrics.{metered_in, number_metric_at, any_metric_at, missing_kind_at, global_at, nested_context_at, enclosing_at, outer_of, outer_context_at}

@@ -11,6 +11,7 @@ mod Documents
 mod Hashes
 mod Scripts
 mod Limits
+mod Edges
 pub mod Steps
 pub mod PathOrder
 pub mod MappingLaws

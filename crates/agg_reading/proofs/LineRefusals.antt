@@ -1,5 +1,5 @@
 -- Each reading of a line of a script is refused with the numbers of that line.
-use Rattle.std.specs.Prelude.{◌≡◌, refl, ℕ, ℤ, pos, negsuc, zero, suc, ◌+◌, List, [], ◌∷◌, ◌++◌, length, Bool, ◌&&◌, ◌==◌, Option, Some, None, Ok, Err, IfErr, is_some, nat_lt, nat_le, unwrap_or, codes}
+use Rattle.std.specs.Prelude.{refl, ℕ, ℤ, pos, negsuc, zero, suc, List, [], ◌∷◌, ◌++◌, length, ◌&&◌, ◌==◌, Option, Some, None, is_some, nat_lt, nat_le, codes}
 use Rattle.std.specs.Str.{bytes_eq}
 use Rattle.serde_json.specs.Data.{Data, null, boolean, number, string, array, object, Members, no_members, member}
 use Rattle.serde_json.specs.Find.{get_member, as_number, as_u64, as_integer}
@@ -9,11 +9,11 @@ use Rattle.agg_model.specs.declared.mapping.FieldKind.{FieldKind}
 use Rattle.agg_reading.specs.declared.names.FieldType.{FieldType}
 use Rattle.agg_reading.specs.declared.names.FieldType.TheVariants.{Leaf, Object, Nested}
 use Rattle.agg_reading.specs.declared.parts.Found.{Found}
-use Rattle.agg_reading.specs.Reading.{Reading, ◌>>=◌, ◌>>◌}
+use Rattle.agg_reading.specs.Reading.{Reading}
 use Rattle.agg_reading.specs.Pointer.{member_step}
 use Rattle.agg_reading.specs.Json.{reading}
 use Rattle.agg_reading.specs.Scalars.{whole}
-use Rattle.agg_reading.specs.Properties.{is_field_name, type_named, type_at, type_or, type_in, is_full, leaf_names, bound_in, bound_at, leaf_at, with_object, with_nested, fields_from, properties_at, properties_of, inner_at, by_type, property_at}
+use Rattle.agg_reading.specs.Properties.{is_field_name, type_named, type_at, type_or, type_in, is_full, bound_in, bound_at, leaf_at, with_object, with_nested, fields_from, properties_at, properties_of, inner_at, by_type, property_at}
 use Rattle.agg_reading.specs.Mapping.{dynamic_at, nothing_found, found_in, mapping_at}
 use Rattle.agg_reading.specs.IndexLine.{shards_in, shards_at, shards_named, inner_shards_of, inner_shards, agreed, agreed_all, settings_at, index_name_at, index_value_at, index_line_at}
 use Rattle.agg_reading.specs.Action.{action_named, is_plain, set_member, label_of, label_in, id_or, heading_at, action_value_at, action_at}

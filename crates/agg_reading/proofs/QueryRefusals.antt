@@ -1,6 +1,6 @@
 -- Each reading of a query is refused with a number of search bodies.
-use Rattle.std.specs.Prelude.{refl, ℕ, zero, suc, ◌+◌, List, [], ◌∷◌, ◌++◌, Option, Some, None, Ok, Err, nat_le, codes}
-use Rattle.serde_json.specs.Data.{Data, null, boolean, number, string, array, object, Items, no_items, item, Members, no_members, member}
+use Rattle.std.specs.Prelude.{refl, ℕ, zero, suc, ◌+◌, List, [], ◌∷◌, ◌++◌, Option, Some, None, Ok, nat_le, codes}
+use Rattle.serde_json.specs.Data.{Data, null, boolean, number, string, array, object, Items, no_items, item, Members}
 use Rattle.serde_json.specs.Find.{get_member, as_u64}
 use Rattle.agg_model.specs.declared.mapping.FieldKind.{FieldKind}
 use Rattle.agg_model.specs.declared.mapping.Mapping.{Mapping}
@@ -11,9 +11,9 @@ use Rattle.agg_model.specs.declared.query.RangeOp.TheVariants.{Gt, Gte, Lt, Lte}
 use Rattle.agg_model.specs.declared.query.RangeTest.{RangeTest}
 use Rattle.agg_reading.specs.declared.names.QueryName.{QueryName}
 use Rattle.agg_reading.specs.declared.names.QueryName.TheVariants as name
-use Rattle.agg_reading.specs.Reading.{Reading, ◌>>=◌, refuse, or_refuse}
+use Rattle.agg_reading.specs.Reading.{Reading, ◌>>=◌}
 use Rattle.agg_reading.specs.Pointer.{member_step, item_step}
-use Rattle.agg_reading.specs.Json.{object_at, list_at, text_at, required, optional_of, known, is_among, sole_at}
+use Rattle.agg_reading.specs.Json.{required}
 use Rattle.agg_reading.specs.Numbers.{number_at, in_range, whole_at, truth_at}
 use Rattle.agg_reading.specs.Fields.{field_at}
 use Rattle.agg_model.specs.Contexts.{is_in_context}

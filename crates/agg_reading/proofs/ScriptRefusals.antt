@@ -6,14 +6,12 @@ use Rattle.serde_json.specs.Data.{Members}
 use Rattle.serde_json.specs.Find.{as_object}
 use Rattle.agg_model.specs.Lines.{Line, is_beyond_input, is_too_long}
 use Rattle.agg_reading.specs.declared.fault.RequestFault.TheVariants.{NotJson, Bad, Memory}
-use Rattle.agg_reading.specs.Reading.{Reading, ◌>>=◌, ◌>>◌, or_refuse}
+use Rattle.agg_reading.specs.Reading.{Reading, ◌>>=◌, or_refuse}
 use Rattle.agg_reading.specs.Json.{reading, object_at}
 use Rattle.agg_reading.specs.IndexLine.{index_line_at}
-use Rattle.agg_reading.specs.Action.{action_at}
-use Rattle.agg_reading.specs.Lines.{Place, start, past, is_empty_line, line_fault, ScriptRefusal, Script, refuse_script, or_fault, checked}
+use Rattle.agg_reading.specs.Lines.{Place, start, past, is_empty_line, line_fault, Script, or_fault, checked}
 use Rattle.agg_reading.specs.Script.{Loading, at_line, with_action, heading_of, is_delete, bulk, begun, loaded, header_at}
 use Rattle.agg_reading.specs.Refusals.{RefusesWith, index_line_refusals, action_refusals, loading_refusals, StopsWith}
-use Rattle.agg_reading.proofs.Refusing.{Refusing}
 use Rattle.agg_reading.proofs.LineRefusals.{an_index_line, an_action}
 
 abbrev Stops : {A : Type 0} → Script A → Type 0
@@ -31,8 +29,8 @@ either false r q h k = k
 within : (place : Place) (l : Line) → Stops (checked place l)
 unfolding checked line_fault
 within place l = elim (is_beyond_input place.read l.size) as (λ b. Stops (or_fault (place.number + 1) (if b then Some 37 else (if is_too_long (length l.text) then Some 30 else None)))) [
-    | true ↦ refl
-    | false ↦ elim (is_too_long (length l.text)) as (λ b. Stops (or_fault (place.number + 1) (if b then Some 30 else None))) [ true ↦ refl | false ↦ tt ]
+  | true ↦ refl
+  | false ↦ elim (is_too_long (length l.text)) as (λ b. Stops (or_fault (place.number + 1) (if b then Some 30 else None))) [ true ↦ refl | false ↦ tt ]
 ]
 
 -- the numbers of a line are numbers of scripts
@@ -103,6 +101,6 @@ unfitting line None = refl
 pub a_header : (line : ℕ) (text : List ℕ) → IfErr (header_at line text) (λ e. e ≡ record { number = 39; line = line; path = [] })
 unfolding header_at object_at
 a_header line text = elim (reading text) as (λ o. IfErr (at_line line (or_refuse 39 [] o >>= object_at 39 []) >>= nothing) (λ e. e ≡ record { number = 39; line = line; path = [] })) [
-    | None ↦ refl
-    | Some d ↦ unfitting line (as_object d)
+  | None ↦ refl
+  | Some d ↦ unfitting line (as_object d)
 ]
