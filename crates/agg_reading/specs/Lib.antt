@@ -1,4 +1,5 @@
 pub mod Reading
+pub mod Refusals
 pub mod Pointer
 pub mod Json
 pub mod Scalars
@@ -6,6 +7,7 @@ pub mod Numbers
 pub mod Fields
 pub mod Properties
 pub mod Mapping
+pub mod MappingOrder
 pub mod IndexLine
 pub mod Action
 pub mod Rows
