@@ -7,7 +7,7 @@ use Rattle.std.proofs.Common.{ℕ, sym, subst}
 use Rattle.list_laws.specs.Sorting.{sorted}
 use Rattle.list_laws.proofs.StableSort as laws
 use Rattle.agg_reading.specs.Properties.{by_path}
-use Rattle.agg_reading.specs.MappingOrder.{AscendsBy}
+use Rattle.agg_model.specs.MappingOrder.{AscendsBy}
 use Rattle.agg_reading.proofs.PathOrder.{by_path_total}
 use denote.Param.Members.{Mut}
 use denote.Ref.{Bor}

@@ -11,7 +11,7 @@ ghost use Rattle.agg_reading.specs.Mapping.{mapping_at, empty_mapping};
 ghost use Rattle.agg_reading.specs.IndexLine.{shards_at, shards_named, inner_shards, inner_shards_of, agreed, agreed_all, settings_at, index_name_at, index_value_at, index_line_at};
 ghost use Rattle.agg_mapping.specs.Faults.{Refuses};
 ghost use Rattle.agg_mapping.specs.Shards.{both_numbers};
-ghost use Rattle.agg_reading.specs.MappingOrder.{IsOrdered};
+ghost use Rattle.agg_model.specs.MappingOrder.{IsOrdered};
 
 use crate::fault::{MapFault, map_fault};
 use crate::mapping::mapping;

@@ -12,7 +12,7 @@ use Rattle.agg_reading.specs.Mapping.{mapping_at, empty_mapping}
 use Rattle.agg_reading.specs.IndexLine.{shards_in, shards_at, shards_named, agreed, agreed_all, settings_at, inner_shards, inner_shards_of, index_name_at, index_value_at, index_line_at}
 use Rattle.agg_reading.proofs.PathOrder.{arranged-none, arranged-ascends}
 use Rattle.agg_reading.proofs.Steps.{then_ok, next_ok, if_ok}
-use Rattle.agg_reading.specs.MappingOrder.{IsOrdered}
+use Rattle.agg_model.specs.MappingOrder.{IsOrdered}
 use Rattle.agg_reading.proofs.MappingLaws.{mapping_at-ordered}
 
 -- 1 to 1,024

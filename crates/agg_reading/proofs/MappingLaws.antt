@@ -15,7 +15,7 @@ use Rattle.agg_reading.specs.declared.parts.FoundField.{FoundField}
 use Rattle.agg_reading.specs.declared.parts.FoundPath.{FoundPath}
 use Rattle.agg_reading.specs.Reading.{Reading, ◌>>=◌, refuse}
 use Rattle.agg_reading.specs.Pointer.{member_step}
-use Rattle.agg_reading.specs.MappingOrder.{IsOrdered}
+use Rattle.agg_model.specs.MappingOrder.{IsOrdered}
 use Rattle.agg_reading.proofs.PathOrder.{IsArranged, arranged-none, arranged-place, arranged-ascends, ascend_mapped}
 use Rattle.agg_reading.proofs.Steps.{then_ok, next_ok, if_ok}
 use Rattle.agg_reading.specs.Json.{object_at, known, optional}

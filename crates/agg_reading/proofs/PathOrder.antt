@@ -6,7 +6,7 @@ use Rattle.std.proofs.lemmas.Cmp.{on_total, nat_list_cmp_total}
 use Rattle.list_laws.specs.Sorting.{sorted}
 use Rattle.list_laws.proofs.StableSort as laws
 use Rattle.agg_reading.specs.Properties.{is_before, by_path, place}
-use Rattle.agg_reading.specs.MappingOrder.{AscendsBy}
+use Rattle.agg_model.specs.MappingOrder.{AscendsBy}
 
 module _ {A : Type 0} (path_of : A → List ℕ) where
   -- one of two items is at most the other, and this is transitive

@@ -7,7 +7,6 @@ pub mod Numbers
 pub mod Fields
 pub mod Properties
 pub mod Mapping
-pub mod MappingOrder
 pub mod IndexLine
 pub mod Action
 pub mod Rows

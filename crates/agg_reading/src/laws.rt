@@ -12,7 +12,7 @@ ghost use Rattle.agg_reading.specs.Document.{document_at};
 ghost use Rattle.agg_reading.specs.IndexLine.{index_line_at};
 ghost use Rattle.agg_reading.specs.Json.{json_at};
 ghost use Rattle.agg_reading.specs.Mapping.{mapping_at};
-ghost use Rattle.agg_reading.specs.MappingOrder.{IsOrdered};
+ghost use Rattle.agg_model.specs.MappingOrder.{IsOrdered};
 ghost use Rattle.agg_reading.specs.Refusals.{RefusesWith, StopsWith, index_line_refusals, action_refusals, document_refusals, item_refusals, body_refusals, loading_refusals};
 ghost use Rattle.agg_reading.specs.Request.{search_of, search_value_at};
 ghost use Rattle.agg_reading.specs.Script.{header_at, loaded};
