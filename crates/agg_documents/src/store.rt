@@ -4,7 +4,7 @@ ghost use Rattle.std.specs.Prelude.{◌≡◌, ◌&&◌, ◌<◌, ◌≤◌, [],
 ghost use Rattle.std.specs.List.{IsDistinct};
 ghost use Rattle.std.specs.Option.{option_map};
 ghost use Rattle.std.specs.Str.{bytes_eq};
-ghost use Rattle.agg_mapping.specs.Paths.{IsOrdered};
+ghost use Rattle.agg_model.specs.MappingOrder.{IsOrdered};
 ghost use Rattle.agg_reading.specs.Store.{applied, deleted, is_create, live_at, live_documents, put_row, shards_of, store_weight, weight, with_document};
 ghost use Rattle.document_rows.specs.Faults.{Gives};
 ghost use Rattle.document_rows.specs.declared.fault.ItemFault.TheVariants.{Refused};

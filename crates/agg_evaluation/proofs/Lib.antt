@@ -22,3 +22,4 @@ pub mod QueryFolds
 pub mod NodeFolds
 pub mod RowsFit
 pub mod QueriesFit
+pub mod KeyParts

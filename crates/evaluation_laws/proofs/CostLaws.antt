@@ -29,6 +29,7 @@ use Rattle.agg_evaluation.proofs.KeyExact.{exact_keys}
 use Rattle.list_laws.proofs.Lists.{map-append}
 use Rattle.agg_evaluation.proofs.UnionLaws.{ascending-fixed_keys, has_key-append}
 use Rattle.agg_evaluation.proofs.WholeLaws.{Union, tree_buckets, with_key}
+use Rattle.agg_evaluation.proofs.KeyParts.{part, parts-at_most, with_key-all, with_key-some}
 
 -- the bytes of a bucket with all below it
 abbrev pub bytes : Bucket → ℕ
@@ -106,87 +107,6 @@ children-save m (w ∷ ws) (t ∷ ts) h bs some pass =
     let both = sum_by-cons node_cost (w (children_at bs m)) (map (λ c. c.1 (children_at bs c.0)) (enumerate_from (m + 1) ws)) in
     let costs = col.costs in
     omega arith
-
-module _ (f : Bucket → ℕ) where
-  abbrev pub part : List Bucket → Key → ℕ
-  part bs q = sum_by f (with_key q bs)
-
-  part-cons : (b : Bucket) (bs : List Bucket) (q : Key) → part (b ∷ bs) q ≡ cond (key_eq q (bucket_key b)) (f b) 0 + part bs q
-  part-cons b bs q =
-      elim (key_eq q (bucket_key b)) as (λ c. sum_by f (cond c (b ∷ with_key q bs) (with_key q bs)) ≡ cond c (f b) 0 + part bs q) [
-        | true ↦ sum_by-cons f b (with_key q bs)
-        | false ↦ omega arith
-      ]
-
-  parts-cons : (b : Bucket) (bs : List Bucket) (ks : List Key) → sum_by (part (b ∷ bs)) ks ≡ sum_by (λ q. cond (key_eq q (bucket_key b)) (f b) 0) ks + sum_by (part bs) ks
-  parts-cons b bs [] = refl
-  parts-cons b bs (k ∷ ks) =
-      let whole = sum_by-cons (part (b ∷ bs)) k ks in
-      let here = sum_by-cons (λ q. cond (key_eq q (bucket_key b)) (f b) 0) k ks in
-      let behind = sum_by-cons (part bs) k ks in
-      let first = part-cons b bs k in
-      let rest = parts-cons b bs ks in
-      omega arith
-
-  not_below : (j : Key) (n : ℕ) (ks : List Key) → T (is_below j ks) → sum_by (λ q. cond (key_eq q j) n 0) ks ≡ 0
-  not_below j n [] h = refl
-  not_below j n (k ∷ ks) h =
-      let cons = sum_by-cons (λ q. cond (key_eq q j) n 0) k ks in
-      let rest = not_below j n ks (and_right _ _ h) in
-      let apart : key_eq k j ≡ false = key_eq-sym k j ∙ first_false (key_eq j k) (has_key j ks) (below-absent j (k ∷ ks) h) in
-      let none : cond (key_eq k j) n 0 ≡ 0 = ap (λ c. cond c n 0) apart in
-      omega arith
-    where
-      first_false : (b c : Bool) → (b || c) ≡ false → b ≡ false
-      first_false true c e = absurd (subst T e tt)
-      first_false false c e = refl
-
-  -- in ascending keys one key is a bucket's at most
-  pub at_most_once : (j : Key) (n : ℕ) (ks : List Key) → T (is_ascending ks) → sum_by (λ q. cond (key_eq q j) n 0) ks ≤ n
-  at_most_once j n [] h = omega arith
-  at_most_once j n (k ∷ ks) h =
-      let cons = sum_by-cons (λ q. cond (key_eq q j) n 0) k ks in
-      elim (key_eq k j) as (λ b. key_eq k j ≡ b → sum_by (λ q. cond (key_eq q j) n 0) (k ∷ ks) ≤ n) [
-        | true ↦ λ e.
-            let none = not_below j n ks (subst (λ l. T (is_below l ks)) (key_eq-exact k j (holds _ e)) (and_left _ _ h)) in
-            let one : cond (key_eq k j) n 0 ≡ n = ap (λ c. cond c n 0) e in
-            omega arith
-        | false ↦ λ e.
-            let rest = at_most_once j n ks (and_right _ _ h) in
-            let none : cond (key_eq k j) n 0 ≡ 0 = ap (λ c. cond c n 0) e in
-            omega arith
-      ] refl
-
-  -- the buckets of distinct keys are at most all buckets
-  pub parts-at_most : (bs : List Bucket) (ks : List Key) → T (is_ascending ks) → sum_by (part bs) ks ≤ sum_by f bs
-  parts-at_most [] ks h = nothing ks
-    where
-      nothing : (ks : List Key) → sum_by (part []) ks ≤ 0
-      nothing [] = omega arith
-      nothing (k ∷ ks) = let cons = sum_by-cons (part []) k ks in let rest = nothing ks in omega arith
-  parts-at_most (b ∷ bs) ks h =
-      let cons = parts-cons b bs ks in
-      let whole = sum_by-cons f b bs in
-      let first = at_most_once (bucket_key b) (f b) ks h in
-      let rest = parts-at_most bs ks h in
-      omega arith
-
--- what holds of all buckets holds of those with a key, and these have its bytes
-with_key-all : (p : Bucket → Bool) (q : Key) (bs : List Bucket) → T (list_all p bs) → T (list_all p (with_key q bs))
-with_key-all p q [] h = tt
-with_key-all p q (b ∷ bs) h =
-    elim (key_eq q (bucket_key b)) as (λ c. T (list_all p (cond c (b ∷ with_key q bs) (with_key q bs)))) [
-      | true ↦ both _ _ (and_left _ _ h) (with_key-all p q bs (and_right _ _ h))
-      | false ↦ with_key-all p q bs (and_right _ _ h)
-    ]
-
-with_key-some : (q : Key) (bs : List Bucket) → has_key q (map bucket_key bs) ≡ true → 0 < length (with_key q bs)
-with_key-some q [] e = absurd (subst T (sym e) tt)
-with_key-some q (b ∷ bs) e =
-    elim (key_eq q (bucket_key b)) as (λ c. (c || has_key q (map bucket_key bs)) ≡ true → 0 < length (cond c (b ∷ with_key q bs) (with_key q bs))) [
-      | true ↦ λ e. omega arith
-      | false ↦ λ e. with_key-some q bs e
-    ] e
 
 -- the bytes of buckets of one key: of the key for each, and of the children
 with_key-bytes : (q : Key) (bs : List Bucket) → sum_by bytes (with_key q bs) ≡ length (with_key q bs) * (128 + key_bytes q) + sum_by (λ b. sum_by node_cost b.children) (with_key q bs)

@@ -137,7 +137,7 @@ once_length k (j ∷ ks) =
     let rest = once_length k ks in
     elim (key_cmp k j) as (λ o. length (match_ordering o (k ∷ j ∷ ks) (j ∷ ks) (j ∷ insert_once key_cmp k ks)) ≤ suc (suc (length ks))) [ Less ↦ omega arith | Equal ↦ omega arith | Greater ↦ omega (arith, rest) ]
 
-distinct_length : (ks : List Key) → length (distinct_keys ks) ≤ length ks
+pub distinct_length : (ks : List Key) → length (distinct_keys ks) ≤ length ks
 distinct_length [] = omega arith
 distinct_length (k ∷ ks) = omega (arith, once_length k (distinct_keys ks), distinct_length ks)
 
@@ -164,7 +164,7 @@ found_light field (f ∷ fs) =
     let here = values_light f.values in
     elim (f.field == field) as (λ b. length (unwrap_or (option_map (λ (v : FieldValues). v.values) (cond b (Some f) (find (λ (v : FieldValues). v.field == field) fs))) []) ≤ sum_by field_weight (f ∷ fs)) [ true ↦ omega (arith, all, here) | false ↦ omega (arith, all, rest) ]
 
-values_or_light : (field : ℕ) (missing : Option Scalar) (row : PlacedRow) → length (values_or field missing row) ≤ row_weight row
+pub values_or_light : (field : ℕ) (missing : Option Scalar) (row : PlacedRow) → length (values_or field missing row) ≤ row_weight row
 values_or_light field missing row = let a = missing_length missing (values_of field row) in let b = found_light field row.values in omega (arith, a, b)
 
 term_keys_light : (field : ℕ) (include : Option (List Probe)) (exclude : List Probe) (missing : Option Scalar) (row : PlacedRow) → length (term_keys field include exclude missing row) ≤ row_weight row

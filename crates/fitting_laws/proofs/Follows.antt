@@ -37,7 +37,7 @@ interval_of m top context children (kind.Avg a b) e = refl
 interval_of m top context children (kind.ValueCount a b) e = refl
 
 module _ (m : Mapping) where
-  made_parts : (k : Kind) (children : List Made) (top : Bool) (context : ℕ) → is_made m k children top context ≡ true → (kind_fits m top context (map (λ c. c.kind) children) k ≡ true) × (list_all (λ c. c.fits false (handed context k)) children ≡ true)
+  pub made_parts : (k : Kind) (children : List Made) (top : Bool) (context : ℕ) → is_made m k children top context ≡ true → (kind_fits m top context (map (λ c. c.kind) children) k ≡ true) × (list_all (λ c. c.fits false (handed context k)) children ≡ true)
   made_parts k children top context h =
       let first = and_parts (kind_fits m top context (map (λ c. c.kind) children) k) ((not (is_metric k) || no_children children) && list_all (λ c. c.fits false (handed context k)) children) h in
       (first.0, (and_parts (not (is_metric k) || no_children children) (list_all (λ c. c.fits false (handed context k)) children) first.1).1)

@@ -18,7 +18,7 @@ use Rattle.fitting_laws.specs.Wholes.{answers_of, AreChosen}
 use Rattle.fitting_laws.proofs.Counting.{filter_counted, roots_counted}
 use Rattle.fitting_laws.proofs.Weights.{weights_agree}
 
-length_is : (rows : List PlacedRow) → length rows ≡ sum_by (λ (r : PlacedRow). 1) rows
+pub length_is : (rows : List PlacedRow) → length rows ≡ sum_by (λ (r : PlacedRow). 1) rows
 length_is [] = refl
 length_is (r ∷ rows) = let cons = sum_by-cons (λ (r : PlacedRow). 1) r rows in omega (arith, cons, length_is rows)
 

@@ -17,7 +17,8 @@ use Rattle.agg_reading.specs.declared.names.KindName.TheVariants as name
 use Rattle.agg_reading.specs.declared.parts.NamedOrder.{NamedOrder}
 use Rattle.agg_reading.specs.Reading.{Reading, refuse, or_refuse}
 use Rattle.agg_reading.specs.Pointer.{member_step}
-use Rattle.agg_reading.specs.Json.{object_at, known, json_at}
+use Rattle.agg_reading.specs.Json.{object_at, known, json_at, optional}
+use Rattle.agg_reading.specs.Numbers.{truth_at}
 use Rattle.agg_reading.specs.Terms.{terms_at}
 use Rattle.agg_reading.specs.Histogram.{histogram_at}
 use Rattle.agg_reading.specs.Metrics.{Metered, number_metric_at, any_metric_at, missing_kind_at, global_at, nested_context_at, outer_context_at}
@@ -262,7 +263,8 @@ module _ (m : Mapping) where
   unfolding search_in
   search_in-fits bytes ms =
       next_ok (AllFit true 0) SearchFits (children_in (aggregation_at 16 m true) 0 [] no_counts ms) _ (children_in-fit true (aggregation_at 16 m true) (agg_at-fits 16 true) 0 [] no_counts ms) (λ aggs a.
-      next_ok (λ q. query_fits m 0 q ≡ true) SearchFits (query_or_all m aggs.1.queries (get_member (codes "query") ms)) _ (or_all_fits aggs.1.queries (get_member (codes "query") ms)) (λ q b. and_from _ _ b a))
+      then_ok SearchFits (optional truth_at (codes "allow_partial_search_results") [] ms) _ (λ partial.
+      next_ok (λ q. query_fits m 0 q ≡ true) SearchFits (query_or_all m aggs.1.queries (get_member (codes "query") ms)) _ (or_all_fits aggs.1.queries (get_member (codes "query") ms)) (λ q b. and_from _ _ b a)))
 
   search_value-fits : (bytes : ℕ) (d : Data) → IfOk (search_value_at m bytes d) SearchFits
   unfolding search_value_at

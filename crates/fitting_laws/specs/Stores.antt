@@ -1,7 +1,7 @@
 -- Stores and lists of shards whose documents fit.
-use Rattle.std.specs.Prelude.{◌+◌, ◌<◌, ◌≤◌, List, length, sum_by, IsTrue}
+use Rattle.std.specs.Prelude.{◌<◌, ◌≤◌, List, sum_by, IsTrue}
 use Rattle.std.specs.List.{list_all}
-use Rattle.agg_model.specs.declared.limits.TheConstants.{MAX_PATHS, MAX_SHARDS, WEIGHT_LIMIT}
+use Rattle.agg_model.specs.declared.limits.TheConstants.{MAX_SHARDS, WEIGHT_LIMIT}
 use Rattle.agg_model.specs.declared.mapping.Mapping.{Mapping}
 use Rattle.agg_model.specs.declared.row.Document.{Document}
 use Rattle.agg_reading.specs.Store.{Store, live_documents, store_weight, shards_of}
@@ -9,6 +9,7 @@ use Rattle.agg_reading.specs.Script.{Loaded}
 use Rattle.agg_evaluation.specs.Rows.{rows_of_documents}
 use Rattle.agg_evaluation.specs.RowsWeight.{rows_weight}
 use Rattle.agg_model.specs.Contexts.{parents_before}
+use Rattle.agg_model.specs.MappingOrder.{IsOrdered}
 use Rattle.agg_evaluation.specs.DocumentFits.{all_fit}
 
 -- all live documents fit, and weigh less than WEIGHT_LIMIT together
@@ -23,8 +24,8 @@ pub record AreShards (m : Mapping) (shards : List (List Document)) : Type 0 wher
 -- what an index takes of what was loaded
 pub record IsIndexed (l : Loaded) : Type 0 where
   pub fitting : IsFitting l.index.mapping l.store
+  pub ordered : IsOrdered l.index.mapping
   pub paths : IsTrue (parents_before l.index.mapping)
-  pub few : length l.index.mapping.fields + length l.index.mapping.nested ≤ MAX_PATHS
   pub some : 1 ≤ l.index.shards
   pub at_most : l.index.shards ≤ MAX_SHARDS
   pub shards : AreShards l.index.mapping (shards_of l.store l.index.shards)

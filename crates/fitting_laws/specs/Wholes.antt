@@ -1,4 +1,4 @@
--- That the whole of the answers of any shards has numbers that fit, as a statement.
+-- The answers of some shards of an index, and which lists of shards those are.
 use Rattle.std.specs.Prelude.{◌<◌, ◌≤◌, List, map, length, sum_by, IsTrue}
 use Rattle.std.specs.List.{list_all}
 use Rattle.agg_model.specs.declared.limits.TheConstants.{MAX_SHARDS, WEIGHT_LIMIT}
@@ -7,13 +7,9 @@ use Rattle.agg_model.specs.declared.mapping.Mapping.{Mapping}
 use Rattle.agg_model.specs.declared.partial.Partial.{Partial}
 use Rattle.agg_model.specs.declared.row.Document.{Document}
 use Rattle.agg_evaluation.specs.Shard.{shard_answer}
-use Rattle.agg_evaluation.specs.Trees.{numbers_fit}
-use Rattle.agg_evaluation.specs.Whole.{whole}
 use Rattle.agg_reading.specs.Store.{weight}
 use Rattle.agg_evaluation.specs.Rows.{rows_of_documents}
-use Rattle.agg_model.specs.Contexts.{parents_before}
 use Rattle.agg_evaluation.specs.DocumentFits.{all_fit}
-use Rattle.agg_evaluation.specs.SearchFits.{search_fits}
 
 -- the answers of shards with these documents
 abbrev pub answers_of : Search → List (List Document) → List Partial
@@ -24,7 +20,3 @@ pub record AreChosen (m : Mapping) (shards : List (List Document)) : Type 0 wher
   pub fit : IsTrue (list_all (all_fit m) shards)
   pub few : length shards ≤ MAX_SHARDS
   pub light : sum_by (sum_by weight) shards < WEIGHT_LIMIT
-
--- what is to be proved of them
-abbrev pub WholesFit : Type 0
-WholesFit = (m : Mapping) (search : Search) (shards : List (List Document)) → IsTrue (parents_before m) → IsTrue (search_fits m search) → AreChosen m shards → IsTrue (numbers_fit (whole search (answers_of search shards)))

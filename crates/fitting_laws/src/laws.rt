@@ -18,6 +18,7 @@ ghost use Rattle.agg_evaluation.specs.Rows.{PlacedRow, roots, rows_of_documents}
 ghost use Rattle.agg_model.specs.declared.aggregation.Kind.{Kind};
 ghost use Rattle.agg_model.specs.declared.aggregation.Search.{Search};
 ghost use Rattle.agg_model.specs.declared.key.Key.{Key};
+ghost use Rattle.agg_evaluation.specs.Trees.{numbers_fit};
 ghost use Rattle.agg_evaluation.specs.Whole.{whole};
 ghost use Rattle.agg_spec.specs.Pages.{search_after};
 ghost use Rattle.fitting_laws.specs.Pages.{search_takes};
@@ -98,6 +99,13 @@ pub fn rows_of_fitting_documents_are_apart()
 /// The hits of the whole of any shards of an index are fewer than 2^32.
 pub fn hits_of_shards_fit()
     ensures { (m : Mapping) (search : Search) (shards : List (List Document)) → AreChosen m shards → (whole search (answers_of search shards)).hits < 2 ^ 32 }
+{}
+
+/// The whole of the answers of any shards of an index, each once and in any order, has numbers that fit their types: counts,
+/// errors and cuts below 2^64, sums within 128 bits.
+pub fn wholes_of_shards_fit()
+    ensures { (m : Mapping) (search : Search) (shards : List (List Document)) → IsTrue (parents_before m) → IsTrue (search_fits m search) → AreChosen m shards →
+        IsTrue (numbers_fit (whole search (answers_of search shards))) }
 {}
 
 /// Each nested path of a mapping that is read stands behind the one around it.

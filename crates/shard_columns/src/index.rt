@@ -2,6 +2,7 @@ ghost use Rattle.std.specs.Prelude.{◌≡◌, ◌<◌, ◌≤◌, ◌+◌, leng
 ghost use Rattle.std.specs.List.{list_all};
 ghost use Rattle.agg_model.specs.declared.limits.TheConstants.{MAX_PATHS, MAX_SHARDS, WEIGHT_LIMIT};
 ghost use Rattle.agg_model.specs.Contexts.{parents_before};
+ghost use Rattle.agg_model.specs.MappingOrder.{IsOrdered};
 ghost use Rattle.agg_evaluation.specs.DocumentFits.{all_fit};
 ghost use Rattle.agg_evaluation.specs.Rows.{rows_of_documents};
 ghost use Rattle.shard_columns.specs.Built.{columns_from};
@@ -14,7 +15,8 @@ use std::alloc::{AllocError, Global};
 /// An index: its name, its mapping, and from 1 to `MAX_SHARDS` shards ('Index modules' of Elasticsearch Reference 8).
 ///
 /// Each shard was built with this mapping from documents that fit it, and all of them weigh less than `WEIGHT_LIMIT`
-/// together. The mapping has up to `MAX_PATHS` fields and nested paths, and each path stands behind the one around it.
+/// together. The mapping's paths stand in byte order, up to `MAX_PATHS` fields and nested paths, and each nested path behind
+/// the one around it: searches can be read for it.
 #[derive(Drop)]
 pub struct Index {
     pub name: Text,
@@ -22,7 +24,7 @@ pub struct Index {
     pub shards: List<Shard>,
     ghost some_shards: { 0 < length shards },
     ghost few_shards: { length shards ≤ MAX_SHARDS },
-    ghost few_paths: { length mapping.fields + length mapping.nested ≤ MAX_PATHS },
+    ghost ordered: { IsOrdered mapping },
     ghost paths: { IsTrue (parents_before mapping) },
     ghost built: { ∥ AreShardsOf mapping shards ∥₁ },
     ghost light: { shards_weight shards < WEIGHT_LIMIT },
@@ -50,8 +52,8 @@ fn shards_from(
 impl Index {
     /// An index with a shard for each list of documents, from 1 to `MAX_SHARDS`, in time n log n.
     ///
-    /// The mapping has up to `MAX_PATHS` fields and nested paths, each path behind the one around it. The documents are such
-    /// as their reader gives them for it, with rows, values and bytes of words that are fewer than `WEIGHT_LIMIT` together.
+    /// The mapping's paths stand in byte order, up to `MAX_PATHS` fields and nested paths, each path behind the one around it.
+    /// The documents are such as their reader gives them for it, with rows, values and bytes of words that are fewer than `WEIGHT_LIMIT` together.
     pub fn build(
         alloc: Global,
         name: Text,
@@ -60,7 +62,7 @@ impl Index {
     ) -> Result<Index, AllocError>
         requires some { 0 < length documents.now }
         requires at_most { length documents.now ≤ MAX_SHARDS }
-        requires few { length mapping.fields + length mapping.nested ≤ MAX_PATHS }
+        requires ordered { IsOrdered mapping }
         requires paths { IsTrue (parents_before mapping) }
         requires fit { IsTrue (list_all (all_fit mapping) documents.now) }
         requires light { lists_weight documents.now < WEIGHT_LIMIT }

@@ -17,9 +17,9 @@ invariant_of-result c =
     record {
       some_shards = omega (arith, size, c.requires.some);
       few_shards = omega (arith, size, c.requires.at_most);
-      few_paths = c.requires.few;
+      ordered = c.requires.ordered;
       paths = c.requires.paths;
-      built = ∣ subst (AreShardsOf m) (sym shards_are) (are-shards m lists c.requires.few c.requires.paths c.requires.fit c.requires.light) ∣₁;
+      built = ∣ subst (AreShardsOf m) (sym shards_are) (are-shards m lists c.requires.ordered.few c.requires.paths c.requires.fit c.requires.light) ∣₁;
       light = subst (λ (shards : List Columns). shards_weight shards < WEIGHT_LIMIT) (sym shards_are) (omega (arith, weigh-same m lists, c.requires.light));
     }
 

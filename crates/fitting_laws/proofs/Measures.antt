@@ -1,0 +1,163 @@
+-- The numbers of metrics: a count is at most the weight of the rows, and a sum of values of 64 bits at most so many times 2^63.
+use Rattle.std.specs.Prelude.{◌≡◌, refl, ℕ, suc, ◌+◌, ◌*◌, ◌^◌, ◌==◌, ◌≤◌, Bool, true, false, cond, ◌&&◌, List, [], ◌∷◌, ◌++◌, map, filter_map, flat_map, find, length, sum_by, slice_get, Option, Some, None, option_map, unwrap_or, nat_le, ℤ}
+use Rattle.std.specs.List.{list_all}
+use Rattle.std.specs.Option.{option_map_or}
+use Rattle.std.proofs.Common.{sym, ◌∙◌, ap, subst, arith, length-append}
+use Rattle.std.proofs.lemmas.Bool.{false≢true, and_parts, and_from}
+use Rattle.std.proofs.lemmas.List.Folds.{list_all-append}
+use Rattle.std.proofs.lemmas.List.Sums.{sum_by-cons}
+use Rattle.agg_model.specs.FieldKinds.{fits_below, fits_kind}
+use Rattle.agg_model.specs.declared.mapping.Field.{Field}
+use Rattle.agg_model.specs.declared.mapping.FieldKind.{FieldKind}
+use Rattle.agg_model.specs.declared.mapping.FieldKind.TheVariants.{Long, Integer, Short, Byte, Keyword, Boolean}
+use Rattle.agg_model.specs.declared.mapping.Mapping.{Mapping}
+use Rattle.agg_model.specs.declared.row.FieldValues.{FieldValues}
+use Rattle.agg_model.specs.declared.row.Scalar.{Scalar}
+use Rattle.agg_model.specs.declared.row.Scalar.TheVariants.{Whole, Word, Flag}
+use Rattle.agg_evaluation.specs.Counted.{IsCounted}
+use Rattle.agg_evaluation.specs.DocumentFits.{is_value, is_own, is_number_of_values, ascend, field_fits, fields_fit}
+use Rattle.agg_evaluation.specs.Keys.{or_missing, values_or}
+use Rattle.agg_evaluation.specs.PlacedFits.{placed_fits, rows_placed}
+use Rattle.agg_evaluation.specs.QueryFits.{field_is}
+use Rattle.agg_evaluation.specs.Rows.{PlacedRow, values_of}
+use Rattle.agg_evaluation.specs.RowsWeight.{row_weight, rows_weight}
+use Rattle.agg_evaluation.specs.SearchFits.{is_stored, is_missing}
+use Rattle.agg_evaluation.specs.Shard.{integer_of, int_sum, metric_of}
+use Rattle.list_laws.proofs.Lists.{length-flat_map}
+use Rattle.list_laws.proofs.Sums.{sum_by-at_most}
+use Rattle.fitting_laws.proofs.Counting.{values_or_light}
+use Rattle.fitting_laws.proofs.Sizes.{size, size_plus, size_fits, size_wider}
+
+-- a value that is no number, or one of 64 bits
+abbrev pub is_64 : Scalar → Bool
+is_64 (Whole z) = fits_below (2 ^ 63) z
+is_64 _ = true
+
+value_64 : (k : FieldKind) (v : Scalar) → is_value k v ≡ true → is_64 v ≡ true
+value_64 k (Word w) h = refl
+value_64 k (Flag b) h = refl
+value_64 Long (Whole z) h = h
+value_64 Integer (Whole z) h = size_wider (2 ^ 31) (2 ^ 63) z (omega arith) h
+value_64 Short (Whole z) h = size_wider (2 ^ 15) (2 ^ 63) z (omega arith) h
+value_64 Byte (Whole z) h = size_wider (2 ^ 7) (2 ^ 63) z (omega arith) h
+value_64 Keyword (Whole z) h = absurd (false≢true h)
+value_64 Boolean (Whole z) h = absurd (false≢true h)
+
+stored_64 : (k : FieldKind) (v : Scalar) → is_stored k v ≡ true → is_64 v ≡ true
+stored_64 k (Word w) h = refl
+stored_64 k (Flag b) h = refl
+stored_64 Long (Whole z) h = h
+stored_64 Integer (Whole z) h = h
+stored_64 Short (Whole z) h = h
+stored_64 Byte (Whole z) h = h
+stored_64 Keyword (Whole z) h = absurd (false≢true h)
+stored_64 Boolean (Whole z) h = absurd (false≢true h)
+
+abbrev pub all_64 : List Scalar → Bool
+all_64 vs = list_all is_64 vs
+
+values_64 : (k : FieldKind) (vs : List Scalar) → list_all (is_value k) vs ≡ true → all_64 vs ≡ true
+values_64 k [] h = refl
+values_64 k (v ∷ vs) h = let parts = and_parts (is_value k v) (list_all (is_value k) vs) h in and_from _ _ (value_64 k v parts.0) (values_64 k vs parts.1)
+
+module _ (m : Mapping) where
+  own_64 : (context field : ℕ) (vs : List Scalar) → is_own m context field vs ≡ true → all_64 vs ≡ true
+  own_64 context field vs h =
+      elim (slice_get m.fields field) as (λ o. option_map_or (λ (f : Field). (f.context == context) && list_all (is_value f.kind) vs) o false ≡ true → all_64 vs ≡ true) [
+        | None ↦ λ e. absurd (false≢true e)
+        | Some f ↦ λ e. values_64 f.kind vs (and_parts (f.context == context) (list_all (is_value f.kind) vs) e).1
+      ] h
+
+  found_64 : (context least field : ℕ) (fs : List FieldValues) → fields_fit m context least fs ≡ true → all_64 (unwrap_or (option_map (λ (v : FieldValues). v.values) (find (λ (v : FieldValues). v.field == field) fs)) []) ≡ true
+  found_64 context least field [] h = refl
+  found_64 context least field (f ∷ fs) h =
+      let first = (and_parts (nat_le least f.field) (field_fits m context f && fields_fit m context (f.field + 1) fs) h).1 in
+      let parts = and_parts (field_fits m context f) (fields_fit m context (f.field + 1) fs) first in
+      let own = (and_parts (is_own m context f.field f.values) (is_number_of_values (length f.values) && ascend f.values) parts.0).0 in
+      elim (f.field == field) as (λ b. all_64 (unwrap_or (option_map (λ (v : FieldValues). v.values) (cond b (Some f) (find (λ (v : FieldValues). v.field == field) fs))) []) ≡ true) [
+        | true ↦ own_64 context f.field f.values own
+        | false ↦ found_64 context (f.field + 1) field fs parts.1
+      ]
+
+  -- the values of a placed row, and what stands for them
+  pub row_64 : (field : ℕ) (missing : Option Scalar) → field_is m (λ k. is_missing k missing) field ≡ true → (row : PlacedRow) → placed_fits m row ≡ true → all_64 (values_or field missing row) ≡ true
+  row_64 field missing h row fits = or_64 (values_of field row) (found_64 row.context 0 field row.values (and_parts (nat_le row.context (length m.nested)) (fields_fit m row.context 0 row.values) fits).1)
+    where
+      stands : (missing : Option Scalar) (o : Option Field) → option_map_or (λ (f : Field). is_missing f.kind missing) o false ≡ true → all_64 (or_missing missing []) ≡ true
+      stands None o e = refl
+      stands (Some s) None e = absurd (false≢true e)
+      stands (Some s) (Some f) e = and_from _ _ (stored_64 f.kind s e) refl
+
+      or_64 : (vs : List Scalar) → all_64 vs ≡ true → all_64 (or_missing missing vs) ≡ true
+      or_64 [] e = stands missing (slice_get m.fields field) h
+      or_64 (v ∷ vs) e = e
+
+-- one where a test fails
+abbrev missing_one : Bool → ℕ
+missing_one true = 0
+missing_one false = 1
+
+-- what holds of each row of a shard holds of counted ones
+pub counted_hold : (p : PlacedRow → Bool) (all : List PlacedRow) (context : ℕ) (rows : List PlacedRow) → list_all p all ≡ true → IsCounted all context rows → list_all p rows ≡ true
+counted_hold p all context rows h counted = none_left rows (let less = counted.within (λ r. missing_one (p r)) in let none = no_miss all h in omega (arith, less, none))
+  where
+    no_miss : (rows : List PlacedRow) → list_all p rows ≡ true → sum_by (λ (r : PlacedRow). missing_one (p r)) rows ≡ 0
+    no_miss [] h = refl
+    no_miss (r ∷ rows) h =
+        let parts = and_parts (p r) (list_all p rows) h in
+        let here : missing_one (p r) ≡ 0 = ap missing_one parts.0 in
+        let cons = sum_by-cons (λ (r : PlacedRow). missing_one (p r)) r rows in
+        let rest = no_miss rows parts.1 in
+        omega (arith, here, cons, rest)
+
+    none_left : (rows : List PlacedRow) → sum_by (λ (r : PlacedRow). missing_one (p r)) rows ≤ 0 → list_all p rows ≡ true
+    none_left [] h = refl
+    none_left (r ∷ rows) h =
+        let cons = sum_by-cons (λ (r : PlacedRow). missing_one (p r)) r rows in
+        and_from _ _ (zero_is (p r) (omega (arith, cons, h))) (none_left rows (omega (arith, cons, h)))
+      where
+        zero_is : (b : Bool) → missing_one b ≤ 0 → b ≡ true
+        zero_is true h = refl
+        zero_is false h = absurd (omega (arith, h))
+
+-- the size of the sum of values
+sum_64 : (vs : List Scalar) → all_64 vs ≡ true → size (int_sum (filter_map integer_of vs)) ≤ length vs * 2 ^ 63
+sum_64 [] h = omega arith
+sum_64 (Whole z ∷ vs) h =
+    let parts = and_parts (fits_below (2 ^ 63) z) (all_64 vs) h in
+    let one = size_fits (2 ^ 63) z parts.0 in
+    let both = size_plus z (int_sum (filter_map integer_of vs)) in
+    let rest = sum_64 vs parts.1 in
+    omega (arith, one, both, rest)
+sum_64 (Word w ∷ vs) h = let rest = sum_64 vs h in omega (arith, rest)
+sum_64 (Flag b ∷ vs) h = let rest = sum_64 vs h in omega (arith, rest)
+
+module _ (all : List PlacedRow) (field : ℕ) (missing : Option Scalar) where
+  -- there are no more values than the shard weighs
+  pub counts_light : (context : ℕ) (rows : List PlacedRow) → IsCounted all context rows → length (flat_map (values_or field missing) rows) ≤ rows_weight all
+  counts_light context rows counted =
+      let a = length-flat_map (values_or field missing) rows in
+      let b = sum_by-at_most (λ (r : PlacedRow). length (values_or field missing r)) row_weight rows (values_or_light field missing) in
+      let c = counted.within row_weight in
+      omega (arith, a, b, c)
+
+  all_rows_64 : (rows : List PlacedRow) → list_all (λ (r : PlacedRow). all_64 (values_or field missing r)) rows ≡ true → all_64 (flat_map (values_or field missing) rows) ≡ true
+  all_rows_64 [] h = refl
+  all_rows_64 (r ∷ rows) h =
+      let parts = and_parts (all_64 (values_or field missing r)) (list_all (λ (r : PlacedRow). all_64 (values_or field missing r)) rows) h in
+      list_all-append is_64 (values_or field missing r) (flat_map (values_or field missing) rows) ∙ and_from _ _ parts.0 (all_rows_64 rows parts.1)
+
+  module _ (m : Mapping) (h : field_is m (λ k. is_missing k missing) field ≡ true) (placed : rows_placed m all ≡ true) where
+    each_64 : (rows : List PlacedRow) → list_all (placed_fits m) rows ≡ true → list_all (λ (r : PlacedRow). all_64 (values_or field missing r)) rows ≡ true
+    each_64 [] e = refl
+    each_64 (r ∷ rows) e = let parts = and_parts (placed_fits m r) (list_all (placed_fits m) rows) e in and_from _ _ (row_64 m field missing h r parts.0) (each_64 rows parts.1)
+
+    pub counted_64 : (context : ℕ) (rows : List PlacedRow) → IsCounted all context rows → list_all (λ (r : PlacedRow). all_64 (values_or field missing r)) rows ≡ true
+    counted_64 context rows counted = each_64 rows (counted_hold (placed_fits m) all context rows placed counted)
+
+    -- and their sum is no more than so many times 2^63
+    pub sums_light : (context : ℕ) (rows : List PlacedRow) → IsCounted all context rows → size (metric_of (flat_map (values_or field missing) rows)).sum ≤ rows_weight all * 2 ^ 63
+    sums_light context rows counted =
+        let count = counts_light context rows counted in
+        let sum = sum_64 (flat_map (values_or field missing) rows) (all_rows_64 rows (counted_64 context rows counted)) in
+        omega (arith, count, sum)
