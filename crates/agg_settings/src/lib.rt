@@ -4,10 +4,13 @@
 #![tactic(auto)]
 
 mod amount;
+mod change;
+mod change_fault;
 mod command;
 mod entries;
 mod fault;
 mod generate;
+mod names;
 mod numbers;
 mod options;
 mod settings;
@@ -16,5 +19,7 @@ mod tests;
 mod values;
 
 pub use amount::byte_size;
+pub use change::is_settings_line;
+pub use change_fault::ChangeFault;
 pub use fault::SettingsFault;
 pub use settings::settings_of;

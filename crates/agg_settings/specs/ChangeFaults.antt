@@ -1,0 +1,10 @@
+-- What an error of a change says of its definition (Elasticsearch Reference 8, 'API conventions': errors).
+use Rattle.std.specs.Prelude.{◌≡◌, Err, ⊤}
+use Rattle.agg_settings.specs.Changes.{Change}
+use Rattle.agg_settings.specs.declared.change_fault.ChangeFault.{ChangeFault}
+use Rattle.agg_settings.specs.declared.change_fault.ChangeFault.TheVariants.{Refused, Memory}
+
+-- the name that is refused; want of memory says nothing
+abbrev pub Refuses : ChangeFault → Change → Type 0
+Refuses (Refused name) change = change ≡ Err name
+Refuses Memory change = ⊤
