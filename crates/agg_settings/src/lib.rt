@@ -4,7 +4,6 @@
 #![tactic(auto)]
 
 mod amount;
-mod change;
 mod change_fault;
 mod command;
 mod entries;
@@ -14,12 +13,13 @@ mod names;
 mod numbers;
 mod options;
 mod settings;
+mod settings_line;
 #[cfg(test)]
 mod tests;
 mod values;
 
 pub use amount::byte_size;
-pub use change::is_settings_line;
 pub use change_fault::ChangeFault;
 pub use fault::SettingsFault;
 pub use settings::settings_of;
+pub use settings_line::{change, is_settings_line};
