@@ -1,6 +1,7 @@
-//! The words of the command line, read to the settings of a run or to the first word that is not in the grammar.
+//! The words of the command line, read to the settings of a run or to the first word that is not in the grammar, and
+//! the change of these settings by a settings line.
 //!
-//! The grammar and the settings that words give stand as definitions in `specs/`.
+//! The grammar, the settings that words give and those after a settings line stand as definitions in `specs/`.
 #![tactic(auto)]
 
 mod amount;

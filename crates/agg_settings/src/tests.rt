@@ -346,6 +346,14 @@ fn a_settings_line_is_refused_with_its_first_bad_name(rt: HostRuntime) -> Result
     Ok(())
 }
 
+/// Whether a JSON text is a settings line.
+fn is_line(alloc: Global, text: &str) -> Result<bool, Fail> {
+    match reading(alloc, text.as_bytes())? {
+        Some(value) => Ok(is_settings_line(&value)),
+        None => Err(Fail::new("no JSON")),
+    }
+}
+
 #[test]
 fn a_header_is_no_settings_line(rt: HostRuntime) -> Result<(), Fail> {
     for line in [
@@ -354,8 +362,7 @@ fn a_header_is_no_settings_line(rt: HostRuntime) -> Result<(), Fail> {
         r#"{"index":"i"}"#,
         r#"["persistent"]"#,
     ] {
-        let line = reading(rt.alloc(), line.as_bytes())?;
-        assert!(rt; !line.is_some_and(|line| is_settings_line(&line)));
+        assert!(rt; !is_line(rt.alloc(), line)?, "{line}");
     }
     Ok(())
 }
