@@ -3,7 +3,7 @@
 ghost use Rattle.std.specs.Prelude.{◌≡◌, ◌≤◌, IfOk, IfErr, IfSome, IsErrAnd, Ok, option_map, true};
 ghost use Rattle.serde_json.specs.View.{members_view, view};
 ghost use Rattle.agg_settings.specs.SettingsLines.{is_settings_line, scope_of};
-ghost use Rattle.agg_settings.specs.Changes.{batch_after, batch_in, buckets_after, buckets_in, changed, count_in, first_refused, is_limit, is_taken, limit_after, limit_in, limits_after, settings_after};
+ghost use Rattle.agg_settings.specs.Changes.{batch_after, batch_in, buckets_after, buckets_in, changed, count_in, first_refused, is_taken, limit_after, limit_in, limits_after, settings_after};
 ghost use Rattle.agg_settings.specs.ChangeFaults.{IsRefused, Refuses};
 ghost use Rattle.agg_settings.specs.Ranges.{AreInRange, AreLimits};
 
