@@ -62,7 +62,7 @@ slice_get_mapped f [] j x e = none_some x e
 slice_get_mapped f (y ∷ xs) zero x e = ap (λ z. Some (f z)) (some_same y x e)
 slice_get_mapped f (y ∷ xs) (suc j) x e = slice_get_mapped f xs j x e
 
-all_at : {A : Type 0} (p : A → Bool) (xs : List A) (j : ℕ) (x : A) → list_all p xs ≡ true → slice_get xs j ≡ Some x → p x ≡ true
+pub all_at : {A : Type 0} (p : A → Bool) (xs : List A) (j : ℕ) (x : A) → list_all p xs ≡ true → slice_get xs j ≡ Some x → p x ≡ true
 all_at p [] j x h e = none_some x e
 all_at p (y ∷ xs) zero x h e = subst (λ z. p z ≡ true) (some_same y x e) (and_parts (p y) (list_all p xs) h).0
 all_at p (y ∷ xs) (suc j) x h e = all_at p xs j x (and_parts (p y) (list_all p xs) h).1 e

@@ -19,6 +19,7 @@ ghost use Rattle.agg_evaluation.specs.Rows.{PlacedRow, roots, rows_of_documents}
 ghost use Rattle.agg_model.specs.declared.aggregation.Kind.{Kind};
 ghost use Rattle.agg_model.specs.declared.aggregation.Search.{Search};
 ghost use Rattle.agg_model.specs.declared.key.Key.{Key};
+ghost use Rattle.agg_evaluation.specs.Finishable.{can_finish};
 ghost use Rattle.agg_evaluation.specs.Trees.{numbers_fit};
 ghost use Rattle.agg_evaluation.specs.Whole.{whole};
 ghost use Rattle.agg_spec.specs.Pages.{search_after};
@@ -108,6 +109,12 @@ pub fn hits_of_shards_fit()
 pub fn wholes_of_shards_fit()
     ensures { (m : Mapping) (search : Search) (shards : List (List Document)) → IsTrue (parents_before m) → IsTrue (search_fits m search) → AreChosen m shards →
         IsTrue (numbers_fit (whole search (answers_of search shards))) }
+{}
+
+/// The same wholes can be finished: their terms fit, and their keys are such as the aggregations make.
+pub fn wholes_of_shards_can_finish()
+    ensures { (m : Mapping) (search : Search) (shards : List (List Document)) → IsTrue (parents_before m) → IsTrue (search_fits m search) → AreChosen m shards →
+        IsTrue (can_finish search (whole search (answers_of search shards))) }
 {}
 
 /// Each nested path of a mapping that is read stands behind the one around it.
