@@ -1,5 +1,5 @@
 //! Each function has a law as its contract, over all values of the definitions, and does nothing.
-ghost use Rattle.std.specs.Prelude.{◌≡◌, ℕ, ◌+◌, ◌^◌, ◌<◌, ◌≤◌, List, length, sum_by, IsTrue, IfOk};
+ghost use Rattle.std.specs.Prelude.{◌≡◌, ℕ, ◌+◌, ◌^◌, ◌<◌, ◌≤◌, List, length, sum_by, IsTrue, IfOk, IfSome};
 ghost use Rattle.agg_model.specs.declared.limits.TheConstants.{MAX_PATHS, WEIGHT_LIMIT};
 ghost use Rattle.agg_model.specs.declared.bulk.Action.{Action};
 ghost use Rattle.agg_model.specs.declared.mapping.Mapping.{Mapping};
@@ -22,7 +22,8 @@ ghost use Rattle.agg_model.specs.declared.key.Key.{Key};
 ghost use Rattle.agg_evaluation.specs.Finishable.{can_finish};
 ghost use Rattle.agg_evaluation.specs.Trees.{numbers_fit};
 ghost use Rattle.agg_evaluation.specs.Whole.{whole};
-ghost use Rattle.agg_spec.specs.Pages.{search_after};
+ghost use Rattle.agg_spec.specs.Index.{Index};
+ghost use Rattle.agg_spec.specs.Pages.{is_paged, next_search, search_after};
 ghost use Rattle.fitting_laws.specs.Pages.{search_takes};
 ghost use Rattle.agg_model.specs.Contexts.{parents_before};
 ghost use Rattle.fitting_laws.specs.Wholes.{answers_of, AreChosen};
@@ -122,7 +123,10 @@ pub fn paths_of_mappings_stand_in_order()
     ensures { (bytes : List ℕ) → IfOk (index_line_at bytes) (λ l. IsTrue (parents_before l.mapping)) }
 {}
 
-/// The next page of a search that is made for a mapping is one as well, behind a key with a part for each source.
+/// The next page of a search that is made for a mapping is one as well: behind each key with a part for each source, and
+/// so behind the last key of the answer of any index.
 pub fn next_pages_fit()
-    ensures { (m : Mapping) (s : Search) (key : Key) → IsTrue (search_takes key s) → IsTrue (search_fits m s) → IsTrue (search_fits m (search_after s key)) }
+    ensures behind { (m : Mapping) (s : Search) (key : Key) → IsTrue (search_takes key s) → IsTrue (search_fits m s) → IsTrue (search_fits m (search_after s key)) }
+    ensures next { (index : Index) (s : Search) → IsTrue (search_fits index.mapping s) →
+        IfSome (next_search index (is_paged s.aggs) s) (λ next. IsTrue (search_fits index.mapping next)) }
 {}
