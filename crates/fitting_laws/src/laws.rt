@@ -1,5 +1,5 @@
 //! Each function has a law as its contract, over all values of the definitions, and does nothing.
-ghost use Rattle.std.specs.Prelude.{◌≡◌, ℕ, ◌+◌, ◌^◌, ◌<◌, ◌≤◌, List, length, sum_by, IsTrue, IfOk, IfSome};
+ghost use Rattle.std.specs.Prelude.{◌≡◌, ℕ, ◌+◌, ◌^◌, ◌<◌, ◌≤◌, List, ◌++◌, length, IsPermutation, sum_by, IsTrue, IfOk, IfSome};
 ghost use Rattle.agg_model.specs.declared.limits.TheConstants.{MAX_PATHS, WEIGHT_LIMIT};
 ghost use Rattle.agg_model.specs.declared.bulk.Action.{Action};
 ghost use Rattle.agg_model.specs.declared.mapping.Mapping.{Mapping};
@@ -11,7 +11,7 @@ ghost use Rattle.agg_evaluation.specs.PlacedFits.{rows_placed};
 ghost use Rattle.agg_reading.specs.IndexLine.{index_line_at};
 ghost use Rattle.agg_model.specs.Lines.{Line};
 ghost use Rattle.agg_reading.specs.Query.{query_from};
-ghost use Rattle.agg_reading.specs.Script.{loaded};
+ghost use Rattle.agg_reading.specs.Script.{Loaded, loaded};
 ghost use Rattle.agg_reading.specs.Request.{search_of};
 ghost use Rattle.agg_evaluation.specs.Groups.{under, group, total_key_count};
 ghost use Rattle.agg_evaluation.specs.Placement.{has_globals_at_top};
@@ -103,6 +103,12 @@ pub fn rows_of_fitting_documents_are_apart()
 /// The hits of the whole of any shards of an index are fewer than 2^32.
 pub fn hits_of_shards_fit()
     ensures { (m : Mapping) (search : Search) (shards : List (List Document)) → AreChosen m shards → (whole search (answers_of search shards)).hits < 2 ^ 32 }
+{}
+
+/// All shards of what is loaded are chosen ones, and so are any of them, each once and in any order: a batch, for example.
+pub fn any_shards_of_an_index_are_chosen()
+    ensures index { (l : Loaded) → IsIndexed l → AreChosen l.index.mapping (shards_of l.store l.index.shards) }
+    ensures any { (m : Mapping) (shards chosen others : List (List Document)) → AreChosen m shards → IsPermutation shards (chosen ++ others) → AreChosen m chosen }
 {}
 
 /// The whole of the answers of any shards of an index, each once and in any order, has numbers that fit their types: counts,
