@@ -1,11 +1,11 @@
 -- The keys of rows that fit: those of a histogram are starts of intervals near the range of 64 bits, and those of a composite
 -- have a part for each source.
-use Rattle.std.specs.Prelude.{◌≡◌, refl, ℕ, suc, ◌+◌, ◌^◌, ◌<◌, ◌==◌, ℤ, pos, negsuc, neg_ℤ, ◌+ℤ◌, ◌-ℤ◌, ◌≤ℤ◌, ◌<ℤ◌, Bool, true, false, cond, ◌&&◌, T, List, [], ◌∷◌, ◌++◌, map, filter, flat_map, length, int_le, int_lt, nat_le, Option}
+use Rattle.std.specs.Prelude.{◌≡◌, refl, ℕ, suc, ◌^◌, ◌<◌, ◌==◌, ℤ, pos, negsuc, neg_ℤ, ◌-ℤ◌, ◌≤ℤ◌, ◌<ℤ◌, Bool, true, false, cond, ◌&&◌, T, List, [], ◌∷◌, ◌++◌, map, filter, flat_map, length, int_le, int_lt, Option}
 use Rattle.std.specs.List.{list_all}
 use Rattle.std.specs.Ordering.{int_eq, match_ordering}
 use Rattle.std.specs.declared.cmp.Ordering.TheVariants.{Less, Equal, Greater}
 use Rattle.std.proofs.Common.{sym, ◌∙◌, ap, subst, arith}
-use Rattle.std.proofs.lemmas.Bool.{false≢true, and_parts, and_from}
+use Rattle.std.proofs.lemmas.Bool.{and_parts, and_from}
 use Rattle.std.proofs.lemmas.Bool.Decides.{nat_tests}
 use Rattle.std.proofs.lemmas.Cmp.{int_eq_equiv}
 use Rattle.std.proofs.lemmas.Int.{ints}
@@ -18,7 +18,6 @@ use Rattle.agg_model.specs.declared.row.Scalar.{Scalar}
 use Rattle.agg_model.specs.declared.row.Scalar.TheVariants.{Whole, Word, Flag}
 use Rattle.agg_evaluation.specs.CompositeKeys.{has_parts, is_composite_of}
 use Rattle.agg_evaluation.specs.Finishable.{is_near, is_histogram_key}
-use Rattle.agg_evaluation.specs.Intervals.{IsIntervalOf}
 use Rattle.agg_evaluation.specs.KeyOrder.{key_cmp}
 use Rattle.agg_evaluation.specs.Keys.{distinct_keys, values_or, interval_start, interval_key, is_between, histogram_keys, combinations, source_keys, composite_keys}
 use Rattle.agg_evaluation.specs.Rows.{PlacedRow}
@@ -26,7 +25,7 @@ use Rattle.agg_evaluation.proofs.FoldLaws.{out-Many}
 use Rattle.agg_evaluation.proofs.IntervalLaws.{interval_start-is, interval-unique}
 use Rattle.list_laws.specs.Sorting.{insert_once}
 use Rattle.list_laws.proofs.Booleans.{and_left, and_right, both, holds}
-use Rattle.fitting_laws.proofs.Measures.{is_64, all_64}
+use Rattle.fitting_laws.proofs.Measures.{all_64}
 
 module _ (p : Key → Bool) where
   once_all : (k : Key) (ks : List Key) → T (p k) → T (list_all p ks) → T (list_all p (insert_once key_cmp k ks))

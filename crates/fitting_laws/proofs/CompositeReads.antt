@@ -1,5 +1,5 @@
 -- Composites that are read.
-use Rattle.std.specs.Prelude.{◌≡◌, refl, ℕ, ◌+◌, ◌<◌, ◌≤◌, ◌==◌, List, [], ◌∷◌, ◌++◌, map, length, Option, Some, None, Result, Ok, Err, Bool, true, false, ◌&&◌, cond, nat_le, IfOk, IfSome, option_map, codes, unwrap_or, is_some}
+use Rattle.std.specs.Prelude.{◌≡◌, refl, ℕ, ◌+◌, ◌<◌, ◌≤◌, List, [], ◌∷◌, ◌++◌, map, length, Option, Some, None, Result, Ok, Err, Bool, true, false, ◌&&◌, cond, nat_le, IfOk, IfSome, option_map, codes, unwrap_or, is_some}
 use Rattle.std.specs.List.{list_all}
 use Rattle.std.specs.Option.{option_map_or}
 use Rattle.std.proofs.Common.{◌∙◌, ap, subst, arith, length-append}
@@ -25,7 +25,6 @@ use Rattle.agg_reading.specs.After.{part_at, source_of, part_of, parts_from, nam
 use Rattle.agg_model.specs.declared.key.Key.{Key}
 use Rattle.agg_model.specs.declared.key.Key.TheVariants as key
 use Rattle.agg_evaluation.proofs.FoldLaws.{out-Many}
-use Rattle.agg_evaluation.specs.Folds.{fold_key}
 use Rattle.std.specs.Prelude.{find, flat_map, option_to_list, ◌||◌, ◌⊎◌}
 use Rattle.std.specs.List.{list_any}
 use Rattle.std.specs.Str.{bytes_eq}

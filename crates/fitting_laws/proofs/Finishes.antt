@@ -1,7 +1,6 @@
 -- A tree that owns its keys and covers, and whose numbers are below 2^32, can be finished.
-use Rattle.std.specs.Prelude.{◌≡◌, refl, ℕ, ◌+◌, ◌^◌, ◌<◌, max, Bool, true, false, cond, ◌&&◌, T, List, [], ◌∷◌, map, sum_by, nat_lt, nat_le}
-use Rattle.std.specs.List.{list_all}
-use Rattle.std.proofs.Common.{sym, ap, subst, arith}
+use Rattle.std.specs.Prelude.{ℕ, ◌+◌, ◌^◌, ◌<◌, Bool, true, cond, ◌&&◌, T, List, [], ◌∷◌, map, sum_by, nat_lt}
+use Rattle.std.proofs.Common.{arith}
 use Rattle.std.proofs.lemmas.Bool.Decides.{nat_tests}
 use Rattle.agg_model.specs.declared.aggregation.Agg.{Agg, Agg', Row_of-Agg, end_of-Agg, more_of-Agg}
 use Rattle.agg_model.specs.declared.aggregation.Kind.{Kind}
@@ -9,7 +8,7 @@ use Rattle.agg_model.specs.declared.aggregation.Kind.TheVariants as kind
 use Rattle.agg_model.specs.declared.partial.Bucket.{Bucket}
 use Rattle.agg_model.specs.declared.partial.Node.{Node, out-Node}
 use Rattle.agg_model.specs.declared.partial.Node.TheOpen.{Node-F}
-use Rattle.agg_evaluation.specs.Finishable.{terms_fit, fits_at, is_finishable_at, is_finishable}
+use Rattle.agg_evaluation.specs.Finishable.{fits_at, is_finishable_at, is_finishable}
 use Rattle.agg_evaluation.specs.Folds.{fold_aggs}
 use Rattle.agg_evaluation.specs.Orders.{bucket_key, bucket_count}
 use Rattle.agg_evaluation.specs.Shard.{fixed_keys, is_terms}
@@ -18,7 +17,7 @@ use Rattle.agg_evaluation.specs.Whole.{Parts, parts, parts_at, shape_of, Shape, 
 use Rattle.list_laws.proofs.Booleans.{and_left, and_right, both}
 use Rattle.fitting_laws.proofs.NumbersFit.{counted}
 use Rattle.fitting_laws.proofs.Owns.{made_keys, are_covered, owns_parts, owns}
-use Rattle.fitting_laws.proofs.Reach.{most, most_each, returned, bucket_reach, parts_reach, reach}
+use Rattle.fitting_laws.proofs.Reach.{most, most_each, bucket_reach, parts_reach, reach}
 
 -- trees that pass both tests and are small pass the third
 abbrev Finishes : (Node → Bool) → (Node → Bool) → (Node → ℕ) → (Node → Bool) → Type 0

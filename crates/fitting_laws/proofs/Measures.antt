@@ -1,12 +1,12 @@
 -- The numbers of metrics: a count is at most the weight of the rows, and a sum of values of 64 bits at most so many times 2^63.
-use Rattle.std.specs.Prelude.{◌≡◌, refl, ℕ, suc, ◌+◌, ◌*◌, ◌^◌, ◌==◌, ◌≤◌, Bool, true, false, cond, ◌&&◌, List, [], ◌∷◌, ◌++◌, map, filter_map, flat_map, find, length, sum_by, slice_get, Option, Some, None, option_map, unwrap_or, nat_le, ℤ}
+use Rattle.std.specs.Prelude.{◌≡◌, refl, ℕ, ◌+◌, ◌*◌, ◌^◌, ◌==◌, ◌≤◌, Bool, true, false, cond, ◌&&◌, List, [], ◌∷◌, filter_map, flat_map, find, length, sum_by, slice_get, Option, Some, None, option_map, unwrap_or, nat_le}
 use Rattle.std.specs.List.{list_all}
 use Rattle.std.specs.Option.{option_map_or}
-use Rattle.std.proofs.Common.{sym, ◌∙◌, ap, subst, arith, length-append}
+use Rattle.std.proofs.Common.{◌∙◌, ap, arith}
 use Rattle.std.proofs.lemmas.Bool.{false≢true, and_parts, and_from}
 use Rattle.std.proofs.lemmas.List.Folds.{list_all-append}
 use Rattle.std.proofs.lemmas.List.Sums.{sum_by-cons}
-use Rattle.agg_model.specs.FieldKinds.{fits_below, fits_kind}
+use Rattle.agg_model.specs.FieldKinds.{fits_below}
 use Rattle.agg_model.specs.declared.mapping.Field.{Field}
 use Rattle.agg_model.specs.declared.mapping.FieldKind.{FieldKind}
 use Rattle.agg_model.specs.declared.mapping.FieldKind.TheVariants.{Long, Integer, Short, Byte, Keyword, Boolean}

@@ -1,19 +1,18 @@
 -- The last bucket's key of an answer to a composite has a part for each source, so that the next page's search is made too.
-use Rattle.std.specs.Prelude.{◌≡◌, refl, ℕ, Bool, true, false, ◌&&◌, T, List, [], ◌∷◌, ◌++◌, map, filter_map, flat_map, take, length, slice_get, Option, Some, None, option_map, IfSome, IsTrue}
-use Rattle.std.specs.List.{list_all, last_or, cons_option}
+use Rattle.std.specs.Prelude.{◌≡◌, refl, ℕ, Bool, true, false, ◌&&◌, T, List, [], ◌∷◌, ◌++◌, map, filter_map, flat_map, take, length, slice_get, Option, Some, None, option_map, IfSome}
+use Rattle.std.specs.List.{list_all, last_or}
 use Rattle.std.proofs.Common.{sym, ◌∙◌, ap, subst}
-use Rattle.std.proofs.lemmas.Bool.{false≢true, and_from}
+use Rattle.std.proofs.lemmas.Bool.{false≢true}
 use Rattle.agg_model.specs.declared.aggregation.Agg.{Agg, out-Agg}
 use Rattle.agg_model.specs.declared.aggregation.CompositeSource.{CompositeSource}
 use Rattle.agg_model.specs.declared.aggregation.Kind.{Kind}
 use Rattle.agg_model.specs.declared.aggregation.Kind.TheVariants as kind
 use Rattle.agg_model.specs.declared.aggregation.Search.{Search}
 use Rattle.agg_model.specs.declared.answer.BucketAnswer.{BucketAnswer, out-BucketAnswer, out-roll-BucketAnswer}
-use Rattle.agg_model.specs.declared.answer.NodeAnswer.{NodeAnswer, out-NodeAnswer, out-roll-NodeAnswer}
+use Rattle.agg_model.specs.declared.answer.NodeAnswer.{NodeAnswer, out-roll-NodeAnswer}
 use Rattle.agg_model.specs.declared.key.Key.{Key}
 use Rattle.agg_model.specs.declared.partial.Bucket.{Bucket}
 use Rattle.agg_model.specs.declared.partial.Node.{Node}
-use Rattle.agg_model.specs.declared.partial.Node.TheVariants.{Keyed}
 use Rattle.agg_model.specs.declared.partial.Partial.{Partial}
 use Rattle.agg_evaluation.specs.CompositeKeys.{is_composite_of}
 use Rattle.agg_evaluation.specs.Folds.{fold_agg}
@@ -23,17 +22,17 @@ use Rattle.agg_evaluation.specs.Matching.{matched_roots}
 use Rattle.agg_evaluation.specs.Orders.{bucket_key, composite_cmp}
 use Rattle.agg_evaluation.specs.Rows.{PlacedRow, roots}
 use Rattle.agg_evaluation.specs.SearchFits.{search_fits}
-use Rattle.agg_evaluation.specs.Shard.{Collector, page, bucket_of, node_of, collector_of, collected_node, shard_node, shard_answer}
+use Rattle.agg_evaluation.specs.Shard.{Collector, page, bucket_of, node_of, collector_of, shard_node, shard_answer}
 use Rattle.agg_evaluation.specs.Whole.{Parts, parts, parts_at, whole_bucket, whole_by, whole_node, whole, shape_of, by_key}
-use Rattle.agg_spec.specs.Final.{final, Finisher, finish_at, finish_bucket, finisher_of, finisher, buckets_answer}
+use Rattle.agg_spec.specs.Final.{final, Finisher, finish_at, finish_bucket, finisher_of, finisher}
 use Rattle.agg_spec.specs.Index.{Index, rows_by_shard}
-use Rattle.agg_spec.specs.Outcome.{answer_of, shard_answers}
+use Rattle.agg_spec.specs.Outcome.{answer_of}
 use Rattle.agg_spec.specs.Pages.{is_composite, is_paged, last_key, next_search, search_after}
 use Rattle.list_laws.specs.Sorting.{sorted}
 use Rattle.agg_evaluation.proofs.AggFolds.{fold_agg-level}
 use Rattle.agg_evaluation.proofs.NodeForms.{out-Keyed}
 use Rattle.agg_evaluation.proofs.WholeLaws.{Union, tree_buckets}
-use Rattle.list_laws.proofs.Booleans.{and_left, and_right, both, true_is, holds}
+use Rattle.list_laws.proofs.Booleans.{and_left, and_right, both, true_is}
 use Rattle.list_laws.proofs.Occurrences.{all-sorted, all-take}
 use Rattle.fitting_laws.specs.Pages.{takes, search_takes}
 use Rattle.fitting_laws.proofs.BucketKeys.{distinct_all, composite_rows}

@@ -1,9 +1,9 @@
 -- A shard's answer has keys such as its aggregations make, and terms covered by its error.
-use Rattle.std.specs.Prelude.{◌≡◌, refl, ℕ, zero, suc, ◌-◌, ◌==◌, ◌≤◌, ◌<◌, ◌^◌, Bool, true, false, cond, ◌&&◌, T, List, [], ◌∷◌, map, filter, flat_map, take, sum_by, length, nat_le, nat_lt, if◌then◌else◌, slice_get, Option, None, Some, unwrap_or}
+use Rattle.std.specs.Prelude.{◌≡◌, refl, ℕ, ◌-◌, ◌==◌, ◌<◌, ◌^◌, Bool, true, false, cond, ◌&&◌, T, List, [], ◌∷◌, map, filter, flat_map, take, sum_by, length, nat_le, nat_lt, if◌then◌else◌, Option, None, unwrap_or}
 use Rattle.std.specs.List.{list_all, last_or}
 use Rattle.std.specs.Option.{option_map_or}
 use Rattle.std.specs.Ordering.{is_gt}
-use Rattle.std.proofs.Common.{sym, ◌∙◌, ap, subst, arith}
+use Rattle.std.proofs.Common.{sym, ap, subst, arith}
 use Rattle.std.proofs.lemmas.Bool.{and_parts}
 use Rattle.std.proofs.lemmas.Bool.Decides.{nat_tests}
 use Rattle.agg_model.specs.Options.{TermsOptions, terms_kind}
@@ -18,17 +18,16 @@ use Rattle.agg_model.specs.declared.partial.Bucket.{Bucket}
 use Rattle.agg_model.specs.declared.partial.Metric.{Metric}
 use Rattle.agg_model.specs.declared.partial.Node.{Node}
 use Rattle.agg_model.specs.declared.partial.Node.TheVariants.{Keyed, Fixed, Number}
-use Rattle.agg_evaluation.specs.CompositeKeys.{is_composite_of}
 use Rattle.agg_evaluation.specs.Counted.{IsApart, IsCounted}
 use Rattle.agg_evaluation.specs.Folds.{fold_aggs}
 use Rattle.agg_evaluation.specs.Groups.{under, group, all_keys, total_key_count}
 use Rattle.agg_evaluation.specs.KeyOrder.{key_cmp, has_key}
-use Rattle.agg_evaluation.specs.Keys.{keys, composite_keys, histogram_keys}
+use Rattle.agg_evaluation.specs.Keys.{keys}
 use Rattle.agg_evaluation.specs.Orders.{bucket_key, bucket_count, bucket_cmp, composite_cmp}
 use Rattle.agg_evaluation.specs.PlacedFits.{rows_placed}
 use Rattle.agg_evaluation.specs.Rows.{PlacedRow, roots}
 use Rattle.agg_evaluation.specs.SearchFits.{kind_fits, Made, made_at, handed, agg_fits, is_whole_field, is_interval, orders_fit}
-use Rattle.agg_evaluation.specs.Shard.{Collector, fixed_keys, is_terms, page, with_covered, bucket_of, trimmed_node, node_of, collector_of, collected_node}
+use Rattle.agg_evaluation.specs.Shard.{Collector, fixed_keys, is_terms, page, with_covered, bucket_of, node_of, collector_of, collected_node}
 use Rattle.agg_evaluation.specs.Trees.{pass_each, have_children}
 use Rattle.agg_evaluation.specs.Whole.{Parts, parts, parts_at}
 use Rattle.list_laws.specs.Sorting.{sorted}

@@ -1,8 +1,8 @@
 -- What a tree of a shard has beyond its form: keys such as its aggregation makes, and terms covered by no more than its error.
 -- The whole of such trees has it too.
-use Rattle.std.specs.Prelude.{◌≡◌, refl, ℕ, zero, suc, ◌+◌, ◌≤◌, Bool, true, false, cond, ◌&&◌, T, List, [], ◌∷◌, ◌++◌, map, flat_map, sum_by, drop, length, nat_le}
+use Rattle.std.specs.Prelude.{◌≡◌, refl, ℕ, suc, ◌+◌, ◌≤◌, Bool, true, false, cond, ◌&&◌, T, List, [], ◌∷◌, ◌++◌, map, flat_map, sum_by, drop, length, nat_le}
 use Rattle.std.specs.List.{list_all, enumerate_from}
-use Rattle.std.proofs.Common.{sym, ◌∙◌, ap, subst, arith}
+use Rattle.std.proofs.Common.{sym, ap, subst, arith}
 use Rattle.std.proofs.lemmas.Bool.Decides.{nat_tests}
 use Rattle.agg_model.specs.Options.{Options, options_of}
 use Rattle.agg_model.specs.declared.aggregation.Agg.{Agg, Agg', Row_of-Agg, end_of-Agg, more_of-Agg}
@@ -24,9 +24,9 @@ use Rattle.agg_evaluation.proofs.NodeForms.{out-Keyed, out-Fixed, out-Number}
 use Rattle.agg_evaluation.proofs.WholeLaws.{Union, tree_buckets, with_key}
 use Rattle.list_laws.proofs.Booleans.{and_left, and_right, both}
 use Rattle.list_laws.proofs.Occurrences.{all-map}
-use Rattle.fitting_laws.proofs.BucketKeys.{distinct_all, append_all}
+use Rattle.fitting_laws.proofs.BucketKeys.{distinct_all}
 use Rattle.fitting_laws.proofs.Reach.{most}
-use Rattle.fitting_laws.proofs.ReachUnions.{AreLevels, levels_of, all_children, AreBelow, once_each, Column, column}
+use Rattle.fitting_laws.proofs.ReachUnions.{AreLevels, levels_of, all_children, AreBelow, once_each, column}
 
 -- a key such as the aggregation makes
 abbrev pub is_made_key : Kind → Key → Bool
@@ -119,9 +119,10 @@ module _ (ws : List Union) (ts os : List (Node → Bool)) (laws : EachKeeps ws t
   covered_below q (x ∷ xs) e h =
       let first : T (owns_parts os k (parts x)) = and_left (owns_parts os k (parts x)) (list_all (λ x. owns_parts os k (parts x)) xs) h in
       let more = and_right (made_keys k (parts x).buckets) (cond (is_terms k) (are_covered (parts x).error (parts x).buckets) true && have_children os (parts x).buckets) first in
-      let covered = and_left (cond (is_terms k) (are_covered (parts x).error (parts x).buckets) true) (have_children os (parts x).buckets) more in
-      (most_covered (parts x).error (parts x).buckets (subst (λ b. T (cond b (are_covered (parts x).error (parts x).buckets) true)) e covered),
-      covered_below q xs e (and_right (owns_parts os k (parts x)) (list_all (λ x. owns_parts os k (parts x)) xs) h))
+      let covered = and_left (cond (is_terms k) (are_covered (parts x).error (parts x).buckets) true) (have_children os (parts x).buckets) more in (
+        most_covered (parts x).error (parts x).buckets (subst (λ b. T (cond b (are_covered (parts x).error (parts x).buckets) true)) e covered),
+        covered_below q xs e (and_right (owns_parts os k (parts x)) (list_all (λ x. owns_parts os k (parts x)) xs) h),
+      )
     where
       most_covered : (error : ℕ) (bs : List Bucket) → T (are_covered error bs) → most (λ (b : Bucket). b.covered) bs ≤ error
       most_covered error [] h = omega arith

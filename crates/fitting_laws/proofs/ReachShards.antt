@@ -1,5 +1,5 @@
 -- No number of a shard's answer is above the weight of the shard, where a metric's number is not.
-use Rattle.std.specs.Prelude.{◌≡◌, refl, ℕ, zero, suc, ◌+◌, ◌-◌, ◌==◌, ◌≤◌, max, Bool, true, false, cond, T, List, [], ◌∷◌, map, flat_map, take, sum_by, length, slice_get, ◌&&◌, nat_le, if◌then◌else◌, Option, None, Some, unwrap_or}
+use Rattle.std.specs.Prelude.{◌≡◌, refl, ℕ, ◌+◌, ◌-◌, ◌==◌, ◌≤◌, max, Bool, true, false, cond, T, List, [], ◌∷◌, map, flat_map, take, sum_by, length, slice_get, ◌&&◌, nat_le, if◌then◌else◌, Option, None, Some, unwrap_or}
 use Rattle.std.specs.List.{list_all, last_or}
 use Rattle.std.specs.Option.{option_map_or}
 use Rattle.std.proofs.Common.{sym, ◌∙◌, ap, subst, arith}
@@ -30,7 +30,7 @@ use Rattle.agg_evaluation.specs.Rows.{PlacedRow, roots}
 use Rattle.agg_evaluation.specs.RowsWeight.{rows_weight}
 use Rattle.agg_evaluation.specs.QueryFits.{field_is, are_probes}
 use Rattle.agg_evaluation.specs.SearchFits.{kind_fits, Made, made_at, handed, agg_fits, is_missing, is_whole_field, orders_fit}
-use Rattle.agg_evaluation.specs.Shard.{Collector, fixed_keys, is_terms, page, with_covered, metric_of, bucket_of, trimmed_node, node_of, collector_of, collected_node}
+use Rattle.agg_evaluation.specs.Shard.{Collector, fixed_keys, is_terms, page, with_covered, metric_of, bucket_of, node_of, collector_of, collected_node}
 use Rattle.agg_evaluation.specs.Whole.{Parts, parts, parts_at}
 use Rattle.list_laws.specs.Sorting.{sorted}
 use Rattle.agg_evaluation.proofs.AddUpLaws.{terms-add_up}
@@ -41,8 +41,8 @@ use Rattle.list_laws.proofs.Occurrences.{all-sorted, all-take, all-map}
 use Rattle.list_laws.proofs.Sums.{sum_by-sorted, sum_by-take}
 use Rattle.fitting_laws.proofs.Counting.{under_counted, filter_counted, key_counts_light, distinct_length}
 use Rattle.fitting_laws.proofs.Follows.{made_parts}
-use Rattle.fitting_laws.proofs.Hits.{length_is, counted_light}
-use Rattle.fitting_laws.proofs.Reach.{most, most_each, most_within, most_map, max_within, returned, bucket_reach, parts_reach, reach}
+use Rattle.fitting_laws.proofs.Hits.{counted_light}
+use Rattle.fitting_laws.proofs.Reach.{most_each, most_within, most_map, max_within, returned, bucket_reach, parts_reach, reach}
 
 -- a field of whole numbers is one with the value of rows without one
 pub whole_field : (m : Mapping) (field : ℕ) (missing : Option Scalar) → is_whole_field m field missing ≡ true → field_is m (λ k. is_missing k missing) field ≡ true

@@ -1,5 +1,5 @@
 -- No number of a whole is above the sum of the greatest numbers of its trees.
-use Rattle.std.specs.Prelude.{◌≡◌, refl, ℕ, zero, suc, ◌+◌, ◌≤◌, max, Bool, true, false, cond, ◌||◌, T, List, [], ◌∷◌, ◌++◌, map, flat_map, sum_by, drop, Some, slice_get}
+use Rattle.std.specs.Prelude.{◌≡◌, refl, ℕ, zero, suc, ◌+◌, ◌≤◌, max, Bool, true, false, cond, T, List, [], ◌∷◌, ◌++◌, map, flat_map, sum_by, drop, Some, slice_get}
 use Rattle.std.specs.List.{list_all, enumerate_from, cons_option}
 use Rattle.std.proofs.Common.{sym, ◌∙◌, ap, subst, arith}
 use Rattle.std.proofs.lemmas.List.Sums.{sum_by-cons, sum_by-append}
@@ -8,11 +8,10 @@ use Rattle.agg_model.specs.declared.partial.Bucket.{Bucket}
 use Rattle.agg_model.specs.declared.partial.Metric.{Metric}
 use Rattle.agg_model.specs.declared.partial.Node.{Node, out-Node}
 use Rattle.agg_model.specs.declared.partial.Node.TheOpen.{Node-F}
-use Rattle.agg_model.specs.declared.partial.Node.TheVariants.{Keyed, Fixed, Number}
 use Rattle.agg_model.specs.declared.aggregation.Agg.{Agg, Agg', Row_of-Agg, end_of-Agg, more_of-Agg}
 use Rattle.agg_model.specs.declared.aggregation.Kind.{Kind}
 use Rattle.agg_evaluation.specs.Folds.{fold_aggs}
-use Rattle.agg_evaluation.specs.KeyOrder.{key_eq, has_key}
+use Rattle.agg_evaluation.specs.KeyOrder.{key_eq}
 use Rattle.agg_evaluation.specs.Keys.{distinct_keys}
 use Rattle.agg_evaluation.specs.Orders.{bucket_key, bucket_count}
 use Rattle.agg_evaluation.specs.Shard.{fixed_keys, is_terms}
@@ -21,7 +20,7 @@ use Rattle.agg_evaluation.specs.Whole.{Parts, parts, parts_at, children_at, whol
 use Rattle.std.specs.FinMap.{slice_cmp-IsAntisymmetric}
 use Rattle.agg_evaluation.proofs.KeyExact.{exact_keys}
 use Rattle.agg_evaluation.proofs.KeyLists.{key_eq-exact, is_below, below-absent, ascending-distinct_keys}
-use Rattle.agg_evaluation.proofs.KeyParts.{part, parts-at_most, with_key-all}
+use Rattle.agg_evaluation.proofs.KeyParts.{parts-at_most, with_key-all}
 use Rattle.agg_evaluation.proofs.NodeForms.{out-Keyed, out-Fixed, out-Number}
 use Rattle.agg_evaluation.proofs.UnionLaws.{ascending-fixed_keys, without_key}
 use Rattle.agg_evaluation.proofs.WholeLaws.{Union, tree_buckets, with_key}
@@ -29,7 +28,7 @@ use Rattle.list_laws.proofs.Booleans.{and_left, and_right, both, holds}
 use Rattle.list_laws.proofs.Lists.{filter-append, sum_by-flat_map, sum_by-map}
 use Rattle.list_laws.proofs.Orders.{equal_is}
 use Rattle.list_laws.proofs.Sums.{sum_by-at_most}
-use Rattle.fitting_laws.proofs.Reach.{most, most_each, most_map, max_within, returned, bucket_reach, parts_reach, reach}
+use Rattle.fitting_laws.proofs.Reach.{most, most_each, most_map, returned, bucket_reach, parts_reach, reach}
 
 -- what the parts of a tree say
 pub record Level (ts : List (Node → Bool)) (p : Parts) : Type 0 where

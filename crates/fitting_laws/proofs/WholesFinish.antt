@@ -1,5 +1,5 @@
 -- The whole of the answers of some shards of an index can be finished.
-use Rattle.std.specs.Prelude.{◌≡◌, refl, ℕ, zero, suc, ◌+◌, Bool, true, ◌&&◌, T, List, [], ◌∷◌, map, filter_map, slice_get, Some}
+use Rattle.std.specs.Prelude.{◌≡◌, refl, ℕ, suc, ◌+◌, Bool, true, T, List, [], ◌∷◌, map, filter_map, slice_get, Some}
 use Rattle.std.specs.List.{list_all, enumerate_from}
 use Rattle.std.proofs.Common.{sym, subst, arith}
 use Rattle.std.proofs.lemmas.Bool.{and_parts, and_from}
@@ -10,7 +10,6 @@ use Rattle.agg_model.specs.declared.mapping.Mapping.{Mapping}
 use Rattle.agg_model.specs.declared.partial.Node.{Node}
 use Rattle.agg_model.specs.declared.partial.Partial.{Partial}
 use Rattle.agg_model.specs.declared.row.Document.{Document}
-use Rattle.agg_evaluation.specs.Conditions.{has_intervals}
 use Rattle.agg_evaluation.specs.DocumentFits.{all_fit}
 use Rattle.agg_evaluation.specs.Finishable.{is_finishable, can_finish}
 use Rattle.agg_evaluation.specs.QueryFits.{query_fits}
