@@ -13,3 +13,4 @@ pub mod AllowedShare
 pub mod Opened
 pub mod OneItem
 pub mod Closed
+pub mod OneMove
