@@ -12,8 +12,8 @@ ghost use Rattle.agg_evaluation.specs.Whole.{parts as node_parts};
 ghost use Rattle.agg_spec.specs.Index.{Index};
 ghost use Rattle.agg_spec.specs.Outcome.{answer_of};
 ghost use Rattle.agg_spec.specs.Final.{Finisher, terms_answer};
-ghost use Rattle.agg_spec.specs.TermsErrors.{IsTermsByCount, IsWithinError, true_group_count};
-ghost use Rattle.agg_spec.specs.TermsSums.{
+ghost use Rattle.count_laws.specs.TermsErrors.{IsTermsByCount, IsWithinError, true_group_count};
+ghost use Rattle.count_laws.specs.TermsSums.{
   all_key_count,
   answer_of_rows,
   below_minimum_count,

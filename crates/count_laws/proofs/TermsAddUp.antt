@@ -9,10 +9,10 @@ use Rattle.agg_evaluation.specs.Shard.{shard_node, collector_of}
 use Rattle.agg_evaluation.specs.Whole.{parts, whole_by, shape_of}
 use Rattle.list_laws.proofs.Lists.{sum_by-map}
 use Rattle.agg_spec.specs.Final.{finisher_of}
-use Rattle.agg_spec.specs.TermsSums.{returned_count, other_count, below_minimum_count, minimum_of_terms, whole_of_rows, answer_of_rows, all_key_count}
-use Rattle.agg_spec.proofs.SumLaws.{terms_answer-sums}
-use Rattle.agg_spec.proofs.TermsTotals.{tree_count, whole_by-count, trimmed_node-count}
-use Rattle.agg_spec.proofs.Computing.{computing}
+use Rattle.count_laws.specs.TermsSums.{returned_count, other_count, below_minimum_count, minimum_of_terms, whole_of_rows, answer_of_rows, all_key_count}
+use Rattle.count_laws.proofs.SumLaws.{terms_answer-sums}
+use Rattle.count_laws.proofs.TermsTotals.{tree_count, whole_by-count, trimmed_node-count}
+use Rattle.agg_evaluation.proofs.Computing.{computing}
 
 abbrev AddsUp : Agg → ℕ → List (List PlacedRow × List PlacedRow) → Type 0
 AddsUp a min shards =

@@ -20,11 +20,12 @@ use Rattle.agg_evaluation.specs.Shard.{shard_node, collector_of}
 use Rattle.agg_evaluation.specs.Whole.{Parts, parts, whole_by, shape_of}
 use Rattle.agg_spec.specs.Filling.{frequent}
 use Rattle.agg_spec.specs.Final.{Finisher, finish_each, finish_bucket, no_metric, terms_answer, finisher_of}
-use Rattle.agg_spec.specs.TermsSums.{answer_of_rows, whole_of_rows}
-use Rattle.agg_spec.specs.TermsErrors.{IsTermsByCount, IsWithinError, true_group_count}
-use Rattle.agg_spec.proofs.ShardBounds.{trimmed_node-bounds}
-use Rattle.agg_spec.proofs.TermsBounds.{Within, whole_by-within, each-filter, each-take, each-sorted, each-mapped}
-use Rattle.agg_spec.proofs.Computing.{computing}
+use Rattle.count_laws.specs.TermsSums.{answer_of_rows, whole_of_rows}
+use Rattle.count_laws.specs.TermsErrors.{IsTermsByCount, IsWithinError, true_group_count}
+use Rattle.count_laws.proofs.ShardBounds.{trimmed_node-bounds}
+use Rattle.list_laws.proofs.Each.{each-filter, each-take, each-sorted, each-mapped}
+use Rattle.count_laws.proofs.TermsBounds.{Within, whole_by-within}
+use Rattle.agg_evaluation.proofs.Computing.{computing}
 
 module _ (truth : Key → ℕ) (name : List ℕ) (children : List Finisher) (size min_doc_count : ℕ) (later : List Order) (p : Parts) where
   abbrev order : List Order

@@ -13,7 +13,7 @@ use Rattle.agg_evaluation.specs.Whole.{whole_node, whole}
 use Rattle.agg_spec.specs.Index.{Index}
 use Rattle.agg_spec.specs.Outcome.{shard_answers, answer_of}
 use Rattle.agg_spec.specs.Final.{finisher, finish_each}
-use Rattle.agg_spec.specs.TermsSums.{answer_of_rows, matched_by_shard}
+use Rattle.count_laws.specs.TermsSums.{answer_of_rows, matched_by_shard}
 
 finished-at : (aggs : List Agg) (ns : List Node) (j : ℕ) (a : Agg) (n : Node) → slice_get aggs j ≡ Some a → slice_get ns j ≡ Some n → slice_get (finish_each (map finisher aggs) ns) j ≡ Some ((finisher a).finish n)
 finished-at [] ns j a n at node = absurd (let no : ⊥ = cc in no)

@@ -1,0 +1,9 @@
+pub mod FallingCounts
+pub mod GroupSums
+pub mod SearchAnswers
+pub mod ShardBounds
+pub mod SumLaws
+pub mod TermsAddUp
+pub mod TermsBounds
+pub mod TermsTotals
+pub mod TermsWithin

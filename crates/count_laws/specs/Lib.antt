@@ -1,0 +1,2 @@
+pub mod TermsErrors
+pub mod TermsSums
