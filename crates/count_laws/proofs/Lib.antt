@@ -1,3 +1,4 @@
+pub mod Nothing
 pub mod FallingCounts
 pub mod GroupSums
 pub mod SearchAnswers
