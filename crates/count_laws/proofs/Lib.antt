@@ -1,3 +1,5 @@
+pub mod Returned
+pub mod WholeGroups
 pub mod Nothing
 pub mod FallingCounts
 pub mod GroupSums

@@ -43,7 +43,7 @@ abbrev number : Key × ℕ → ℕ
 number c = c.1
 
 -- the sizes of the groups add up to the number of all keys
-groups-count : (all : List PlacedRow) (k : Kind) (rows : List PlacedRow) → sum_by (λ q. length (group all k rows q)) (all_keys all k rows) ≡ total_key_count all k rows
+pub groups-count : (all : List PlacedRow) (k : Kind) (rows : List PlacedRow) → sum_by (λ q. length (group all k rows q)) (all_keys all k rows) ≡ total_key_count all k rows
 groups-count all k rows =
     sym (sum_by-map number (λ q. (q, length (group all k rows q))) (all_keys all k rows))
     ∙ ap (sum_by number) (sym (counters-groups all k rows))
