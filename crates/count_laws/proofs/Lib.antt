@@ -1,3 +1,4 @@
+pub mod Steps
 pub mod Returned
 pub mod WholeGroups
 pub mod Nothing
