@@ -1,3 +1,5 @@
+pub mod Finished
+pub mod Descent
 pub mod Steps
 pub mod Returned
 pub mod WholeGroups
