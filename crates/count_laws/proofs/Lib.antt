@@ -1,3 +1,4 @@
+pub mod AtPaths
 pub mod Finished
 pub mod Descent
 pub mod Steps
@@ -6,7 +7,6 @@ pub mod WholeGroups
 pub mod Nothing
 pub mod FallingCounts
 pub mod GroupSums
-pub mod SearchAnswers
 pub mod ShardBounds
 pub mod SumLaws
 pub mod TermsAddUp

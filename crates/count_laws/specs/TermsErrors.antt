@@ -18,10 +18,6 @@ BeginsByCount (o ∷ later) = o ≡ record { by = Count; descending = true }
 abbrev pub IsTermsByCount : Kind → Type 0
 IsTermsByCount k = elim (options_of k) [ Options.Terms t ↦ (0 < t.shard_size) × BeginsByCount t.order | _ ↦ ⊥ ]
 
--- how many rows of all shards have the key: for each shard all its rows, and those that the aggregation is handed
-abbrev pub true_group_count : Agg → List (List PlacedRow × List PlacedRow) → Key → ℕ
-true_group_count a shards key = sum_by (λ s. length (group s.0 (out-Agg a).kind s.1 key)) shards
-
 -- the true count of a returned bucket lies between its count and that plus its error
 pub record IsWithinError (true_count : Key → ℕ) (b : BucketAnswer) : Type 0 where
   pub error : ℕ

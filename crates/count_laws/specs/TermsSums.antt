@@ -41,11 +41,3 @@ whole_of_rows a shards = whole_node a (map (λ s. shard_node s.0 a s.1) shards)
 
 abbrev pub answer_of_rows : Agg → List (List PlacedRow × List PlacedRow) → NodeAnswer
 answer_of_rows a shards = (finisher a).finish (whole_of_rows a shards)
-
--- how many keys the rows of all shards have
-abbrev pub all_key_count : Agg → List (List PlacedRow × List PlacedRow) → ℕ
-all_key_count a shards = sum_by (λ s. total_key_count s.0 (out-Agg a).kind s.1) shards
-
--- the rows that a search hands to an aggregation at its top: of each shard those that match
-abbrev pub matched_by_shard : Index → Search → List (List PlacedRow × List PlacedRow)
-matched_by_shard index search = map (λ all. (all, matched_roots all search.query)) index.shards

@@ -1,23 +1,28 @@
 //! Laws of the definitions. Each function has a law as its contract, over all values of the definitions, and does nothing.
-ghost use Rattle.std.specs.Prelude.{◌≡◌, ◌+◌, ℕ, List, Some, slice_get, sum_by};
+ghost use Rattle.std.specs.Prelude.{◌≡◌, ◌+◌, ◌++◌, ◌∷◌, [], ℕ, IsTrue, List, Some, slice_get, sum_by};
 ghost use Rattle.std.specs.List.{AllByRecursion};
 ghost use Rattle.agg_model.specs.declared.answer.NodeAnswer.{out-NodeAnswer};
 ghost use Rattle.agg_model.specs.declared.aggregation.Agg.{Agg, out-Agg};
 ghost use Rattle.agg_model.specs.declared.aggregation.Order.{Order};
 ghost use Rattle.agg_model.specs.declared.aggregation.Search.{Search};
+ghost use Rattle.agg_model.specs.declared.mapping.Mapping.{Mapping};
+ghost use Rattle.agg_model.specs.declared.partial.Node.{Node};
 ghost use Rattle.agg_evaluation.specs.Orders.{bucket_count};
 ghost use Rattle.agg_evaluation.specs.Rows.{PlacedRow};
+ghost use Rattle.agg_evaluation.specs.SearchFits.{search_fits};
+ghost use Rattle.agg_evaluation.specs.TrueCounts.{BucketPath, aggs_at, true_count, true_key_count};
 ghost use Rattle.agg_evaluation.specs.Whole.{Parts};
 ghost use Rattle.agg_evaluation.specs.Whole.{parts as node_parts};
-ghost use Rattle.agg_spec.specs.Index.{Index};
-ghost use Rattle.agg_spec.specs.Outcome.{answer_of};
-ghost use Rattle.agg_spec.specs.Final.{Finisher, terms_answer};
-ghost use Rattle.count_laws.specs.TermsErrors.{IsTermsByCount, IsWithinError, true_group_count};
+ghost use Rattle.agg_spec.specs.Final.{Finisher, finisher, terms_answer};
+ghost use Rattle.count_laws.specs.Paths.{
+  answered_by_shard,
+  is_uncut,
+  nodes_at,
+  whole_of_shards,
+};
+ghost use Rattle.count_laws.specs.TermsErrors.{IsTermsByCount, IsWithinError};
 ghost use Rattle.count_laws.specs.TermsSums.{
-  all_key_count,
-  answer_of_rows,
   below_minimum_count,
-  matched_by_shard,
   minimum_of_terms,
   other_count,
   returned_count,
@@ -34,28 +39,41 @@ pub fn terms_lose_no_count()
         ≡ parts.cut + sum_by bucket_count parts.buckets }
 {}
 
-/// An answer to terms has all keys of the rows: what it returns, what it gives as other and what is below the minimum
-/// count add up to the keys of all rows that the shards were handed, whatever the order and whatever the shards cut.
+/// Along a path of returned buckets on which no terms were cut, each node of the whole is the whole
+/// of the answers to the rows that each shard has at the end of the path.
+pub fn an_uncut_path_reaches_the_whole_of_its_rows()
+    ensures { (m : Mapping) (request : Search) (shards : List (List PlacedRow)) (path : BucketPath)
+        (place : ℕ) (agg : Agg) → IsTrue (search_fits m request) →
+        IsTrue (is_uncut request.aggs (whole_of_shards request shards).nodes path) →
+        slice_get (aggs_at request.aggs path) place ≡ Some agg →
+        slice_get (nodes_at (whole_of_shards request shards).nodes path) place
+        ≡ Some (whole_of_rows agg (answered_by_shard request path shards)) }
+{}
+
+/// An answer to terms at the end of such a path has all keys of all shards: what it returns, what it
+/// gives as other and what is below the minimum count add up to them, whatever the order and whatever
+/// the shards cut there.
 pub fn terms_count_all_keys()
-    ensures { (agg : Agg) (min_doc_count : ℕ) (shards : List (List PlacedRow × List PlacedRow)) →
+    ensures { (m : Mapping) (request : Search) (shards : List (List PlacedRow)) (path : BucketPath)
+        (place : ℕ) (agg : Agg) (node : Node) (min_doc_count : ℕ) → IsTrue (search_fits m request) →
+        IsTrue (is_uncut request.aggs (whole_of_shards request shards).nodes path) →
+        slice_get (aggs_at request.aggs path) place ≡ Some agg →
         minimum_of_terms (out-Agg agg).kind ≡ Some min_doc_count →
-        returned_count (answer_of_rows agg shards)
-        + other_count (answer_of_rows agg shards)
-        + below_minimum_count min_doc_count (node_parts (whole_of_rows agg shards)).buckets
-        ≡ all_key_count agg shards }
+        slice_get (nodes_at (whole_of_shards request shards).nodes path) place ≡ Some node →
+        returned_count ((finisher agg).finish node) + other_count ((finisher agg).finish node)
+        + below_minimum_count min_doc_count (node_parts node).buckets
+        ≡ true_key_count shards request path place }
 {}
 
-/// By descending count each returned term is within its error: the number of all rows that have the key lies between
-/// its count and that plus its error, whatever the shards cut.
+/// By descending count each term that is returned at the end of such a path is within its error: its
+/// true count lies between its count and that plus its error, whatever the shards cut there.
 pub fn returned_terms_are_within_their_error()
-    ensures { (agg : Agg) (shards : List (List PlacedRow × List PlacedRow)) →
-        IsTermsByCount (out-Agg agg).kind →
-        AllByRecursion (IsWithinError (true_group_count agg shards)) (out-NodeAnswer (answer_of_rows agg shards)).buckets }
-{}
-
-/// A search answers each aggregation at its top as the aggregation answers the rows of each shard that match.
-pub fn a_search_answers_the_rows_that_match()
-    ensures { (index : Index) (search : Search) (place : ℕ) (agg : Agg) →
-        slice_get search.aggs place ≡ Some agg →
-        slice_get (answer_of index search).nodes place ≡ Some (answer_of_rows agg (matched_by_shard index search)) }
+    ensures { (m : Mapping) (request : Search) (shards : List (List PlacedRow)) (path : BucketPath)
+        (place : ℕ) (agg : Agg) (node : Node) → IsTrue (search_fits m request) →
+        IsTrue (is_uncut request.aggs (whole_of_shards request shards).nodes path) →
+        slice_get (aggs_at request.aggs path) place ≡ Some agg → IsTermsByCount (out-Agg agg).kind →
+        slice_get (nodes_at (whole_of_shards request shards).nodes path) place ≡ Some node →
+        AllByRecursion
+        (IsWithinError (λ key. true_count shards request (path ++ (place, key) ∷ [])))
+        (out-NodeAnswer ((finisher agg).finish node)).buckets }
 {}
