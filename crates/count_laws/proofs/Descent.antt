@@ -58,7 +58,7 @@ each-of : {A : Type 0} (P : A → Type 0) → ((x : A) → P x) → (xs : List A
 each-of P h [] = tt
 each-of P h (x ∷ xs) = (h x, each-of P h xs)
 
-each-step : {A : Type 0} (P Q : A → Type 0) → ((x : A) → P x → Q x) → (xs : List A) → AllByRecursion P xs → AllByRecursion Q xs
+pub each-step : {A : Type 0} (P Q : A → Type 0) → ((x : A) → P x → Q x) → (xs : List A) → AllByRecursion P xs → AllByRecursion Q xs
 each-step P Q f [] h = tt
 each-step P Q f (x ∷ xs) h = (f x h.0, each-step P Q f xs h.1)
 
@@ -68,14 +68,14 @@ each-zero f [] e = tt
 each-zero f (x ∷ xs) e = (omega (arith, e, sum_by-cons f x xs), each-zero f xs (omega (arith, e, sum_by-cons f x xs)))
 
 -- what holds of the keys of each list holds of all
-any-of : {A : Type 0} (f : A → List Key) (p : Key → Bool) (j : Key) → ((x : A) → has_key j (f x) ≡ true → p j ≡ true) → (xs : List A) → has_key j (flat_map f xs) ≡ true → p j ≡ true
+pub any-of : {A : Type 0} (f : A → List Key) (p : Key → Bool) (j : Key) → ((x : A) → has_key j (f x) ≡ true → p j ≡ true) → (xs : List A) → has_key j (flat_map f xs) ≡ true → p j ≡ true
 any-of f p j h [] e = absurd (subst T (sym e) tt)
 any-of f p j h (x ∷ xs) e =
     ⊎_elim (λ (here : has_key j (f x) ≡ true). h x here)
     (λ (no : has_key j (f x) ≡ false). any-of f p j h xs (ap (λ b. b || has_key j (flat_map f xs)) (sym no) ∙ sym (has_key-append j (f x) (flat_map f xs)) ∙ e)) (cases_Bool (has_key j (f x)))
 
 -- each list's keys are among all
-each-within : {A : Type 0} (f : A → List Key) (xs : List A) → AllByRecursion (λ x. (j : Key) → has_key j (f x) ≡ true → has_key j (flat_map f xs) ≡ true) xs
+pub each-within : {A : Type 0} (f : A → List Key) (xs : List A) → AllByRecursion (λ x. (j : Key) → has_key j (f x) ≡ true → has_key j (flat_map f xs) ≡ true) xs
 each-within f [] = tt
 each-within f (x ∷ xs) =
     (λ j e. has_key-append j (f x) (flat_map f xs) ∙ ap (λ b. b || has_key j (flat_map f xs)) e,
@@ -83,12 +83,12 @@ each-within f (x ∷ xs) =
     (λ y h j e. has_key-append j (f x) (flat_map f xs) ∙ ap (λ b. has_key j (f x) || b) (h j e) ∙ or-true (has_key j (f x))) xs (each-within f xs))
 
 -- a test that holds of each key that stands in a list
-all-keep : (p : Key → Bool) (ks : List Key) → ((q : Key) → has_key q ks ≡ true → p q ≡ true) → T (list_all p ks)
+pub all-keep : (p : Key → Bool) (ks : List Key) → ((q : Key) → has_key q ks ≡ true → p q ≡ true) → T (list_all p ks)
 all-keep p [] h = tt
 all-keep p (k ∷ ks) h =
     both _ _ (holds _ (h k (ap (λ b. b || has_key k ks) (Rattle.agg_evaluation.proofs.KeyLists.key_eq-self k)))) (all-keep p ks (λ q e. h q (ap (λ b. key_eq q k || b) e ∙ or-true (key_eq q k))))
 
-all-found : (p : Key → Bool) (ks : List Key) → T (list_all p ks) → (q : Key) → has_key q ks ≡ true → p q ≡ true
+pub all-found : (p : Key → Bool) (ks : List Key) → T (list_all p ks) → (q : Key) → has_key q ks ≡ true → p q ≡ true
 all-found p [] h q e = absurd (subst T (sym e) tt)
 all-found p (k ∷ ks) h q e =
     ⊎_elim (λ (f : key_eq q k ≡ true). ap p (Rattle.agg_evaluation.proofs.KeyLists.key_eq-exact q k (holds _ f)) ∙ true_is _ (and_left _ _ h))
@@ -171,16 +171,16 @@ module _ (m : Mapping) (context : ℕ) (name : List ℕ) {n : _} (children : Row
     by-number is h = absurd (subst T (sym (sym (ap (λ bs. has_key q (map bucket_key bs)) is) ∙ there-of h)) tt)
 
   module _ (sources : List CompositeSource) (size : ℕ) (after : Option Key) (fit : T (list_all (λ (c : Made). c.fits false (handed context (kind.Composite sources size after))) (fold_aggs (made_at m) children))) where
-    abbrev k : Kind
+    abbrev pub k : Kind
     k = kind.Composite sources size after
 
-    abbrev all_of : Handed → List Key
+    abbrev pub all_of : Handed → List Key
     all_of s = all_keys s.0 k s.1
 
-    abbrev page_of : Handed → List Key
+    abbrev pub page_of : Handed → List Key
     page_of s = page sources size after (all_of s)
 
-    abbrev union_keys : List Key
+    abbrev pub union_keys : List Key
     union_keys = distinct_keys (map bucket_key (buckets k fit))
 
     tree-are : (s : Handed) → (parts (tree k fit s)).buckets ≡ map (bucket_of true s.0 (roots s.0) k (cs s) s.1) (page_of s)
@@ -191,7 +191,7 @@ module _ (m : Mapping) (context : ℕ) (name : List ℕ) {n : _} (children : Row
     bucket-keys s (j ∷ ks) = ap (λ js. j ∷ js) (bucket-keys s ks)
 
     -- the keys of the whole are those of all pages
-    in_union : (j : Key) → has_key j union_keys ≡ has_key j (flat_map page_of ss)
+    pub in_union : (j : Key) → has_key j union_keys ≡ has_key j (flat_map page_of ss)
     in_union j =
         has_key-distinct_keys j (map bucket_key (buckets k fit))
         ∙ ap (λ bs. has_key j (map bucket_key bs)) (flat_map-map (tree k fit) (λ t. (parts t).buckets) ss)
@@ -201,17 +201,17 @@ module _ (m : Mapping) (context : ℕ) (name : List ℕ) {n : _} (children : Row
     are-keys : (s : Handed) → AreKeys sources size after (page_of s)
     are-keys s = page-keys sources size after (all_of s) (all-keys s.0 sources size after s.1)
 
-    are-union : AreKeys sources size after union_keys
+    pub are-union : AreKeys sources size after union_keys
     are-union = record {
       up = ascending-distinct_keys (map bucket_key (buckets k fit));
       composite = all-keep (is_composite_of (length sources)) union_keys (λ j e.
           any-of page_of (is_composite_of (length sources)) j (λ s. all-found (is_composite_of (length sources)) (page_of s) (are-keys s).composite j) ss (sym (in_union j) ∙ e));
     }
 
-    union-beyond : (j : Key) → has_key j union_keys ≡ true → beyond sources after j ≡ true
+    pub union-beyond : (j : Key) → has_key j union_keys ≡ true → beyond sources after j ≡ true
     union-beyond j e = any-of page_of (beyond sources after) j (λ s. page-beyond sources size after j (all_of s)) ss (sym (in_union j) ∙ e)
 
-    union-are : (parts (united k fit)).buckets ≡ map (whole_bucket unions (buckets k fit)) union_keys
+    pub union-are : (parts (united k fit)).buckets ≡ map (whole_bucket unions (buckets k fit)) union_keys
     union-are = keyed-are k fit (map (whole_bucket unions (buckets k fit)) union_keys) _ _ _
 
     -- the returned keys are the first of the union
@@ -223,16 +223,19 @@ module _ (m : Mapping) (context : ℕ) (name : List ℕ) {n : _} (children : Row
         ∙ ap (λ js. has_key q (take size js)) (sorted-mapped (composite_cmp sources) bucket_key bs)
         ∙ ap (λ js. has_key q (take size (sorted (composite_cmp sources) js))) (ap (map bucket_key) union-are ∙ keys-whole unions (buckets k fit) union_keys)) ∙ e
 
-    by-composite : Below k fit
-    by-composite h =
-        let there = among-of k fit union_keys union-are (there-of k fit h) in
-        let first = first-keys (returned-of k fit h) in
-        let inside = each-step (λ s. (j : Key) → has_key j (page_of s) ≡ true → has_key j (flat_map page_of ss) ≡ true) (Whole k fit) (λ s sub.
+    -- each shard has the whole group of a returned key
+    pub composite-whole : has_key q union_keys ≡ true → has_key q (take size (sorted (composite_cmp sources) union_keys)) ≡ true → AllByRecursion (Whole k fit) ss
+    composite-whole there first =
+        each-step (λ s. (j : Key) → has_key j (page_of s) ≡ true → has_key j (flat_map page_of ss) ≡ true) (Whole k fit) (λ s sub.
         subst (HasAll s.0 k (cs s) s.1 q) (sym (tree-are s)) (keys-have_all s.0 k (cs s) s.1 q (page_of s) (are-keys s).up (λ absent.
         ⊎_elim (λ (e : has_key q (all_of s) ≡ true).
         absurd (true≢false (sym (returned-in_page sources size after q (all_of s) union_keys (all-keys s.0 sources size after s.1) are-union (λ j g. in_union j ∙ sub j g) union-beyond there first e) ∙ absent)))
-        (λ (e : has_key q (all_of s) ≡ false). outside s.0 k (cs s) s.1 q e) (cases_Bool (has_key q (all_of s)))))) ss (each-within page_of ss) in
-        stands k fit (parts (united k fit)) union_keys union-are (there-of k fit h) inside
+        (λ (e : has_key q (all_of s) ≡ false). outside s.0 k (cs s) s.1 q e) (cases_Bool (has_key q (all_of s)))))) ss (each-within page_of ss)
+
+    by-composite : Below k fit
+    by-composite h =
+        let there = among-of k fit union_keys union-are (there-of k fit h) in
+        stands k fit (parts (united k fit)) union_keys union-are (there-of k fit h) (composite-whole there (first-keys (returned-of k fit h)))
 
   below-kind : (k : Kind) (fit : T (list_all (λ (c : Made). c.fits false (handed context k)) (fold_aggs (made_at m) children))) → Below k fit
   below-kind (kind.Composite sources size after) fit h = by-composite sources size after fit h

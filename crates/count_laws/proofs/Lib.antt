@@ -1,3 +1,5 @@
+pub mod ScanPages
+pub mod FirstKeys
 pub mod AtPaths
 pub mod Finished
 pub mod Descent

@@ -1,6 +1,6 @@
 -- One step of a path: where each shard has the whole group of a key, the nodes below the bucket of the whole are the wholes of
 -- the answers to that group.
-use Rattle.std.specs.Prelude.{◌≡◌, refl, ℕ, zero, suc, ◌+◌, ◌||◌, Bool, true, false, cond, T, List, [], ◌∷◌, ◌++◌, map, filter_map, flat_map, sum_by, find, Option, Some, None, option_map, slice_get}
+use Rattle.std.specs.Prelude.{◌≡◌, refl, ℕ, zero, suc, ◌+◌, ◌||◌, Bool, true, false, cond, T, List, [], ◌∷◌, ◌++◌, map, filter_map, flat_map, sum_by, find, length, Option, Some, None, option_map, slice_get}
 use Rattle.std.specs.List.{AllByRecursion, list_all, cons_option, enumerate_from}
 use Rattle.std.specs.Option.{option_map_or}
 use Rattle.std.proofs.Common.{sym, ◌∙◌, ap, subst, arith, ⊎_elim}
@@ -16,7 +16,7 @@ use Rattle.agg_model.specs.declared.aggregation.Agg.TheOpen.{Agg-F}
 use Rattle.agg_model.specs.declared.aggregation.Kind.{Kind}
 use Rattle.agg_evaluation.specs.Folds.{fold_agg, fold_aggs}
 use Rattle.agg_evaluation.specs.KeyOrder.{key_eq, has_key}
-use Rattle.agg_evaluation.specs.Orders.{bucket_key}
+use Rattle.agg_evaluation.specs.Orders.{bucket_count, bucket_key}
 use Rattle.agg_evaluation.specs.Rows.{PlacedRow, roots}
 use Rattle.agg_evaluation.specs.Groups.{group, under}
 use Rattle.agg_evaluation.specs.SearchFits.{Made, made_at, agg_fits}
@@ -29,7 +29,7 @@ use Rattle.agg_evaluation.proofs.TreeLaws.{collected-is_tree}
 use Rattle.agg_evaluation.proofs.UnionLaws.{whole_node-unites}
 use Rattle.agg_evaluation.proofs.WholeLaws.{Union, tree_buckets, with_key}
 use Rattle.list_laws.proofs.Booleans.{and_left, and_right, holds}
-use Rattle.list_laws.proofs.Lists.{joined, filter-flat_map, filter_map-append, flat_map-map, map-map, slice_get-enumerated}
+use Rattle.list_laws.proofs.Lists.{joined, filter-flat_map, filter_map-append, flat_map-map, map-map, slice_get-enumerated, sum_by-flat_map}
 use Rattle.list_laws.proofs.Options.{none_some}
 use Rattle.count_laws.specs.TermsSums.{whole_of_rows}
 use Rattle.count_laws.proofs.Nothing.{nothing}
@@ -132,3 +132,25 @@ module _ (m : Mapping) (context : ℕ) (k : Kind) {n : _} (children : Row_of-Agg
       ∙ ap (λ i. Some (whole_node c (children_at (with_key q (tree_buckets (map tree ss))) i))) (let e : 0 + j ≡ j = omega arith in e)
       ∙ ap (λ bs. Some (whole_node c (children_at bs j))) same
       ∙ ap Some (child-whole j c at ss h)
+
+  count-one : (s : Handed) (h : HasWhole s) → sum_by bucket_count (with_key q (parts (tree s)).buckets) ≡ length (group_of s)
+  count-one s h =
+      let whole = with_covered h.covered (bucket_of true s.0 (roots s.0) k (collectors s) (counted s) q) in
+      ap (sum_by bucket_count) h.found
+      ∙ elim h.present as (λ p. h.present ≡ p → sum_by bucket_count (cond p (whole ∷ []) []) ≡ length (group_of s)) [
+        | true ↦ λ e. omega (arith, sum_by-cons bucket_count whole [])
+        | false ↦ λ e. ap length (sym (h.none e))
+      ] refl
+
+  count-found : (ss : List Handed) → AllByRecursion HasWhole ss → sum_by (λ s. sum_by bucket_count (with_key q (parts (tree s)).buckets)) ss ≡ sum_by (λ s. length (group_of s)) ss
+  count-found [] h = refl
+  count-found (s ∷ ss) h =
+      omega (arith, count-one s h.0, count-found ss h.1, sum_by-cons (λ s. sum_by bucket_count (with_key q (parts (tree s)).buckets)) s ss, sum_by-cons (λ s. length (group_of s)) s ss)
+
+  -- the bucket of the key counts all rows that have it
+  pub count-whole : (ss : List Handed) → AllByRecursion HasWhole ss → (whole_bucket unions (tree_buckets (map tree ss)) q).count ≡ sum_by (λ s. length (group_of s)) ss
+  count-whole ss h =
+      ap (λ bs. sum_by bucket_count (with_key q bs)) (flat_map-map tree (λ t. (parts t).buckets) ss)
+      ∙ ap (sum_by bucket_count) (filter-flat_map (λ b. key_eq q (bucket_key b)) (λ s. (parts (tree s)).buckets) ss)
+      ∙ sum_by-flat_map bucket_count (λ s. with_key q (parts (tree s)).buckets) ss
+      ∙ count-found ss h
