@@ -25,9 +25,9 @@ use Rattle.agg_evaluation.specs.Groups.{all_keys, group}
 use Rattle.agg_evaluation.specs.KeyOrder.{key_cmp, key_eq, has_key}
 use Rattle.agg_evaluation.specs.Matching.{matched_roots}
 use Rattle.agg_evaluation.specs.Orders.{bucket_count, bucket_key, composite_cmp}
-use Rattle.agg_evaluation.specs.Rows.{PlacedRow}
+use Rattle.agg_evaluation.specs.Rows.{PlacedRow, roots}
 use Rattle.agg_evaluation.specs.SearchFits.{Made, made_at, handed}
-use Rattle.agg_evaluation.specs.Shard.{page, shard_node}
+use Rattle.agg_evaluation.specs.Shard.{collector_of, node_of, page}
 use Rattle.agg_evaluation.specs.TrueCounts.{rows_at, true_count}
 use Rattle.agg_evaluation.specs.Whole.{parts, whole_bucket, whole_by, whole_node, shape_of}
 use Rattle.agg_evaluation.proofs.KeyLists.{ascending-distinct_keys, has_key-distinct_keys, key_eq-self}
@@ -37,7 +37,7 @@ use Rattle.list_laws.specs.Sorting.{insert_sorted, sorted}
 use Rattle.list_laws.proofs.Lists.{flat_map-map, map-map, sum_by-map}
 use Rattle.growth_laws.proofs.CompositeOrder.{beyond}
 use Rattle.growth_laws.proofs.PageKeys.{AreKeys, all-keys, page-among, page-fewer}
-use Rattle.agg_spec.specs.Final.{finish_at, finish_bucket, finisher_of}
+use Rattle.agg_spec.specs.Final.{Finisher, finish_at, finish_bucket, finisher_of}
 use Rattle.count_laws.specs.CompositeGroups.{Group, answered_groups, composite_groups, group_answer, matched_keys}
 use Rattle.count_laws.proofs.AtPaths.{rows-one_more}
 use Rattle.count_laws.proofs.Descent.{all-found, all-keep, any-of, are-union, composite-whole, each-step, each-within, in_union, union-are, union-beyond, union_keys}
@@ -135,3 +135,56 @@ module _ (m : Mapping) (context : ℕ) (name : List ℕ) {n : _} (children : Row
   keys-same : take size (sorted (composite_cmp sources) some) ≡ take size (filter (beyond sources after) (sorted (composite_cmp sources) every))
   keys-same =
       first-keys-same sources size after some every (are-union m context name children no_key ss sources size after fit) are-every some-among (union-beyond m context name children no_key ss sources size after fit) firsts-among
+
+  abbrev unions : List Union
+  unions = fold_aggs (λ a. whole_by a.children a.kind (shape_of a.kind)) children
+
+  abbrev tree : Handed → Node
+  tree s = node_of true s.0 (roots s.0) (fold_aggs (collector_of true s.0 (roots s.0)) children) k s.1
+
+  abbrev buckets : List Bucket
+  buckets = tree_buckets (map tree ss)
+
+  abbrev first_some : List Key
+  first_some = take size (sorted (composite_cmp sources) some)
+
+  module _ (reach : (all : List PlacedRow) (q : Key) → rows_at all request.aggs (matched_roots all request.query) ((0, q) ∷ []) ≡ group all k (matched_roots all request.query) q) where
+    -- a returned key's count is the true one
+    counted : (q : Key) → has_key q first_some ≡ true → (whole_bucket unions buckets q).count ≡ true_count shards request ((0, q) ∷ [])
+    counted q first =
+        let inside = sym (has-sorted (composite_cmp sources) q some) ∙ has-take size q (sorted (composite_cmp sources) some) first in
+        count-whole m (handed context k) k children fit q tree ss (composite-whole m context name children q ss sources size after fit inside first)
+        ∙ sum_by-map (λ s. length (group s.0 k s.1 q)) (λ all. (all, matched_roots all request.query)) shards
+        ∙ (λ i. sum_by (λ all. length (sym (reach all q) i)) shards)
+
+    abbrev group_at : Key → Group
+    group_at q = (q, true_count shards request ((0, q) ∷ []))
+
+    abbrev fs : List Finisher
+    fs = fold_aggs finisher_of children
+
+    abbrev cmp : Bucket → Bucket → Ordering
+    cmp a b = composite_cmp sources (bucket_key a) (bucket_key b)
+
+    finished-group : (b : Bucket) → group_answer (finish_bucket fs None b) ≡ (bucket_key b, bucket_count b)
+    finished-group b = ap (λ (l : BucketAnswer-F BucketAnswer NodeAnswer). (l.key, l.count)) (finished-is fs None b)
+
+    pub page-groups : answered_groups (finish_at name fs k (parts (whole_by unions k (shape_of k) (map tree ss))))
+        ≡ take size (map group_at (filter (beyond sources after) (sorted (composite_cmp sources) every)))
+    page-groups =
+        let bs = (parts (whole_by unions k (shape_of k) (map tree ss))).buckets in
+        let first = take size (sorted cmp bs) in
+        let wb = whole_bucket unions buckets in
+        let first_are : first ≡ map wb first_some =
+        ap (λ xs. take size (sorted cmp xs)) (union-are m context name children no_key ss sources size after fit)
+        ∙ ap (take size) (sorted-buckets (composite_cmp sources) unions buckets some)
+        ∙ sym (take-mapped wb size (sorted (composite_cmp sources) some)) in
+        let pair : Bucket → Group = (λ b. (bucket_key b, bucket_count b)) in
+        ap (map group_answer) (buckets-are name (map (finish_bucket fs None) first))
+        ∙ map-map group_answer (finish_bucket fs None) first
+        ∙ (λ i. map (λ b. finished-group b i) first)
+        ∙ ap (map pair) first_are
+        ∙ map-map pair wb first_some
+        ∙ same-where (λ q. pair (wb q)) group_at first_some (λ q e. ap (λ (c : ℕ). (q, c)) (counted q e))
+        ∙ ap (map group_at) keys-same
+        ∙ take-mapped group_at size (filter (beyond sources after) (sorted (composite_cmp sources) every))
