@@ -77,10 +77,11 @@ any-of f p j h (x ∷ xs) e =
 -- each list's keys are among all
 pub each-within : {A : Type 0} (f : A → List Key) (xs : List A) → AllByRecursion (λ x. (j : Key) → has_key j (f x) ≡ true → has_key j (flat_map f xs) ≡ true) xs
 each-within f [] = tt
-each-within f (x ∷ xs) =
-    (λ j e. has_key-append j (f x) (flat_map f xs) ∙ ap (λ b. b || has_key j (flat_map f xs)) e,
-    each-step (λ y. (j : Key) → has_key j (f y) ≡ true → has_key j (flat_map f xs) ≡ true) (λ y. (j : Key) → has_key j (f y) ≡ true → has_key j (flat_map f (x ∷ xs)) ≡ true)
-    (λ y h j e. has_key-append j (f x) (flat_map f xs) ∙ ap (λ b. has_key j (f x) || b) (h j e) ∙ or-true (has_key j (f x))) xs (each-within f xs))
+each-within f (x ∷ xs) = (
+  λ j e. has_key-append j (f x) (flat_map f xs) ∙ ap (λ b. b || has_key j (flat_map f xs)) e,
+  each-step (λ y. (j : Key) → has_key j (f y) ≡ true → has_key j (flat_map f xs) ≡ true) (λ y. (j : Key) → has_key j (f y) ≡ true → has_key j (flat_map f (x ∷ xs)) ≡ true)
+      (λ y h j e. has_key-append j (f x) (flat_map f xs) ∙ ap (λ b. has_key j (f x) || b) (h j e) ∙ or-true (has_key j (f x))) xs (each-within f xs),
+)
 
 -- a test that holds of each key that stands in a list
 pub all-keep : (p : Key → Bool) (ks : List Key) → ((q : Key) → has_key q ks ≡ true → p q ≡ true) → T (list_all p ks)
@@ -157,7 +158,6 @@ module _ (m : Mapping) (context : ℕ) (name : List ℕ) {n : _} (children : Row
 
     uncut-of : T (((parts united).cut == 0) && (has_key q (map bucket_key (parts united).buckets) && returns q (finish_at name (fold_aggs finisher_of children) k (parts united)))) → (parts united).cut ≡ 0
     uncut-of h = eqb_yes (and_left ((parts united).cut == 0) (has_key q (map bucket_key (parts united).buckets) && returns q (finish_at name (fold_aggs finisher_of children) k (parts united))) h)
-
 
     -- the parts of the whole are buckets of some keys
     among-of : (ks : List Key) → (parts united).buckets ≡ map (whole_bucket unions buckets) ks → has_key q (map bucket_key (parts united).buckets) ≡ true → has_key q ks ≡ true
@@ -275,7 +275,7 @@ below-whole m top context (Agg' name k n children) q ss h = below-kind m context
 abbrev Fit : Mapping → Bool → ℕ → List Agg → Type 0
 Fit m top context aggs = T (list_all (agg_fits m top context) aggs)
 
-fit-at : (m : Mapping) (top : Bool) (context : ℕ) (aggs : List Agg) (j : ℕ) (a : Agg) → Fit m top context aggs → slice_get aggs j ≡ Some a → T (agg_fits m top context a)
+pub fit-at : (m : Mapping) (top : Bool) (context : ℕ) (aggs : List Agg) (j : ℕ) (a : Agg) → Fit m top context aggs → slice_get aggs j ≡ Some a → T (agg_fits m top context a)
 fit-at m top context [] j a h e = absurd (none_some a e)
 fit-at m top context (b ∷ aggs) zero a h e = subst (λ o. T (option_map_or (agg_fits m top context) o true)) e (and_left _ _ h)
 fit-at m top context (b ∷ aggs) (suc j) a h e = fit-at m top context aggs j a (and_right _ _ h) e

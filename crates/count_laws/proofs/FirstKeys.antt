@@ -47,7 +47,6 @@ module _ (sources : List CompositeSource) (size : ℕ) (after : Option Key) wher
   abbrev total : IsTotalOrder (exact_cmp sources)
   total = exact_cmp_total sources
 
-
   -- the order of the sources sorts composite keys as the exact order does
   pub sorted-is : (ks : List Key) → AreKeys sources size after ks → sorted (composite_cmp sources) ks ≡ ascending Before ks
   sorted-is ks are =

@@ -1,3 +1,5 @@
+mod Examples
+pub mod ScanLaws
 pub mod ScanPages
 pub mod FirstKeys
 pub mod AtPaths

@@ -1,5 +1,5 @@
 -- The groups of a scan over a composite aggregation, which its pages give one after another ('Composite aggregation', pagination).
-use Rattle.std.specs.Prelude.{ℕ, Bool, true, List, [], ◌∷◌, map, filter, flat_map, Option, slice_get}
+use Rattle.std.specs.Prelude.{ℕ, Bool, true, List, [], ◌∷◌, map, filter, flat_map, Option, Some, None, slice_get}
 use Rattle.std.specs.Option.{option_map_or}
 use Rattle.std.specs.Ordering.{is_gt}
 use Rattle.agg_model.specs.declared.key.Key.{Key}
@@ -46,3 +46,7 @@ group_answer b = ((out-BucketAnswer b).key, (out-BucketAnswer b).count)
 
 abbrev pub answered_groups : NodeAnswer → List Group
 answered_groups n = map group_answer (out-NodeAnswer n).buckets
+
+-- how many groups a page has
+abbrev pub page_size : Kind → Option ℕ
+page_size kind = elim (options_of kind) [ Options.Composite sources size after ↦ Some size | _ ↦ None ]
