@@ -1,6 +1,6 @@
 -- Along a path of returned buckets on which no terms were cut, the whole has at each level the wholes of the answers to the rows there.
-use Rattle.std.specs.Prelude.{◌≡◌, refl, ℕ, zero, suc, ◌+◌, ◌==◌, ◌&&◌, ◌||◌, Bool, true, false, cond, T, List, [], ◌∷◌, ◌++◌, map, filter_map, flat_map, sum_by, take, find, length, Option, Some, None, option_map, slice_get}
-use Rattle.std.specs.List.{AllByRecursion, list_all, enumerate_from}
+use Rattle.std.specs.Prelude.{◌≡◌, refl, ℕ, zero, suc, ◌+◌, ◌==◌, ◌&&◌, ◌||◌, Bool, true, false, T, List, [], ◌∷◌, map, filter_map, flat_map, sum_by, take, find, length, Option, Some, None, option_map, slice_get}
+use Rattle.std.specs.List.{AllByRecursion, list_all}
 use Rattle.std.specs.Option.{option_map_or}
 use Rattle.std.proofs.Common.{sym, ◌∙◌, ap, subst, arith, ⊎_elim}
 use Rattle.std.proofs.Math.Bool.{or-true}
@@ -11,29 +11,28 @@ use Rattle.std.proofs.lemmas.List.Sums.{sum_by-cons}
 use Rattle.agg_model.specs.declared.mapping.Mapping.{Mapping}
 use Rattle.agg_model.specs.declared.key.Key.{Key}
 use Rattle.agg_model.specs.declared.partial.Bucket.{Bucket}
-use Rattle.agg_model.specs.declared.partial.Metric.{Metric}
-use Rattle.agg_model.specs.declared.partial.Node.{Node, out-Node}
+use Rattle.agg_model.specs.declared.partial.Node.{Node}
 use Rattle.agg_model.specs.declared.partial.Partial.{Partial}
-use Rattle.agg_model.specs.declared.partial.Node.TheVariants.{Keyed, Fixed, Number}
+use Rattle.agg_model.specs.declared.partial.Node.TheVariants.{Keyed, Fixed}
 use Rattle.agg_model.specs.declared.aggregation.Agg.{Agg, Agg', Row_of-Agg, end_of-Agg, more_of-Agg}
 use Rattle.agg_model.specs.declared.aggregation.CompositeSource.{CompositeSource}
 use Rattle.agg_model.specs.declared.aggregation.Search.{Search}
 use Rattle.agg_model.specs.declared.aggregation.Kind.{Kind}
 use Rattle.agg_model.specs.declared.aggregation.Kind.TheVariants as kind
 use Rattle.agg_evaluation.specs.CompositeKeys.{is_composite_of}
-use Rattle.agg_evaluation.specs.Folds.{fold_agg, fold_aggs}
+use Rattle.agg_evaluation.specs.Folds.{fold_aggs}
 use Rattle.agg_evaluation.specs.KeyOrder.{key_eq, has_key}
 use Rattle.agg_evaluation.specs.Keys.{distinct_keys}
-use Rattle.agg_evaluation.specs.Orders.{bucket_key, bucket_count, composite_cmp}
+use Rattle.agg_evaluation.specs.Orders.{bucket_key, composite_cmp}
 use Rattle.agg_evaluation.specs.Rows.{PlacedRow, roots}
-use Rattle.agg_evaluation.specs.Groups.{all_keys, group, total_key_count, under}
+use Rattle.agg_evaluation.specs.Groups.{all_keys, group, under}
 use Rattle.agg_evaluation.specs.Matching.{matched_roots}
 use Rattle.agg_evaluation.specs.QueryFits.{query_fits}
 use Rattle.agg_evaluation.specs.SearchFits.{Made, made_at, agg_fits, handed, search_fits}
-use Rattle.agg_evaluation.specs.Shard.{Collector, collector_of, bucket_of, fixed_keys, node_of, page, shard_answer, shard_node, trimmed_node}
+use Rattle.agg_evaluation.specs.Shard.{Collector, collector_of, bucket_of, fixed_keys, node_of, page, shard_answer, shard_node}
 use Rattle.agg_evaluation.specs.Trees.{is_ascending}
 use Rattle.agg_evaluation.specs.TrueCounts.{BucketPath, aggs_at, children_of, group_in, listed, rows_at}
-use Rattle.agg_evaluation.specs.Whole.{Parts, parts, parts_at, whole_bucket, whole_by, whole_node, shape_of, by_key, from_start, a_number}
+use Rattle.agg_evaluation.specs.Whole.{Parts, parts, parts_at, whole_bucket, whole_by, whole_node, shape_of}
 use Rattle.agg_evaluation.proofs.Computing.{computing}
 use Rattle.agg_evaluation.proofs.KeyLists.{ascending-distinct_keys, has_key-distinct_keys}
 use Rattle.agg_evaluation.proofs.NodeForms.{out-Keyed, out-Fixed, out-Number}
@@ -45,7 +44,7 @@ use Rattle.list_laws.proofs.Lists.{filter_map-there, flat_map-map, map-flat_map,
 use Rattle.list_laws.proofs.Options.{none_some}
 use Rattle.growth_laws.proofs.CompositeOrder.{beyond}
 use Rattle.growth_laws.proofs.PageKeys.{AreKeys, all-keys, page-keys}
-use Rattle.agg_spec.specs.Final.{Finisher, finish_at, finish_bucket, finisher, finisher_of}
+use Rattle.agg_spec.specs.Final.{finish_at, finisher_of}
 use Rattle.count_laws.specs.Paths.{answered_by_shard, is_uncut, is_uncut_at, nodes_at, nodes_below, returns, whole_of_shards}
 use Rattle.count_laws.specs.TermsSums.{whole_of_rows}
 use Rattle.count_laws.proofs.Finished.{returns-buckets, sorted-mapped, take-mapped}

@@ -1,5 +1,5 @@
 -- The premises of the laws, met and missed. Field 2 is t, a keyword, and 1 is n, a long.
-use Rattle.std.specs.Prelude.{◌≡◌, refl, ℕ, pos, true, false, List, [], ◌∷◌, map, None, Some, codes, slice_get}
+use Rattle.std.specs.Prelude.{◌≡◌, refl, pos, true, false, List, [], ◌∷◌, map, None, codes}
 use Rattle.agg_model.specs.declared.key.Key.TheVariants as key
 use Rattle.agg_model.specs.declared.query.Query.TheVariants as query
 use Rattle.agg_model.specs.declared.aggregation.Kind.TheVariants as kind
@@ -10,7 +10,7 @@ use Rattle.agg_evaluation.specs.Whole.{parts}
 use Rattle.agg_evaluation.proofs.Computing.{computing}
 use Rattle.evaluation_laws.proofs.Samples.{numbers, words, flat, document, by_count, agg, search_of, source}
 use Rattle.count_laws.specs.CompositeGroups.{answered_groups, composite_groups}
-use Rattle.count_laws.specs.Paths.{answer_of_shards, is_uncut, nodes_at, whole_of_shards}
+use Rattle.count_laws.specs.Paths.{answer_of_shards, is_uncut, whole_of_shards}
 
 -- what unfolds in an answer, beside the rest
 unfoldable answering : Unit {0}

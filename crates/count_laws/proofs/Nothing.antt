@@ -1,24 +1,22 @@
 -- Below the top an aggregation of no rows answers as the whole of no shard does: it counts nothing, since a global aggregation,
 -- which counts the roots whatever it is handed, stands at the top alone.
-use Rattle.std.specs.Prelude.{◌≡◌, refl, ℕ, zero, suc, ◌+◌, ◌==◌, ◌&&◌, not, ◌||◌, nat_le, Bool, true, false, cond, if◌then◌else◌, T, List, [], ◌∷◌, map, filter, take, Option}
-use Rattle.std.specs.List.{list_all, list_any, enumerate_from}
+use Rattle.std.specs.Prelude.{◌≡◌, refl, ℕ, zero, suc, ◌+◌, ◌==◌, ◌&&◌, not, ◌||◌, nat_le, Bool, true, false, cond, if◌then◌else◌, T, List, [], ◌∷◌, map}
+use Rattle.std.specs.List.{list_all, enumerate_from}
 use Rattle.std.specs.Option.{option_map_or}
 use Rattle.std.proofs.Common.{sym, ◌∙◌, ap, subst, arith}
 use Rattle.agg_model.specs.declared.mapping.Mapping.{Mapping}
 use Rattle.agg_model.specs.declared.key.Key.{Key}
-use Rattle.agg_model.specs.declared.partial.Node.{Node}
 use Rattle.agg_model.specs.declared.partial.Node.TheVariants.{Keyed, Fixed}
 use Rattle.agg_model.specs.declared.aggregation.Agg.{Agg, Agg', Row_of-Agg, end_of-Agg, more_of-Agg}
-use Rattle.agg_model.specs.declared.aggregation.CompositeSource.{CompositeSource}
 use Rattle.agg_model.specs.declared.aggregation.Order.{Order}
 use Rattle.agg_model.specs.declared.aggregation.Kind.{Kind}
 use Rattle.agg_model.specs.declared.aggregation.Kind.TheVariants as kind
 use Rattle.agg_evaluation.specs.Folds.{fold_aggs}
-use Rattle.agg_evaluation.specs.Rows.{PlacedRow, roots, is_within, enclosing}
+use Rattle.agg_evaluation.specs.Rows.{PlacedRow, roots, enclosing}
 use Rattle.agg_evaluation.specs.Groups.{under}
 use Rattle.agg_evaluation.specs.QueryFits.{field_is, are_probes}
 use Rattle.agg_evaluation.specs.SearchFits.{Made, made_at, kind_fits, is_made, is_metric, is_missing, no_children, handed, agg_fits, orders_fit}
-use Rattle.agg_evaluation.specs.Shard.{Collector, collector_of, fixed_keys, bucket_of, node_of, trimmed_node, shard_node}
+use Rattle.agg_evaluation.specs.Shard.{Collector, collector_of, fixed_keys, node_of, trimmed_node, shard_node}
 use Rattle.agg_evaluation.specs.Whole.{children_at, whole_by, whole_node, shape_of}
 use Rattle.agg_evaluation.proofs.WholeLaws.{Union}
 use Rattle.std.proofs.Math.Facts.{eqb_yes}

@@ -1,29 +1,26 @@
 -- Under a composite a returned key stands in the page of each shard that has it: what a page left out came behind a whole page.
-use Rattle.std.specs.Prelude.{◌≡◌, refl, ℕ, zero, suc, ◌||◌, Bool, true, false, cond, if◌then◌else◌, T, List, [], ◌∷◌, ◌++◌, map, filter, flat_map, take, length, Option, Some, None}
+use Rattle.std.specs.Prelude.{◌≡◌, refl, ℕ, ◌||◌, Bool, true, false, cond, if◌then◌else◌, T, List, [], ◌∷◌, filter, take, length, Option}
 use Rattle.std.specs.List.{list_all}
-use Rattle.std.specs.Option.{option_map_or}
 use Rattle.std.specs.declared.cmp.Ordering.{Ordering}
-use Rattle.std.specs.Ordering.{is_le, is_gt}
+use Rattle.std.specs.Ordering.{is_le}
 use Rattle.std.proofs.Common.{sym, ◌∙◌, ap, subst, ⊎_elim}
 use Rattle.std.proofs.Math.Bool.{or-true}
-use Rattle.std.proofs.lemmas.Bool.{cases_Bool, true≢false}
+use Rattle.std.proofs.lemmas.Bool.{cases_Bool}
 use Rattle.agg_model.specs.declared.key.Key.{Key}
 use Rattle.agg_model.specs.declared.aggregation.CompositeSource.{CompositeSource}
 use Rattle.agg_evaluation.specs.CompositeKeys.{is_composite_of}
 use Rattle.agg_evaluation.specs.KeyOrder.{has_key, key_cmp, key_eq}
-use Rattle.agg_evaluation.specs.Keys.{distinct_keys}
 use Rattle.agg_evaluation.specs.Orders.{composite_cmp}
 use Rattle.agg_evaluation.specs.Shard.{page}
 use Rattle.agg_evaluation.specs.Trees.{is_ascending}
 use Rattle.agg_evaluation.proofs.KeyCompare.{key_cmp_total}
 use Rattle.agg_evaluation.proofs.KeyExact.{exact_keys}
-use Rattle.agg_evaluation.proofs.KeyLists.{key_eq-self, key_eq-exact, same_keys, ascending-distinct_keys, ascending-insert_once, has_key-insert_once, has_key-distinct_keys}
+use Rattle.agg_evaluation.proofs.KeyLists.{key_eq-self, key_eq-exact, same_keys, ascending-insert_once, has_key-insert_once}
 use Rattle.list_laws.specs.Sorting.{insert_once, insert_sorted, sorted}
-use Rattle.list_laws.proofs.Booleans.{and_left, and_right, both, holds, true_is}
+use Rattle.list_laws.proofs.Booleans.{and_left, and_right, holds, true_is}
 use Rattle.growth_laws.proofs.CompositeOrder.{beyond}
-use Rattle.growth_laws.proofs.PageKeys.{AreKeys, found-has, has-found, insert-keys, page-among, page-fewer, page-insert, page-keys}
+use Rattle.growth_laws.proofs.PageKeys.{AreKeys, found-has, insert-keys, page-fewer, page-insert, page-keys}
 use Rattle.growth_laws.proofs.Ordered.{has-filter, has-take}
-use Rattle.growth_laws.proofs.Pages.{Has}
 
 -- a key stands in a sorted list where it stands in the list
 has-insert_sorted : (cmp : Key → Key → Ordering) (q k : Key) (ks : List Key) → has_key q (insert_sorted cmp k ks) ≡ (key_eq q k || has_key q ks)

@@ -1,8 +1,8 @@
 -- The pages of a search whose first aggregation is a composite.
-use Rattle.std.specs.Prelude.{◌≡◌, refl, ℕ, zero, suc, true, T, List, [], ◌∷◌, map, filter, take, Option, Some, None, slice_get}
+use Rattle.std.specs.Prelude.{◌≡◌, ℕ, zero, suc, true, T, List, [], ◌∷◌, map, take, Some, slice_get}
 use Rattle.std.specs.List.{list_all}
 use Rattle.std.specs.Option.{option_map_or}
-use Rattle.std.proofs.Common.{sym, ◌∙◌, ap, subst}
+use Rattle.std.proofs.Common.{sym, ◌∙◌, ap}
 use Rattle.agg_model.specs.declared.mapping.Mapping.{Mapping}
 use Rattle.agg_model.specs.declared.key.Key.TheVariants as key
 use Rattle.agg_model.specs.declared.partial.Node.{Node}

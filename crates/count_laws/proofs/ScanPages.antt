@@ -1,7 +1,6 @@
 -- A page of a composite is the first groups of all that come after its key, with their true counts.
-use Rattle.std.specs.Prelude.{◌≡◌, refl, ℕ, zero, suc, ◌||◌, Bool, true, false, if◌then◌else◌, T, List, [], ◌∷◌, ◌++◌, map, filter, flat_map, take, length, sum_by, Option, Some, None, slice_get}
+use Rattle.std.specs.Prelude.{◌≡◌, refl, ℕ, zero, suc, ◌||◌, true, false, if◌then◌else◌, T, List, [], ◌∷◌, map, filter, flat_map, take, length, sum_by, Option, None}
 use Rattle.std.specs.List.{AllByRecursion, list_all}
-use Rattle.std.specs.Option.{option_map_or}
 use Rattle.std.specs.declared.cmp.Ordering.{Ordering}
 use Rattle.std.specs.Ordering.{is_le}
 use Rattle.std.proofs.Common.{sym, ◌∙◌, ap, subst, ⊎_elim}
@@ -12,9 +11,9 @@ use Rattle.agg_model.specs.declared.key.Key.{Key}
 use Rattle.agg_model.specs.declared.partial.Bucket.{Bucket}
 use Rattle.agg_model.specs.declared.partial.Node.{Node}
 use Rattle.agg_model.specs.declared.answer.BucketAnswer.{BucketAnswer}
-use Rattle.agg_model.specs.declared.answer.BucketAnswer.TheOpen.{BucketAnswer-F, NodeAnswer-F}
-use Rattle.agg_model.specs.declared.answer.NodeAnswer.{NodeAnswer, out-NodeAnswer}
-use Rattle.agg_model.specs.declared.aggregation.Agg.{Agg, Agg', Row_of-Agg}
+use Rattle.agg_model.specs.declared.answer.BucketAnswer.TheOpen.{BucketAnswer-F}
+use Rattle.agg_model.specs.declared.answer.NodeAnswer.{NodeAnswer}
+use Rattle.agg_model.specs.declared.aggregation.Agg.{Row_of-Agg}
 use Rattle.agg_model.specs.declared.aggregation.CompositeSource.{CompositeSource}
 use Rattle.agg_model.specs.declared.aggregation.Search.{Search}
 use Rattle.agg_model.specs.declared.aggregation.Kind.{Kind}
@@ -29,7 +28,7 @@ use Rattle.agg_evaluation.specs.Rows.{PlacedRow, roots}
 use Rattle.agg_evaluation.specs.SearchFits.{Made, made_at, handed}
 use Rattle.agg_evaluation.specs.Shard.{collector_of, node_of, page}
 use Rattle.agg_evaluation.specs.TrueCounts.{rows_at, true_count}
-use Rattle.agg_evaluation.specs.Whole.{parts, whole_bucket, whole_by, whole_node, shape_of}
+use Rattle.agg_evaluation.specs.Whole.{parts, whole_bucket, whole_by, shape_of}
 use Rattle.agg_evaluation.proofs.KeyLists.{ascending-distinct_keys, has_key-distinct_keys, key_eq-self}
 use Rattle.agg_evaluation.proofs.UnionLaws.{has_key-append}
 use Rattle.agg_evaluation.proofs.WholeLaws.{Union, tree_buckets}
@@ -38,8 +37,7 @@ use Rattle.list_laws.proofs.Lists.{flat_map-map, map-map, sum_by-map}
 use Rattle.growth_laws.proofs.CompositeOrder.{beyond}
 use Rattle.growth_laws.proofs.PageKeys.{AreKeys, all-keys, page-among, page-fewer}
 use Rattle.agg_spec.specs.Final.{Finisher, finish_at, finish_bucket, finisher_of}
-use Rattle.count_laws.specs.CompositeGroups.{Group, answered_groups, composite_groups, group_answer, matched_keys}
-use Rattle.count_laws.proofs.AtPaths.{rows-one_more}
+use Rattle.count_laws.specs.CompositeGroups.{Group, answered_groups, group_answer, matched_keys}
 use Rattle.count_laws.proofs.Descent.{all-found, all-keep, any-of, are-union, composite-whole, each-step, each-within, in_union, union-are, union-beyond, union_keys}
 use Rattle.count_laws.proofs.Finished.{buckets-are, finished-is, take-mapped}
 use Rattle.count_laws.proofs.FirstKeys.{first-keys-same}

@@ -1,16 +1,14 @@
 -- Sums over sorted lists, and the sums of an answer to terms.
-use Rattle.std.specs.Prelude.{◌≡◌, refl, ℕ, ℤ, ◌+◌, not, nat_le, true, false, if◌then◌else◌, List, [], ◌∷◌, map, take, drop, sum_by, Option, Some}
-use Rattle.std.specs.declared.cmp.Ordering.{Ordering}
-use Rattle.std.specs.Ordering.{is_le}
+use Rattle.std.specs.Prelude.{◌≡◌, refl, ℕ, ℤ, ◌+◌, not, nat_le, List, map, take, drop, sum_by, Option, Some}
 use Rattle.std.proofs.Common.{◌∙◌, ap, arith}
-use Rattle.std.proofs.lemmas.List.Sums.{sum_by-cons, sum_by-take-drop}
+use Rattle.std.proofs.lemmas.List.Sums.{sum_by-take-drop}
 use Rattle.std.proofs.lemmas.List.Filters.{sum_by-filter_both}
 use Rattle.agg_model.specs.declared.partial.Bucket.{Bucket}
 use Rattle.agg_model.specs.declared.answer.BucketAnswer.{BucketAnswer, out-roll-BucketAnswer}
 use Rattle.agg_model.specs.declared.answer.BucketAnswer.TheOpen.{NodeAnswer-F, BucketAnswer-F}
 use Rattle.agg_model.specs.declared.answer.NodeAnswer.{NodeAnswer, out-roll-NodeAnswer}
 use Rattle.agg_model.specs.declared.aggregation.Order.{Order}
-use Rattle.list_laws.specs.Sorting.{insert_sorted, sorted}
+use Rattle.list_laws.specs.Sorting.{sorted}
 use Rattle.agg_evaluation.specs.Orders.{bucket_cmp, bucket_count}
 use Rattle.agg_evaluation.specs.Whole.{Parts}
 use Rattle.list_laws.proofs.Lists.{sum_by-map}

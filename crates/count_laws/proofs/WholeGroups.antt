@@ -1,6 +1,6 @@
 -- Where a shard's tree has the whole group of a key, or the shard has no row with the key: wherever all keys have their buckets,
 -- and among terms where none was cut.
-use Rattle.std.specs.Prelude.{◌≡◌, ◌≤◌, refl, ℕ, zero, suc, ◌+◌, ◌-◌, ◌==◌, ◌||◌, Bool, true, false, cond, if◌then◌else◌, T, List, [], ◌∷◌, map, filter, flat_map, length, take, drop, sum_by, None, unwrap_or}
+use Rattle.std.specs.Prelude.{◌≡◌, ◌≤◌, refl, ℕ, zero, suc, ◌-◌, ◌==◌, ◌||◌, Bool, true, false, cond, if◌then◌else◌, T, List, [], ◌∷◌, map, filter, flat_map, length, take, drop, sum_by, None, unwrap_or}
 use Rattle.std.specs.List.{AllByRecursion, last_or}
 use Rattle.std.specs.declared.cmp.Ordering.{Ordering}
 use Rattle.std.specs.Ordering.{is_le}
@@ -19,7 +19,7 @@ use Rattle.list_laws.specs.Sorting.{insert_sorted, sorted}
 use Rattle.agg_evaluation.specs.Orders.{bucket_cmp, bucket_key, bucket_count}
 use Rattle.agg_evaluation.specs.Shard.{Collector, bucket_of, trimmed_node, sorted_by_key, with_covered}
 use Rattle.agg_evaluation.specs.Trees.{is_ascending}
-use Rattle.agg_evaluation.specs.Whole.{Parts, parts, parts_at}
+use Rattle.agg_evaluation.specs.Whole.{parts, parts_at}
 use Rattle.agg_evaluation.proofs.KeyLists.{filter-ascending, ascending-distinct_keys, has_key-distinct_keys, key_eq-self}
 use Rattle.agg_evaluation.proofs.NodeForms.{out-Keyed}
 use Rattle.agg_evaluation.proofs.UnionLaws.{has_key-append}

@@ -1,14 +1,11 @@
 -- What the error of a returned term says of its true count ('Terms aggregation', `doc_count_error_upper_bound`).
-use Rattle.std.specs.Prelude.{◌≡◌, ◌≤◌, ◌<◌, ◌+◌, ℕ, pos, true, List, [], ◌∷◌, length, sum_by, Some}
+use Rattle.std.specs.Prelude.{◌≡◌, ◌≤◌, ◌<◌, ◌+◌, ℕ, pos, true, List, [], ◌∷◌, Some}
 use Rattle.agg_model.specs.declared.key.Key.{Key}
 use Rattle.agg_model.specs.declared.answer.BucketAnswer.{BucketAnswer, out-BucketAnswer}
 use Rattle.agg_model.specs.declared.aggregation.Order.{Order}
 use Rattle.agg_model.specs.declared.aggregation.OrderBy.TheVariants.{Count}
 use Rattle.agg_model.specs.declared.aggregation.Kind.{Kind}
 use Rattle.agg_model.specs.Options.{Options, options_of}
-use Rattle.agg_model.specs.declared.aggregation.Agg.{Agg, out-Agg}
-use Rattle.agg_evaluation.specs.Rows.{PlacedRow}
-use Rattle.agg_evaluation.specs.Groups.{group}
 
 abbrev pub BeginsByCount : List Order → Type 0
 BeginsByCount [] = ⊥

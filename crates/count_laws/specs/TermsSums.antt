@@ -6,15 +6,11 @@ use Rattle.agg_model.specs.declared.answer.NodeAnswer.{NodeAnswer, out-NodeAnswe
 use Rattle.agg_model.specs.declared.partial.Node.{Node}
 use Rattle.agg_model.specs.declared.aggregation.Kind.{Kind}
 use Rattle.agg_model.specs.Options.{Options, options_of}
-use Rattle.agg_model.specs.declared.aggregation.Agg.{Agg, out-Agg}
+use Rattle.agg_model.specs.declared.aggregation.Agg.{Agg}
 use Rattle.agg_evaluation.specs.Rows.{PlacedRow}
 use Rattle.agg_evaluation.specs.Orders.{bucket_count}
-use Rattle.agg_evaluation.specs.Groups.{total_key_count}
 use Rattle.agg_evaluation.specs.Shard.{shard_node}
 use Rattle.agg_evaluation.specs.Whole.{whole_node}
-use Rattle.agg_model.specs.declared.aggregation.Search.{Search}
-use Rattle.agg_evaluation.specs.Matching.{matched_roots}
-use Rattle.agg_spec.specs.Index.{Index}
 use Rattle.agg_spec.specs.Final.{finisher}
 
 abbrev pub answered_count : BucketAnswer → ℕ
