@@ -1,3 +1,4 @@
+pub mod NextPages
 mod Examples
 pub mod ScanLaws
 pub mod ScanPages
