@@ -20,11 +20,12 @@ use Rattle.agg_evaluation.specs.Shard.{shard_node, collector_of}
 use Rattle.agg_evaluation.specs.Whole.{Parts, parts, whole_by, shape_of}
 use Rattle.agg_spec.specs.Filling.{frequent}
 use Rattle.agg_spec.specs.Final.{Finisher, finish_each, finish_bucket, no_metric, terms_answer, finisher_of}
-use Rattle.agg_spec.specs.TermsSums.{answer_of_rows, whole_of_rows}
-use Rattle.agg_spec.specs.TermsErrors.{IsTermsByCount, IsWithinError, true_group_count}
-use Rattle.agg_spec.proofs.ShardBounds.{trimmed_node-bounds}
-use Rattle.agg_spec.proofs.TermsBounds.{Within, whole_by-within, each-filter, each-take, each-sorted, each-mapped}
-use Rattle.agg_spec.proofs.Computing.{computing}
+use Rattle.count_laws.specs.TermsSums.{answer_of_rows, whole_of_rows}
+use Rattle.count_laws.specs.TermsErrors.{IsTermsByCount, IsWithinError}
+use Rattle.count_laws.proofs.ShardBounds.{trimmed_node-bounds}
+use Rattle.list_laws.proofs.Each.{each-filter, each-take, each-sorted, each-mapped}
+use Rattle.count_laws.proofs.TermsBounds.{Within, whole_by-within}
+use Rattle.agg_evaluation.proofs.Computing.{computing}
 
 module _ (truth : Key → ℕ) (name : List ℕ) (children : List Finisher) (size min_doc_count : ℕ) (later : List Order) (p : Parts) where
   abbrev order : List Order
@@ -57,6 +58,10 @@ module _ (truth : Key → ℕ) (name : List ℕ) (children : List Finisher) (siz
       (each-take (Within truth p.error) size ordered
       (each-sorted (Within truth p.error) (bucket_cmp (map (λ c. c.kind) children) order) (frequent min_doc_count p.buckets)
       (each-filter (Within truth p.error) _ p.buckets h))))
+
+-- how many rows of all shards have the key: for each shard all its rows, and those that the aggregation is handed
+abbrev pub true_group_count : Agg → List (List PlacedRow × List PlacedRow) → Key → ℕ
+true_group_count a shards key = sum_by (λ s. length (group s.0 (out-Agg a).kind s.1 key)) shards
 
 abbrev AllWithin : Agg → List (List PlacedRow × List PlacedRow) → Type 0
 AllWithin a shards = AllByRecursion (IsWithinError (true_group_count a shards)) (out-NodeAnswer (answer_of_rows a shards)).buckets

@@ -5,14 +5,19 @@ use Rattle.agg_model.specs.declared.aggregation.Kind.TheVariants as kind
 use Rattle.agg_model.specs.declared.aggregation.Agg.{Agg, Agg', out-Agg}
 use Rattle.agg_evaluation.specs.Folds.{fold_aggs}
 use Rattle.agg_evaluation.specs.Rows.{PlacedRow, roots}
+use Rattle.agg_evaluation.specs.Groups.{total_key_count}
 use Rattle.agg_evaluation.specs.Shard.{shard_node, collector_of}
 use Rattle.agg_evaluation.specs.Whole.{parts, whole_by, shape_of}
 use Rattle.list_laws.proofs.Lists.{sum_by-map}
 use Rattle.agg_spec.specs.Final.{finisher_of}
-use Rattle.agg_spec.specs.TermsSums.{returned_count, other_count, below_minimum_count, minimum_of_terms, whole_of_rows, answer_of_rows, all_key_count}
-use Rattle.agg_spec.proofs.SumLaws.{terms_answer-sums}
-use Rattle.agg_spec.proofs.TermsTotals.{tree_count, whole_by-count, trimmed_node-count}
-use Rattle.agg_spec.proofs.Computing.{computing}
+use Rattle.count_laws.specs.TermsSums.{returned_count, other_count, below_minimum_count, minimum_of_terms, whole_of_rows, answer_of_rows}
+use Rattle.count_laws.proofs.SumLaws.{terms_answer-sums}
+use Rattle.count_laws.proofs.TermsTotals.{tree_count, whole_by-count, trimmed_node-count}
+use Rattle.agg_evaluation.proofs.Computing.{computing}
+
+-- how many keys the rows of all shards have
+abbrev pub all_key_count : Agg → List (List PlacedRow × List PlacedRow) → ℕ
+all_key_count a shards = sum_by (λ s. total_key_count s.0 (out-Agg a).kind s.1) shards
 
 abbrev AddsUp : Agg → ℕ → List (List PlacedRow × List PlacedRow) → Type 0
 AddsUp a min shards =

@@ -22,8 +22,8 @@ use Rattle.list_laws.proofs.Lists.{sum_by-map}
 use Rattle.agg_evaluation.proofs.KeyLists.{filter-ascending, ascending-distinct_keys, has_key-distinct_keys}
 use Rattle.agg_evaluation.proofs.UnionLaws.{has_key-append}
 use Rattle.agg_evaluation.proofs.NodeForms.{out-Keyed}
-use Rattle.agg_spec.proofs.SumLaws.{sum_by-sorted}
-use Rattle.agg_spec.proofs.FallingCounts.{AtMost, by_count, falls-sorted, behind_last}
+use Rattle.list_laws.proofs.Each.{sum_by-sorted}
+use Rattle.count_laws.proofs.FallingCounts.{AtMost, by_count, falls-sorted, behind_last}
 
 pub sum_by-filter : {X : Type 0} (p : X → Bool) (f : X → ℕ) (xs : List X) → sum_by f (filter p xs) ≡ sum_by (λ x. cond (p x) (f x) 0) xs
 sum_by-filter p f [] = refl

@@ -1,8 +1,6 @@
 -- By descending count the true count of each returned term lies between its count and that plus its error.
-use Rattle.std.specs.Prelude.{◌≡◌, ◌≤◌, ℕ, zero, suc, ◌+◌, ◌-◌, Bool, true, false, cond, if◌then◌else◌, List, [], ◌∷◌, map, filter, flat_map, take, sum_by}
+use Rattle.std.specs.Prelude.{◌≡◌, ◌≤◌, ℕ, ◌+◌, ◌-◌, List, [], ◌∷◌, map, filter, flat_map, sum_by}
 use Rattle.std.specs.List.{AllByRecursion}
-use Rattle.std.specs.declared.cmp.Ordering.{Ordering}
-use Rattle.std.specs.Ordering.{is_le}
 use Rattle.std.proofs.Common.{sym, ◌∙◌, ap, subst, arith}
 use Rattle.std.proofs.lemmas.List.Sums.{sum_by-cons}
 use Rattle.agg_model.specs.declared.key.Key.{Key}
@@ -12,40 +10,11 @@ use Rattle.agg_model.specs.declared.aggregation.Kind.{Kind}
 use Rattle.agg_evaluation.specs.KeyOrder.{key_eq}
 use Rattle.agg_evaluation.specs.Keys.{distinct_keys}
 use Rattle.agg_evaluation.specs.Orders.{bucket_key, bucket_count}
-use Rattle.list_laws.specs.Sorting.{insert_sorted, sorted}
 use Rattle.agg_evaluation.specs.Whole.{Parts, parts, parts_at, whole_bucket, whole_by, by_key}
 use Rattle.list_laws.proofs.Lists.{sum_by-map, sum_by-flat_map}
 use Rattle.agg_evaluation.proofs.NodeForms.{out-Keyed}
-use Rattle.agg_spec.proofs.ShardBounds.{Bounds, of_key, sum_by-filter}
-
--- a fact of each item, kept by the steps that make a list of others
-module _ {A : Type 0} (P : A → Type 0) where
-  pub each-filter : (p : A → Bool) (xs : List A) → AllByRecursion P xs → AllByRecursion P (filter p xs)
-  each-filter p [] h = tt
-  each-filter p (x ∷ xs) h = elim (p x) as (λ c. AllByRecursion P (cond c (x ∷ filter p xs) (filter p xs))) [ true ↦ (h.0, each-filter p xs h.1) | false ↦ each-filter p xs h.1 ]
-
-  pub each-take : (n : ℕ) (xs : List A) → AllByRecursion P xs → AllByRecursion P (take n xs)
-  each-take zero xs h = tt
-  each-take (suc n) [] h = tt
-  each-take (suc n) (x ∷ xs) h = (h.0, each-take n xs h.1)
-
-  module _ (cmp : A → A → Ordering) where
-    each-insert : (x : A) (xs : List A) → P x → AllByRecursion P xs → AllByRecursion P (insert_sorted cmp x xs)
-    each-insert x [] p h = (p, tt)
-    each-insert x (y ∷ ys) p h =
-        elim (is_le (cmp x y)) as (λ c. AllByRecursion P (if c then x ∷ y ∷ ys else (y ∷ insert_sorted cmp x ys))) [ true ↦ (p, h) | false ↦ (h.0, each-insert x ys p h.1) ]
-
-    pub each-sorted : (xs : List A) → AllByRecursion P xs → AllByRecursion P (sorted cmp xs)
-    each-sorted [] h = tt
-    each-sorted (x ∷ xs) h = each-insert x (sorted cmp xs) h.0 (each-sorted xs h.1)
-
-  pub each-map : {B : Type 0} (f : B → A) (xs : List B) → ((x : B) → P (f x)) → AllByRecursion P (map f xs)
-  each-map f [] h = tt
-  each-map f (x ∷ xs) h = (h x, each-map f xs h)
-
-pub each-mapped : {A B : Type 0} (P : A → Type 0) (Q : B → Type 0) (f : A → B) → ((x : A) → P x → Q (f x)) → (xs : List A) → AllByRecursion P xs → AllByRecursion Q (map f xs)
-each-mapped P Q f step [] h = tt
-each-mapped P Q f step (x ∷ xs) h = (step x h.0, each-mapped P Q f step xs h.1)
+use Rattle.list_laws.proofs.Each.{each-map}
+use Rattle.count_laws.proofs.ShardBounds.{Bounds, of_key, sum_by-filter}
 
 -- a bucket of a whole, against the true count of its key
 pub record Within (true_count : Key → ℕ) (error : ℕ) (b : Bucket) : Type 0 where

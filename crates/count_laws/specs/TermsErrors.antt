@@ -1,14 +1,11 @@
 -- What the error of a returned term says of its true count ('Terms aggregation', `doc_count_error_upper_bound`).
-use Rattle.std.specs.Prelude.{◌≡◌, ◌≤◌, ◌<◌, ◌+◌, ℕ, pos, true, List, [], ◌∷◌, length, sum_by, Some}
+use Rattle.std.specs.Prelude.{◌≡◌, ◌≤◌, ◌<◌, ◌+◌, ℕ, pos, true, List, [], ◌∷◌, Some}
 use Rattle.agg_model.specs.declared.key.Key.{Key}
 use Rattle.agg_model.specs.declared.answer.BucketAnswer.{BucketAnswer, out-BucketAnswer}
 use Rattle.agg_model.specs.declared.aggregation.Order.{Order}
 use Rattle.agg_model.specs.declared.aggregation.OrderBy.TheVariants.{Count}
 use Rattle.agg_model.specs.declared.aggregation.Kind.{Kind}
 use Rattle.agg_model.specs.Options.{Options, options_of}
-use Rattle.agg_model.specs.declared.aggregation.Agg.{Agg, out-Agg}
-use Rattle.agg_evaluation.specs.Rows.{PlacedRow}
-use Rattle.agg_evaluation.specs.Groups.{group}
 
 abbrev pub BeginsByCount : List Order → Type 0
 BeginsByCount [] = ⊥
@@ -17,10 +14,6 @@ BeginsByCount (o ∷ later) = o ≡ record { by = Count; descending = true }
 -- terms whose first order is by descending count, of which a shard returns at least one
 abbrev pub IsTermsByCount : Kind → Type 0
 IsTermsByCount k = elim (options_of k) [ Options.Terms t ↦ (0 < t.shard_size) × BeginsByCount t.order | _ ↦ ⊥ ]
-
--- how many rows of all shards have the key: for each shard all its rows, and those that the aggregation is handed
-abbrev pub true_group_count : Agg → List (List PlacedRow × List PlacedRow) → Key → ℕ
-true_group_count a shards key = sum_by (λ s. length (group s.0 (out-Agg a).kind s.1 key)) shards
 
 -- the true count of a returned bucket lies between its count and that plus its error
 pub record IsWithinError (true_count : Key → ℕ) (b : BucketAnswer) : Type 0 where

@@ -6,15 +6,11 @@ use Rattle.agg_model.specs.declared.answer.NodeAnswer.{NodeAnswer, out-NodeAnswe
 use Rattle.agg_model.specs.declared.partial.Node.{Node}
 use Rattle.agg_model.specs.declared.aggregation.Kind.{Kind}
 use Rattle.agg_model.specs.Options.{Options, options_of}
-use Rattle.agg_model.specs.declared.aggregation.Agg.{Agg, out-Agg}
+use Rattle.agg_model.specs.declared.aggregation.Agg.{Agg}
 use Rattle.agg_evaluation.specs.Rows.{PlacedRow}
 use Rattle.agg_evaluation.specs.Orders.{bucket_count}
-use Rattle.agg_evaluation.specs.Groups.{total_key_count}
 use Rattle.agg_evaluation.specs.Shard.{shard_node}
 use Rattle.agg_evaluation.specs.Whole.{whole_node}
-use Rattle.agg_model.specs.declared.aggregation.Search.{Search}
-use Rattle.agg_evaluation.specs.Matching.{matched_roots}
-use Rattle.agg_spec.specs.Index.{Index}
 use Rattle.agg_spec.specs.Final.{finisher}
 
 abbrev pub answered_count : BucketAnswer → ℕ
@@ -41,11 +37,3 @@ whole_of_rows a shards = whole_node a (map (λ s. shard_node s.0 a s.1) shards)
 
 abbrev pub answer_of_rows : Agg → List (List PlacedRow × List PlacedRow) → NodeAnswer
 answer_of_rows a shards = (finisher a).finish (whole_of_rows a shards)
-
--- how many keys the rows of all shards have
-abbrev pub all_key_count : Agg → List (List PlacedRow × List PlacedRow) → ℕ
-all_key_count a shards = sum_by (λ s. total_key_count s.0 (out-Agg a).kind s.1) shards
-
--- the rows that a search hands to an aggregation at its top: of each shard those that match
-abbrev pub matched_by_shard : Index → Search → List (List PlacedRow × List PlacedRow)
-matched_by_shard index search = map (λ all. (all, matched_roots all search.query)) index.shards

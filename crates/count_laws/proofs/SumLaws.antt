@@ -1,36 +1,22 @@
 -- Sums over sorted lists, and the sums of an answer to terms.
-use Rattle.std.specs.Prelude.{◌≡◌, refl, ℕ, ℤ, ◌+◌, not, nat_le, true, false, if◌then◌else◌, List, [], ◌∷◌, map, take, drop, sum_by, Option, Some}
-use Rattle.std.specs.declared.cmp.Ordering.{Ordering}
-use Rattle.std.specs.Ordering.{is_le}
+use Rattle.std.specs.Prelude.{◌≡◌, refl, ℕ, ℤ, ◌+◌, not, nat_le, List, map, take, drop, sum_by, Option, Some}
 use Rattle.std.proofs.Common.{◌∙◌, ap, arith}
-use Rattle.std.proofs.lemmas.List.Sums.{sum_by-cons, sum_by-take-drop}
+use Rattle.std.proofs.lemmas.List.Sums.{sum_by-take-drop}
 use Rattle.std.proofs.lemmas.List.Filters.{sum_by-filter_both}
 use Rattle.agg_model.specs.declared.partial.Bucket.{Bucket}
 use Rattle.agg_model.specs.declared.answer.BucketAnswer.{BucketAnswer, out-roll-BucketAnswer}
 use Rattle.agg_model.specs.declared.answer.BucketAnswer.TheOpen.{NodeAnswer-F, BucketAnswer-F}
 use Rattle.agg_model.specs.declared.answer.NodeAnswer.{NodeAnswer, out-roll-NodeAnswer}
 use Rattle.agg_model.specs.declared.aggregation.Order.{Order}
-use Rattle.list_laws.specs.Sorting.{insert_sorted, sorted}
+use Rattle.list_laws.specs.Sorting.{sorted}
 use Rattle.agg_evaluation.specs.Orders.{bucket_cmp, bucket_count}
 use Rattle.agg_evaluation.specs.Whole.{Parts}
 use Rattle.list_laws.proofs.Lists.{sum_by-map}
+use Rattle.list_laws.proofs.Each.{sum_by-sorted}
 use Rattle.agg_spec.specs.Filling.{frequent}
 use Rattle.agg_spec.specs.Final.{Finisher, finish_each, finish_bucket, no_metric, terms_answer}
 use Rattle.agg_spec.specs.CountErrors.{precision_of, count_error}
-use Rattle.agg_spec.specs.TermsSums.{answered_count, returned_count, other_count, below_minimum_count}
-
-module _ {A : Type 0} (cmp : A → A → Ordering) (f : A → ℕ) where
-  sum_by-insert_sorted : (x : A) (xs : List A) → sum_by f (insert_sorted cmp x xs) ≡ f x + sum_by f xs
-  sum_by-insert_sorted x [] = sum_by-cons f x []
-  sum_by-insert_sorted x (y ∷ ys) =
-      elim (is_le (cmp x y)) as (λ b. sum_by f (if b then x ∷ y ∷ ys else (y ∷ insert_sorted cmp x ys)) ≡ f x + sum_by f (y ∷ ys)) [
-        | true ↦ sum_by-cons f x (y ∷ ys)
-        | false ↦ omega (arith, sum_by-cons f y (insert_sorted cmp x ys), sum_by-insert_sorted x ys, sum_by-cons f y ys)
-      ]
-
-  pub sum_by-sorted : (xs : List A) → sum_by f (sorted cmp xs) ≡ sum_by f xs
-  sum_by-sorted [] = refl
-  sum_by-sorted (x ∷ xs) = omega (arith, sum_by-insert_sorted x (sorted cmp xs), sum_by-sorted xs, sum_by-cons f x xs)
+use Rattle.count_laws.specs.TermsSums.{answered_count, returned_count, other_count, below_minimum_count}
 
 -- a finished bucket, and a finished node, as records
 abbrev bucket_level : List Finisher → Option ℤ → Bucket → BucketAnswer-F BucketAnswer NodeAnswer

@@ -18,8 +18,8 @@ use Rattle.agg_evaluation.specs.Shard.{Collector, bucket_of, trimmed_node, sorte
 use Rattle.agg_evaluation.specs.Whole.{Parts, parts, parts_at, whole_bucket, whole_by, by_key}
 use Rattle.agg_evaluation.proofs.CounterLaws.{counters-groups, raised_by-sum}
 use Rattle.agg_evaluation.proofs.NodeForms.{out-Keyed}
-use Rattle.agg_spec.proofs.GroupSums.{sum_by-distinct}
-use Rattle.agg_spec.proofs.SumLaws.{sum_by-sorted}
+use Rattle.count_laws.proofs.GroupSums.{sum_by-distinct}
+use Rattle.list_laws.proofs.Each.{sum_by-sorted}
 
 -- what a tree holds and cut
 abbrev pub tree_count : Parts → ℕ
@@ -43,7 +43,7 @@ abbrev number : Key × ℕ → ℕ
 number c = c.1
 
 -- the sizes of the groups add up to the number of all keys
-groups-count : (all : List PlacedRow) (k : Kind) (rows : List PlacedRow) → sum_by (λ q. length (group all k rows q)) (all_keys all k rows) ≡ total_key_count all k rows
+pub groups-count : (all : List PlacedRow) (k : Kind) (rows : List PlacedRow) → sum_by (λ q. length (group all k rows q)) (all_keys all k rows) ≡ total_key_count all k rows
 groups-count all k rows =
     sym (sum_by-map number (λ q. (q, length (group all k rows q))) (all_keys all k rows))
     ∙ ap (sum_by number) (sym (counters-groups all k rows))
