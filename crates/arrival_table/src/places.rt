@@ -22,7 +22,8 @@ impl Model for Places {
 
     ghost view = { λ s. s.plan };
 
-    ghost invariant = { λ s. IsPlan s.plan × (length s.starts.items ≡ s.plan.searches + 1) × ((q : ℕ) → q ≤ s.plan.searches → get_elem? s.starts.items q ≡ some (first_of s.plan q)) };
+    ghost invariant = { λ s. IsPlan s.plan × (length s.starts.items ≡ s.plan.searches + 1)
+        × ((q : ℕ) → q ≤ s.plan.searches → get_elem? s.starts.items q ≡ some (first_of s.plan q)) };
 }
 
 /// The number of tasks of each search.

@@ -81,7 +81,13 @@ fn run_task(
     requires search { search ≡ search_of table.now.plan task }
     requires searches { search < table.now.plan.searches }
     ensures of { IsOf table.now desk.new }
-    ensures last { IfSome result (λ b. desk.new.view.hand ≡ item.Batch (record { search = search; batch = b; due = numbers_from (b * table.now.plan.batch) (batch_size table.now.plan search b); taken = no_label; at_slot = false }) ∷ []) }
+    ensures last { IfSome result (λ b. desk.new.view.hand ≡ item.Batch (record {
+      search = search;
+      batch = b;
+      due = numbers_from (b * table.now.plan.batch) (batch_size table.now.plan search b);
+      taken = no_label;
+      at_slot = false;
+    }) ∷ []) }
     ensures batch { IfSome result (λ b. b * table.now.plan.batch < tasks_of table.now.plan search) }
     ensures early { IfNone result (desk.new.view.hand ≡ []) }
     ensures claims { (desk.new.view.left ≡ desk.old.view.left) × (desk.new.view.drawn ≡ desk.old.view.drawn) × (desk.new.view.ended ≡ desk.old.view.ended) }
@@ -111,7 +117,13 @@ fn merge(
     requires of { IsOf table.now desk.old }
     requires two { table.now.plan.batch ≡ 2 }
     requires range { (batch < 65536) × (1 ≤ size) × (size ≤ 2) }
-    requires batch { desk.old.view.hand ≡ item.Batch (record { search = search; batch = batch; due = numbers_from (batch * 2) size; taken = no_label; at_slot = false }) ∷ [] }
+    requires batch { desk.old.view.hand ≡ item.Batch (record {
+      search = search;
+      batch = batch;
+      due = numbers_from (batch * 2) size;
+      taken = no_label;
+      at_slot = false;
+    }) ∷ [] }
     ensures of { IsOf table.now desk.new }
     ensures empty { desk.new.view.hand ≡ [] }
     ensures claims { (desk.new.view.left ≡ desk.old.view.left) × (desk.new.view.drawn ≡ desk.old.view.drawn) × (desk.new.view.ended ≡ desk.old.view.ended) }
@@ -194,7 +206,8 @@ const NO_TASK: u32 = u32::MAX;
 // The tasks of searches, each with its load.
 fn tasks_of(alloc: Global, searches: &[u32]) -> Result<List<Task<Numbered>>, AllocError>
     requires few { length searches.now ≤ 65536 }
-    ensures { IfOk result (λ ts. (length ts ≡ length searches.now) × ((k : ℕ) (t : TaskValue Numbered) → get_elem? ts k ≡ some t → (t.search ≡ slice_index searches.now k) × (t.load.task ≡ k))) }
+    ensures { IfOk result (λ ts. (length ts ≡ length searches.now)
+        × ((k : ℕ) (t : TaskValue Numbered) → get_elem? ts k ≡ some t → (t.search ≡ slice_index searches.now k) × (t.load.task ≡ k))) }
 {
     let mut tasks = List::new(alloc);
     for place in 0..searches.len() {

@@ -1,4 +1,4 @@
-use Rattle.std.proofs.Common.{rules, ◌≡◌, ◌+◌, ◌<◌, ◌≤◌, ℕ, get_or, set, sym, subst, arith}
+use Rattle.std.proofs.Common.{rules, ◌≡◌, ◌<◌, ◌≤◌, ℕ, get_or, subst, arith}
 use Rattle.arrival_moves.specs.declared.plan.Plan.{Plan}
 use Rattle.arrival_moves.specs.Plans.{task_count, search_of}
 use Rattle.arrival_table.proofs.Starts.{AreDrawn, drawn_none, drawn_more, drawn_few, drawn_all}

@@ -1,6 +1,4 @@
 use Rattle.std.proofs.Common.{◌<◌, sym, subst, arith}
-use Rattle.arrival_table.specs.declared.opening.Task.{Task}
-use Rattle.arrival_table.specs.declared.tests.Numbered.{Numbered}
 use Rattle.place_laws.proofs.Places.{there_below}
 use Rattle.arrival_table.proofs.tests.alone.Goals as goal
 

@@ -1,6 +1,6 @@
 use Rattle.std.proofs.Common.{rules, ◌≡◌, ◌+◌, ◌<◌, ◌≤◌, ℕ, [], ◌∷◌, ◌++◌, length, get_or, refl, sym, subst, ◌∙◌, ap, arith}
 use Rattle.arrival_moves.specs.declared.plan.Plan.{Plan}
-use Rattle.arrival_moves.specs.Plans.{first_of, task_count}
+use Rattle.arrival_moves.specs.Plans.{first_of}
 use Rattle.arrival_table.specs.Opening.{AreCounts}
 use Rattle.arrival_table.proofs.Starts.{AreStarts, starts_one, starts_more, first_start, start_counted, start_within}
 use Rattle.arrival_table.proofs.places.Places.of.Goals as goal

@@ -1,8 +1,8 @@
-use Rattle.std.proofs.Common.{rules, ◌≡◌, ◌+◌, ◌*◌, ◌<◌, ◌≤◌, ℕ, List, [], ◌∷◌, ◌++◌, Bool, true, false, ltb, set, map, length, refl, arith, sym, ap, subst, ◌∙◌}
+use Rattle.std.proofs.Common.{rules, ◌≡◌, ◌+◌, ◌*◌, ◌<◌, ℕ, List, [], ◌∷◌, ◌++◌, true, false, ltb, set, map, length, refl, arith, sym, ap, subst, ◌∙◌}
 use Rattle.std.specs.Prelude.{All, IsTrue}
 use Rattle.std.specs.List.{sum_by}
 use Rattle.std.specs.Mem.Slots.{slots_items, slots_filled, slots_len}
-use Rattle.std.specs.Vec.{vec_len, vec_capacity}
+use Rattle.std.specs.Vec.{vec_capacity}
 use mathlib.Core.Option.{some}
 use Rattle.atomic_table.specs.Table.{Me}
 use Rattle.arrival_moves.specs.declared.plan.Plan.{Plan}
@@ -13,7 +13,6 @@ use Rattle.arrival_table.specs.declared.known.Known.{Known}
 use Rattle.arrival_table.specs.declared.table.Merged.{Merged}
 use Rattle.arrival_table.specs.Closing.{batch_of, IsWholeBatch, IsBesideFailed}
 use Rattle.arrival_table.specs.Models.{ArrivalsModel}
-use Rattle.arrival_table.specs.Outs.{knows}
 use Rattle.arrival_table.proofs.Closed.{no_items, taken_next_at, closing_first, closing_slot, closing_outcome, closing_room, closing_more, closing_none, closing_search, closing_empty, closing_end, closing_at, end_batches, end_whole, end_once, end_skipped}
 use Rattle.arrival_table.proofs.table.Arrivals.close.Goals as goal
 use Rattle.arrival_table.proofs.table.Arrivals.close.Goals.{then-has_batch+in-Outcome, else-has_batch+in-Load-1, else-has_batch+in-Outcome-1, else-has_batch+in-Vacant-1}
