@@ -1,7 +1,7 @@
 //! One document.
 
 ghost use Rattle.std.specs.Prelude.{◌≡◌, IfOk};
-ghost use Rattle.agg_mapping.specs.Paths.{IsOrdered};
+ghost use Rattle.agg_model.specs.MappingOrder.{IsOrdered};
 ghost use Rattle.agg_reading.specs.Document.{document_at};
 ghost use Rattle.document_rows.specs.Faults.{Gives};
 

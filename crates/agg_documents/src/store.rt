@@ -1,10 +1,10 @@
 //! The store of the live documents, and the bulk actions that change it.
 
-ghost use Rattle.std.specs.Prelude.{◌≡◌, ◌&&◌, ◌<◌, ◌≤◌, [], length, map, option_copied, slice_get, IfOk, OnOk, OnErr};
+ghost use Rattle.std.specs.Prelude.{◌≡◌, ◌&&◌, ◌<◌, ◌≤◌, [], length, map, option_copied, slice_get, sum_by, IfOk, OnOk, OnErr};
 ghost use Rattle.std.specs.List.{IsDistinct};
 ghost use Rattle.std.specs.Option.{option_map};
 ghost use Rattle.std.specs.Str.{bytes_eq};
-ghost use Rattle.agg_mapping.specs.Paths.{IsOrdered};
+ghost use Rattle.agg_model.specs.MappingOrder.{IsOrdered};
 ghost use Rattle.agg_reading.specs.Store.{applied, deleted, is_create, live_at, live_documents, put_row, shards_of, store_weight, weight, with_document};
 ghost use Rattle.document_rows.specs.Faults.{Gives};
 ghost use Rattle.document_rows.specs.declared.fault.ItemFault.TheVariants.{Refused};
@@ -216,10 +216,12 @@ impl Store {
     }
 
     /// One list for each shard with the live documents that its routing chooses ('_routing field' of Elasticsearch
-    /// Reference 8), in the order of the store. Each document is moved once; after want of memory the store is spent.
+    /// Reference 8), in the order of the store. All together weigh less than `WEIGHT_LIMIT`. Each document is moved once;
+    /// after want of memory the store is spent.
     pub fn into_shards(self, shards: u32) -> Result<List<List<Document>>, AllocError>
         requires { 1 ≤ shards }
-        ensures { IfOk result (λ lists. lists ≡ shards_of self shards) }
+        ensures shards { IfOk result (λ lists. lists ≡ shards_of self shards) }
+        ensures light { IfOk result (λ lists. sum_by (sum_by weight) lists < WEIGHT_LIMIT) }
     {
         let Store {
             slots,

@@ -1,5 +1,5 @@
 ghost use Rattle.std.specs.Prelude.{IfOk};
-ghost use Rattle.agg_mapping.specs.Paths.{IsOrdered};
+ghost use Rattle.agg_model.specs.MappingOrder.{IsOrdered};
 
 use crate::document::document_of;
 use crate::routing::shard_of;

@@ -20,4 +20,6 @@ pub mod AddUpLaws
 pub mod AggFolds
 pub mod QueryFolds
 pub mod NodeFolds
+pub mod RowsFit
+pub mod QueriesFit
 pub mod KeyParts

@@ -21,8 +21,9 @@ use Rattle.agg_reading.specs.Fields.{field_from, nested_from}
 use Rattle.agg_reading.specs.Json.{is_among}
 use Rattle.agg_reading.specs.Mapping.{found_from}
 use Rattle.agg_reading.specs.Properties.{is_before}
-use Rattle.agg_mapping.specs.Paths.{AscendsBy, first_from}
-use Rattle.agg_mapping.proofs.PathOrder.{below, weak}
+use Rattle.agg_model.specs.MappingOrder.{AscendsBy}
+use Rattle.agg_mapping.specs.Paths.{first_from}
+use Rattle.agg_reading.proofs.PathOrder.{below, weak}
 
 not_eq : (o : Ordering) → is_lt o ≡ true → is_eq o ≡ false
 not_eq Less e = refl

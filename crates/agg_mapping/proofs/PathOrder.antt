@@ -1,44 +1,20 @@
--- Byte order of the paths is a total order, in which items are sorted.
-use Rattle.std.specs.Prelude.{◌≡◌, refl, ℕ, List, [], ◌∷◌, ◌++◌, map}
+-- What a stable sort by path leaves.
+use Rattle.std.specs.Prelude.{◌≡◌, List}
 use Rattle.std.specs.declared.cmp.Ordering.{Ordering}
-use Rattle.std.specs.Cmp.{IsTotalOrder, IsStrictWeakOrder}
 use Rattle.std.specs.Fn.{Called}
 use Rattle.std.specs.List.Sorted.{IsSortedByClosure, IsStableByClosure}
-use Rattle.std.proofs.Common.{Bool, sym, ap, subst, ◌∙◌}
-use Rattle.std.proofs.lemmas.Cmp.{on_total, nat_list_cmp_total}
+use Rattle.std.proofs.Common.{ℕ, sym, subst}
 use Rattle.list_laws.specs.Sorting.{sorted}
 use Rattle.list_laws.proofs.StableSort as laws
-use Rattle.agg_reading.specs.Properties.{is_before, by_path, place}
-use Rattle.agg_mapping.specs.Paths.{AscendsBy}
+use Rattle.agg_reading.specs.Properties.{by_path}
+use Rattle.agg_model.specs.MappingOrder.{AscendsBy}
+use Rattle.agg_reading.proofs.PathOrder.{by_path_total}
 use denote.Param.Members.{Mut}
 use denote.Ref.{Bor}
 
-module _ {A : Type 0} (path_of : A → List ℕ) where
-  -- one of two items is at most the other, and this is transitive
-  pub by_path_total : IsTotalOrder (by_path path_of)
-  by_path_total = on_total path_of nat_list_cmp_total
-
-  -- an item whose path is before another's
-  abbrev pub below : A → A → Bool
-  below x y = is_before (path_of x) (path_of y)
-
-  -- it ranks the items
-  pub weak : IsStrictWeakOrder below
-  weak = laws.weak (by_path path_of) by_path_total
-
-  -- one more item at the end is one more put in its place
-  pub sorted-last : (xs : List A) (x : A) → sorted (by_path path_of) (xs ++ x ∷ []) ≡ place path_of x (sorted (by_path path_of) xs)
-  unfolding place
-  sorted-last xs x = laws.sorted-snoc (by_path path_of) by_path_total xs x
-
-  -- what a stable sort by path leaves
-  pub sorted_by_path : {F : Type 0} {g : Mut F (Bor A × (Bor A × Unit {0})) Ordering} {f : F} (xs ys : List A) → IsSortedByClosure g f ys → IsStableByClosure g f xs ys
-      → ((a : Bor A × (Bor A × Unit {0})) (r : Ordering) (f' : F) → Called g f a r f' → (r ≡ by_path path_of a.0.now a.1.0.now) × (f' ≡ f)) → (ys ≡ sorted (by_path path_of) xs) × AscendsBy path_of ys
-  sorted_by_path xs ys up stable calls =
-      let is : ys ≡ sorted (by_path path_of) xs = laws.sorted_from_sort_by (by_path path_of) by_path_total xs ys up stable calls in
-      (is, subst (AscendsBy path_of) (sym is) (laws.IsSortedBy-sorted (by_path path_of) by_path_total xs))
-
--- what keeps paths keeps their order
-pub ascend_mapped : {A B : Type 0} (f : A → B) (path_of : A → List ℕ) (new_path_of : B → List ℕ) → ((x : A) → new_path_of (f x) ≡ path_of x) → (xs : List A) → AscendsBy path_of xs → AscendsBy new_path_of (map f xs)
-ascend_mapped f path_of new_path_of same xs up =
-    laws.IsSortedBy-map f (below path_of) (below new_path_of) (λ x y. ap (λ p. is_before p (new_path_of (f y))) (same x) ∙ ap (is_before (path_of x)) (same y)) (weak path_of) xs up
+-- it is the sorted list of the definitions, and ascends
+pub sorted_by_path : {A : Type 0} (path_of : A → List ℕ) {F : Type 0} {g : Mut F (Bor A × (Bor A × Unit {0})) Ordering} {f : F} (xs ys : List A) → IsSortedByClosure g f ys → IsStableByClosure g f xs ys
+    → ((a : Bor A × (Bor A × Unit {0})) (r : Ordering) (f' : F) → Called g f a r f' → (r ≡ by_path path_of a.0.now a.1.0.now) × (f' ≡ f)) → (ys ≡ sorted (by_path path_of) xs) × AscendsBy path_of ys
+sorted_by_path path_of xs ys up stable calls =
+    let is : ys ≡ sorted (by_path path_of) xs = laws.sorted_from_sort_by (by_path path_of) (by_path_total path_of) xs ys up stable calls in
+    (is, subst (AscendsBy path_of) (sym is) (laws.IsSortedBy-sorted (by_path path_of) (by_path_total path_of) xs))

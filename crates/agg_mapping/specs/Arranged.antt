@@ -4,7 +4,7 @@ use Rattle.list_laws.specs.Sorting.{sorted}
 use Rattle.agg_model.specs.declared.limits.TheConstants.{MAX_PATHS}
 use Rattle.agg_reading.specs.declared.parts.Found.{Found}
 use Rattle.agg_reading.specs.Properties.{by_path}
-use Rattle.agg_mapping.specs.Paths.{AscendsBy}
+use Rattle.agg_model.specs.MappingOrder.{AscendsBy}
 use Rattle.agg_mapping.specs.declared.collected.Collected.{Collected}
 
 -- all of it sorted by path

@@ -1,7 +1,8 @@
 //! Index lines: a name, settings and a mapping.
 
-ghost use Rattle.std.specs.Prelude.{◌≡◌, ◌++◌, [], codes, IfOk, IfErr, IfSome, Ok, Some};
+ghost use Rattle.std.specs.Prelude.{◌≡◌, ◌≤◌, ◌++◌, [], codes, IfOk, IfErr, IfSome, Ok, Some};
 ghost use Rattle.serde_json.specs.View.{view, members_view};
+ghost use Rattle.agg_model.specs.declared.limits.TheConstants.{MAX_SHARDS};
 ghost use Rattle.json_walk.specs.Places.{pointer};
 ghost use Rattle.agg_reading.specs.Reading.{Gives};
 ghost use Rattle.agg_reading.specs.Json.{optional};
@@ -10,7 +11,7 @@ ghost use Rattle.agg_reading.specs.Mapping.{mapping_at, empty_mapping};
 ghost use Rattle.agg_reading.specs.IndexLine.{shards_at, shards_named, inner_shards, inner_shards_of, agreed, agreed_all, settings_at, index_name_at, index_value_at, index_line_at};
 ghost use Rattle.agg_mapping.specs.Faults.{Refuses};
 ghost use Rattle.agg_mapping.specs.Shards.{both_numbers};
-ghost use Rattle.agg_mapping.specs.Paths.{IsOrdered};
+ghost use Rattle.agg_model.specs.MappingOrder.{IsOrdered};
 
 use crate::fault::{MapFault, map_fault};
 use crate::mapping::mapping;
@@ -268,6 +269,7 @@ fn index_line(alloc: Global, line: &[u8]) -> Result<IndexLine, RequestFault>
 pub fn index_line_of(alloc: Global, line: &[u8]) -> Result<IndexLine, MapFault>
     ensures line { IfOk result (λ read. index_line_at line.now ≡ Ok read) }
     ensures ordered { IfOk result (λ read. IsOrdered read.mapping) }
+    ensures shards { IfOk result (λ read. (1 ≤ read.shards) × (read.shards ≤ MAX_SHARDS)) }
     ensures refused { IfErr result (Refuses (index_line_at line.now)) }
 {
     match index_line(alloc, line) {

@@ -8,7 +8,7 @@ ghost use Rattle.agg_reading.specs.Json.{optional};
 ghost use Rattle.agg_reading.specs.Mapping.{dynamic_at, found_in, mapping_at};
 ghost use Rattle.agg_mapping.specs.Arranged.{arranged};
 ghost use Rattle.agg_mapping.specs.Faults.{Refuses};
-ghost use Rattle.agg_mapping.specs.Paths.{IsOrdered};
+ghost use Rattle.agg_model.specs.MappingOrder.{IsOrdered};
 
 use crate::collected::Collected;
 use crate::fault::{MapFault, map_fault};

@@ -3,7 +3,7 @@
 ghost use Rattle.std.specs.Prelude.{◌≡◌, ◌≤◌, IfOk, length, map};
 ghost use Rattle.agg_reading.specs.Mapping.{context_of, numbered_field, numbered_path, numbered};
 ghost use Rattle.agg_mapping.specs.Arranged.{arranged};
-ghost use Rattle.agg_mapping.specs.Paths.{AscendsBy, IsOrdered};
+ghost use Rattle.agg_model.specs.MappingOrder.{AscendsBy, IsOrdered};
 
 use crate::collected::Collected;
 use crate::paths::first;

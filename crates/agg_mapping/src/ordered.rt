@@ -5,7 +5,7 @@ ghost use Rattle.agg_model.specs.declared.mapping.Mapping.{Mapping};
 ghost use Rattle.agg_reading.specs.Fields.{field_from, nested_from};
 ghost use Rattle.agg_model.specs.Contexts.{encloses, is_in_context};
 ghost use Rattle.agg_reading.specs.Json.{is_among};
-ghost use Rattle.agg_mapping.specs.Paths.{IsOrdered};
+ghost use Rattle.agg_model.specs.MappingOrder.{IsOrdered};
 
 use crate::paths::{first, is_beneath};
 use agg_model::limits::MAX_PATHS;

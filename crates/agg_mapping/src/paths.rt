@@ -4,7 +4,8 @@ ghost use Rattle.std.specs.Prelude.{◌≡◌, ◌<◌, [], ℕ, List, IfOk, IfS
 ghost use Rattle.list_laws.specs.Sorting.{sorted};
 ghost use Rattle.agg_model.specs.Contexts.{is_beneath};
 ghost use Rattle.agg_reading.specs.Properties.{by_path};
-ghost use Rattle.agg_mapping.specs.Paths.{AscendsBy, first_from};
+ghost use Rattle.agg_model.specs.MappingOrder.{AscendsBy};
+ghost use Rattle.agg_mapping.specs.Paths.{first_from};
 
 use agg_model::{Field, List as Items, NestedPath, Text};
 use agg_reading::{FoundField, FoundPath};

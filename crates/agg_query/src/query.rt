@@ -8,7 +8,7 @@ ghost use Rattle.agg_reading.specs.Reading.{Gives};
 ghost use Rattle.agg_reading.specs.Json.{optional, sole_at};
 ghost use Rattle.agg_reading.specs.Numbers.{whole_at};
 ghost use Rattle.agg_reading.specs.Query.{query_name, minimum, queries_from, clause_at, all_at, clauses_at, bool_at, within_at, named_at, query_at, top_query_at, query_from};
-ghost use Rattle.agg_mapping.specs.Paths.{IsOrdered};
+ghost use Rattle.agg_model.specs.MappingOrder.{IsOrdered};
 
 use crate::fields::path_in;
 use crate::leaves::{exists, ids, match_all, range, term, terms};

@@ -1,5 +1,5 @@
--- What every index line keeps that is read: at most 1,000 fields and nested paths, and 1 to 1,024 shards.
-use Rattle.std.specs.Prelude.{ℕ, ℤ, pos, negsuc, ◌≤◌, List, [], ◌∷◌, Option, Some, None, Ok, IfOk, IfSome, nat_le, ◌&&◌, ◌==◌, unwrap_or, codes}
+-- What every index line keeps that is read: a mapping in order, and 1 to 1,024 shards.
+use Rattle.std.specs.Prelude.{ℕ, ℤ, pos, negsuc, ◌≤◌, List, [], ◌∷◌, Option, Some, None, Ok, Err, IfOk, IfSome, nat_le, ◌&&◌, ◌==◌, unwrap_or, codes}
 use Rattle.std.proofs.Common.{arith}
 use Rattle.std.proofs.lemmas.Bool.Decides.{nat_tests}
 use Rattle.serde_json.specs.Data.{Data, null, boolean, number, string, array, object, Members}
@@ -10,8 +10,10 @@ use Rattle.agg_reading.specs.Json.{reading, object_at, known, optional, optional
 use Rattle.agg_reading.specs.Scalars.{whole}
 use Rattle.agg_reading.specs.Mapping.{mapping_at, empty_mapping}
 use Rattle.agg_reading.specs.IndexLine.{shards_in, shards_at, shards_named, agreed, agreed_all, settings_at, inner_shards, inner_shards_of, index_name_at, index_value_at, index_line_at}
+use Rattle.agg_reading.proofs.PathOrder.{arranged-none, arranged-ascends}
 use Rattle.agg_reading.proofs.Steps.{then_ok, next_ok, if_ok}
-use Rattle.agg_reading.proofs.MappingLaws.{MappingFits, mapping_at-fits}
+use Rattle.agg_model.specs.MappingOrder.{IsOrdered}
+use Rattle.agg_reading.proofs.MappingLaws.{mapping_at-ordered}
 
 -- 1 to 1,024
 abbrev pub ShardsFit : ℕ → Type 0
@@ -87,11 +89,14 @@ settings_at-fits at d =
 
 -- what an index line keeps
 pub record LineFits (l : IndexLine) : Type 0 where
-  pub mapping : MappingFits l.mapping
+  pub mapping : IsOrdered l.mapping
   pub shards : ShardsFit l.shards
 
-or_empty : (o : Option Mapping) → IfSome o MappingFits → MappingFits (unwrap_or o empty_mapping)
-or_empty None p = omega arith
+no_paths : IsOrdered empty_mapping
+no_paths = record { fields = arranged-ascends (λ f. f.path) [] (arranged-none (λ f. f.path)); nested = arranged-ascends (λ p. p.path) [] (arranged-none (λ p. p.path)); objects = arranged-ascends (λ p. p) [] (arranged-none (λ p. p)); few = omega arith }
+
+or_empty : (o : Option Mapping) → IfSome o IsOrdered → IsOrdered (unwrap_or o empty_mapping)
+or_empty None p = no_paths
 or_empty (Some m) p = p
 
 index_value_at-fits : (d : Data) → IfOk (index_value_at d) LineFits
@@ -100,7 +105,7 @@ index_value_at-fits d =
     then_ok LineFits (object_at 31 [] d) _ (λ ms.
     then_ok LineFits (known 31 (codes "index" ∷ codes "mappings" ∷ codes "settings" ∷ []) [] ms) _ (λ _.
     then_ok LineFits (optional index_name_at (codes "index") [] ms) _ (λ name.
-    next_ok (λ o. IfSome o MappingFits) LineFits (optional mapping_at (codes "mappings") [] ms) _ (optional_of-ok MappingFits mapping_at _ _ mapping_at-fits) (λ mapping m.
+    next_ok (λ o. IfSome o IsOrdered) LineFits (optional mapping_at (codes "mappings") [] ms) _ (optional_of-ok IsOrdered mapping_at _ _ mapping_at-ordered) (λ mapping m.
     next_ok MaybeFit LineFits (optional settings_at (codes "settings") [] ms) _ (optional_of-ok ShardsFit settings_at _ _ settings_at-fits) (λ shards s.
     then_ok LineFits (or_refuse 31 [] name) (λ given. Ok (record { name = given; mapping = unwrap_or mapping empty_mapping; shards = unwrap_or shards 1 })) (λ given.
     record { mapping = or_empty mapping m; shards = or_one shards s }))))))
@@ -109,3 +114,19 @@ index_value_at-fits d =
 pub index_line_at-fits : (bytes : List ℕ) → IfOk (index_line_at bytes) LineFits
 unfolding index_line_at
 index_line_at-fits bytes = then_ok LineFits (or_refuse 31 [] (reading bytes)) index_value_at index_value_at-fits
+
+-- both, one by one
+
+mapping_of : (r : Reading IndexLine) → IfOk r LineFits → IfOk r (λ l. IsOrdered l.mapping)
+mapping_of (Ok l) h = h.mapping
+mapping_of (Err e) h = tt
+
+shards_of : (r : Reading IndexLine) → IfOk r LineFits → IfOk r (λ l. ShardsFit l.shards)
+shards_of (Ok l) h = h.shards
+shards_of (Err e) h = tt
+
+pub index_line_at-ordered : (bytes : List ℕ) → IfOk (index_line_at bytes) (λ l. IsOrdered l.mapping)
+index_line_at-ordered bytes = mapping_of (index_line_at bytes) (index_line_at-fits bytes)
+
+pub index_line_at-shards : (bytes : List ℕ) → IfOk (index_line_at bytes) (λ l. ShardsFit l.shards)
+index_line_at-shards bytes = shards_of (index_line_at bytes) (index_line_at-fits bytes)

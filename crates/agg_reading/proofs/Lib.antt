@@ -11,7 +11,17 @@ mod Documents
 mod Hashes
 mod Scripts
 mod Limits
+mod Edges
 pub mod Steps
+pub mod PathOrder
 pub mod MappingLaws
 pub mod IndexLineLaws
 pub mod ValueLaws
+pub mod ShardWeights
+pub mod Refusing
+pub mod QueryRefusals
+pub mod KindRefusals
+pub mod BodyRefusals
+pub mod LineRefusals
+pub mod DocumentRefusals
+pub mod ScriptRefusals

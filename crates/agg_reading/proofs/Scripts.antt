@@ -112,6 +112,13 @@ each_action_is_an_item : items_of changes ≡ Ok (
 unfolding computing
 each_action_is_an_item = refl
 
+a_create_after_a_delete_is_taken : items_of (index_line ∷ [] ∷ codes "{\"create\":{\"_id\":\"1\"}}" ∷ codes "{\"n\":1}" ∷ codes "{\"delete\":{\"_id\":\"1\"}}" ∷ codes "{\"create\":{\"_id\":\"1\"}}" ∷ codes "{\"n\":2}" ∷ [] ∷ []) ≡ Ok (
+    record { kind = Create; id = codes "1"; end = Applied Created }
+    ∷ record { kind = Delete; id = codes "1"; end = Applied Deleted }
+    ∷ record { kind = Create; id = codes "1"; end = Applied Created } ∷ [])
+unfolding computing
+a_create_after_a_delete_is_taken = refl
+
 -- The pairs of a header and a body.
 
 empty_lines_before_a_header_are_passed_over : bodies_of (index_line ∷ [] ∷ [] ∷ codes "{}" ∷ [] ∷ ((13 ∷ [])) ∷ [] ∷ codes "{\"a\":1}" ∷ codes "{}" ∷ []) ≡ Ok (record { bodies = [] ∷ codes "{}" ∷ []; refused = None })
@@ -156,6 +163,17 @@ input_byte_268435457_is_37 = refl
 a_last_byte_within_the_input_is_taken : line_fault (record { number = 9; read = 268435455 }) (record { text = 97 ∷ []; size = 1 }) ≡ None
 unfolding computing
 a_last_byte_within_the_input_is_taken = refl
+
+-- the first byte beyond the input is the line's own byte 1,048,577: it comes first
+a_long_line_that_is_beyond_the_input_is_37 : (text : List ℕ) → line_fault (record { number = 9; read = 267386880 }) (record { text = text; size = 1048579 }) ≡ Some 37
+unfolding computing
+a_long_line_that_is_beyond_the_input_is_37 text = refl
+
+-- it is the line's own byte 1,048,578: the line is too long before
+a_line_that_is_too_long_before_it_is_beyond_the_input_is_30 : (text : List ℕ) → length text ≡ 1048578 → line_fault (record { number = 9; read = 267386879 }) (record { text = text; size = 1048579 }) ≡ Some 30
+unfolding computing
+a_line_that_is_too_long_before_it_is_beyond_the_input_is_30 text long =
+    let P : ℕ → Type 0 = λ n. if_long n ≡ Some 30 in subst P (sym long) refl
 
 abbrev of_index : IndexLine
 of_index = record { name = codes "i"; mapping = plain; shards = 1 }

@@ -1,5 +1,5 @@
 -- Histograms (Elasticsearch Reference 8, 'Histogram aggregation').
-use Rattle.std.specs.Prelude.{ℕ, ℤ, List, [], ◌∷◌, ◌++◌, Option, Some, None, Ok, Bool, true, false, ◌&&◌, nat_lt, if◌then◌else◌, ⊤, codes, unwrap_or}
+use Rattle.std.specs.Prelude.{ℕ, ℤ, List, [], ◌∷◌, ◌++◌, Option, None, Ok, Bool, false, nat_lt, if◌then◌else◌, ⊤, codes, unwrap_or}
 use Rattle.serde_json.specs.Data.{Data, Members}
 use Rattle.agg_model.specs.declared.body_refusal.TheConstants.{MISSING_MEMBER, NO_SUCH_FIELD, OUT_OF_RANGE, UNKNOWN_MEMBER, WRONG_TYPE}
 use Rattle.agg_model.specs.declared.mapping.Field.{Field}

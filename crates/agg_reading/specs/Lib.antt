@@ -1,4 +1,5 @@
 pub mod Reading
+pub mod Refusals
 pub mod Pointer
 pub mod Json
 pub mod Scalars

@@ -5,7 +5,7 @@ ghost use Rattle.serde_json.specs.Find.{get_member};
 ghost use Rattle.serde_json.specs.View.{view, members_view};
 ghost use Rattle.agg_reading.specs.Reading.{Gives};
 ghost use Rattle.agg_reading.specs.Request.{query_or_all, search_in, search_value_at, search_of};
-ghost use Rattle.agg_mapping.specs.Paths.{IsOrdered};
+ghost use Rattle.agg_model.specs.MappingOrder.{IsOrdered};
 
 use crate::parts::has_both;
 use crate::tree::aggregations_in;

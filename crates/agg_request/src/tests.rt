@@ -1,4 +1,4 @@
-ghost use Rattle.agg_mapping.specs.Paths.{IsOrdered};
+ghost use Rattle.agg_model.specs.MappingOrder.{IsOrdered};
 
 use crate::body::search_of;
 use agg_mapping::index_line_of;

@@ -20,6 +20,7 @@ use Rattle.agg_model.specs.declared.aggregation.Search.{Search}
 use Rattle.agg_model.specs.declared.breaker.Limits.{Limits}
 use Rattle.agg_model.specs.declared.breaker.BreakerStats.{BreakerStats}
 use Rattle.agg_model.specs.declared.settings.Settings.{Settings}
+use Rattle.agg_evaluation.specs.Rows.{shard_rows}
 use Rattle.agg_spec.specs.Index.{Index}
 use Rattle.agg_spec.specs.Outcome.{Request, answer_of}
 use Rattle.agg_spec.specs.Json.{object_of}
@@ -54,7 +55,7 @@ abbrev pub index : List (List Row) → Index
 index shards = record {
   name = codes "i";
   mapping = mapping (field (codes "b") type.Boolean 0 ∷ field (codes "n") type.Long 0 ∷ field (codes "t") type.Keyword 0 ∷ []) [];
-  shards = map (map (λ r. (codes "1", r))) shards;
+  shards = map (λ rows. shard_rows (map (λ r. (codes "1", r)) rows)) shards;
 }
 
 abbrev pub one_shard : List Row → Index
@@ -65,7 +66,7 @@ abbrev pub items_index : List Row → Index
 items_index rows = record {
   name = codes "i";
   mapping = mapping (field (codes "items.s") type.Keyword 1 ∷ []) (record { path = codes "items"; parent = 0 } ∷ []);
-  shards = map (λ r. (codes "1", r)) rows ∷ [];
+  shards = shard_rows (map (λ r. (codes "1", r)) rows) ∷ [];
 }
 
 -- a nested object with this value of `items.s`

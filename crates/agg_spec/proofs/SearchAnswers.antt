@@ -1,5 +1,5 @@
 -- The answer to each aggregation at the top of a search is its answer to the rows that match.
-use Rattle.std.specs.Prelude.{◌≡◌, refl, ℕ, zero, suc, ◌+◌, List, [], ◌∷◌, map, filter_map, Some, slice_get}
+use Rattle.std.specs.Prelude.{◌≡◌, ℕ, zero, suc, ◌+◌, List, [], ◌∷◌, map, filter_map, Some, slice_get}
 use Rattle.std.proofs.Common.{sym, ◌∙◌, ap, arith}
 use Rattle.list_laws.proofs.Lists.{filter_map-there, slice_get-enumerated, map-map}
 use Rattle.agg_model.specs.declared.partial.Node.{Node}
@@ -10,7 +10,7 @@ use Rattle.agg_evaluation.specs.Rows.{PlacedRow}
 use Rattle.agg_evaluation.specs.Matching.{matched_roots}
 use Rattle.agg_evaluation.specs.Shard.{shard_node, shard_answer}
 use Rattle.agg_evaluation.specs.Whole.{whole_node, whole}
-use Rattle.agg_spec.specs.Index.{Index, rows_by_shard}
+use Rattle.agg_spec.specs.Index.{Index}
 use Rattle.agg_spec.specs.Outcome.{shard_answers, answer_of}
 use Rattle.agg_spec.specs.Final.{finisher, finish_each}
 use Rattle.agg_spec.specs.TermsSums.{answer_of_rows, matched_by_shard}
@@ -33,7 +33,7 @@ pub answer_of-at : (index : Index) (search : Search) (j : ℕ) (a : Agg) → sli
 answer_of-at index search j a at =
     let trees = shard_answers index search in
     let nodes_at = λ (n : ℕ). filter_map (λ (t : Partial). slice_get t.nodes n) trees in
-    let shards = rows_by_shard index in
+    let shards = index.shards in
     let node : slice_get (whole search trees).nodes j ≡ Some (whole_node a (nodes_at j)) =
     slice_get-enumerated 0 search.aggs (λ a. whole_node a.1 (nodes_at a.0)) j a at ∙ ap (λ n. Some (whole_node a (nodes_at n))) (let e : 0 + j ≡ j = omega arith in e) in
     let same : nodes_at j ≡ map (λ s. shard_node s.0 a s.1) (matched_by_shard index search) =

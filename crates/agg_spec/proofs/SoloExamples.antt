@@ -9,7 +9,6 @@ use Rattle.agg_model.specs.declared.breaker.Which.TheVariants as which
 use Rattle.agg_model.specs.declared.outcome.Outcome.TheVariants as ended
 use Rattle.agg_model.specs.declared.outcome.Refused.TheVariants as refused
 use Rattle.agg_evaluation.specs.Trace.{trace}
-use Rattle.agg_spec.specs.Index.{rows_by_shard}
 use Rattle.agg_spec.specs.Outcome.{outcome}
 use Rattle.agg_spec.specs.Solo.{batches, solo_outcome, solo_holds}
 use Rattle.agg_spec.specs.Columns.{columns_charge, columns_refusal}
@@ -132,7 +131,7 @@ body_that_is_not_json :
 unfolding computing
 body_that_is_not_json = refl
 
-trace_of_the_first_shard : map (trace (search_of query.All (leaf (codes "t") (kind.Terms 2 1 1 1 by_count None [] None true) ∷ []))) (rows_by_shard two_shards)
+trace_of_the_first_shard : map (trace (search_of query.All (leaf (codes "t") (kind.Terms 2 1 1 1 by_count None [] None true) ∷ []))) two_shards.shards
     ≡ (pos 4608 ∷ pos 129 ∷ pos 129 ∷ negsuc 4224 ∷ []) ∷ (pos 4608 ∷ pos 129 ∷ pos 129 ∷ negsuc 4224 ∷ []) ∷ []
 unfolding computing
 trace_of_the_first_shard = refl
@@ -144,7 +143,7 @@ statistics_of_a_merge :
 unfolding computing
 statistics_of_a_merge = refl
 
-batches_of_two : map length (batches 2 (rows_by_shard seven_shards)) ≡ 2 ∷ 2 ∷ 2 ∷ 1 ∷ []
+batches_of_two : map length (batches 2 seven_shards.shards) ≡ 2 ∷ 2 ∷ 2 ∷ 1 ∷ []
 unfolding computing
 batches_of_two = refl
 

@@ -4,13 +4,13 @@ use Rattle.agg_model.specs.declared.costs.TheConstants.{FIELDDATA_OVERHEAD}
 use Rattle.agg_model.specs.declared.breaker.Child.TheVariants.{Fielddata}
 use Rattle.agg_model.specs.declared.breaker.Limits.{Limits}
 use Rattle.agg_model.specs.declared.breaker.Tripped.{Tripped}
-use Rattle.agg_spec.specs.Index.{Index, rows_by_shard}
+use Rattle.agg_spec.specs.Index.{Index}
 use Rattle.agg_spec.specs.Charges.{no_amounts, refusal_of}
 use Rattle.agg_evaluation.specs.ColumnBytes.{shard_bytes}
 
 -- with the overhead of fielddata, rounded up
 abbrev pub columns_charge : Index → ℕ
-columns_charge index = (sum (map (shard_bytes (length index.mapping.fields)) (rows_by_shard index)) * FIELDDATA_OVERHEAD + 99) / 100
+columns_charge index = (sum (map (shard_bytes (length index.mapping.fields)) index.shards) * FIELDDATA_OVERHEAD + 99) / 100
 
 -- the refusal of the columns' charge
 abbrev pub columns_refusal : Limits → ℕ → Option Tripped

@@ -5,7 +5,7 @@ use Rattle.agg_model.specs.declared.settings.Settings.{Settings}
 use Rattle.agg_evaluation.specs.Cost.{cost}
 use Rattle.agg_evaluation.specs.Trace.{gross}
 use Rattle.agg_evaluation.specs.Ceiling.{greatest_of}
-use Rattle.agg_spec.specs.Index.{Index, rows_by_shard}
+use Rattle.agg_spec.specs.Index.{Index}
 use Rattle.agg_spec.specs.Outcome.{Request, shard_answers}
 use Rattle.agg_spec.specs.Wave.{answer, running_search, result_cost, response_length}
 
@@ -13,7 +13,7 @@ abbrev pub task_costs : Index → Search → List ℕ
 task_costs index search = map cost (shard_answers index search)
 
 abbrev pub gross_sum : Index → Search → ℕ
-gross_sum index search = sum (map (λ all. unsigned_abs (gross search all)) (rows_by_shard index))
+gross_sum index search = sum (map (λ all. unsigned_abs (gross search all)) index.shards)
 
 -- two or more results of tasks are charged once more where they are merged
 abbrev pub merge_charge : List ℕ → ℕ

@@ -10,7 +10,7 @@ use Rattle.agg_model.specs.declared.outcome.Outcome.TheVariants as ended
 use Rattle.agg_evaluation.specs.Shard.{shard_answer}
 use Rattle.agg_evaluation.specs.Whole.{whole}
 use Rattle.agg_evaluation.specs.Ceiling.{search_ceiling}
-use Rattle.agg_spec.specs.Index.{Index, rows_by_shard, field_kinds}
+use Rattle.agg_spec.specs.Index.{Index, field_kinds}
 use Rattle.agg_spec.specs.Final.{final}
 use Rattle.agg_spec.specs.BucketCount.{total_buckets}
 use Rattle.agg_spec.specs.RangeCheck.{out_of_range}
@@ -22,7 +22,7 @@ pub record Request : Type 0 where
   pub search : Result Search Refused
 
 abbrev pub shard_answers : Index → Search → List Partial
-shard_answers index search = map (shard_answer search) (rows_by_shard index)
+shard_answers index search = map (shard_answer search) index.shards
 
 abbrev pub answer_of : Index → Search → Answer
 answer_of index search = final search (whole search (shard_answers index search))
@@ -43,7 +43,7 @@ answer_outcome index max_buckets search answer =
 -- a search that is too wide is not begun
 abbrev pub search_outcome : Index → ℕ → Search → Outcome
 search_outcome index max_buckets search =
-    elim (search_ceiling (field_kinds index) search (rows_by_shard index)) [
+    elim (search_ceiling (field_kinds index) search index.shards) [
       | None ↦ ended.Refused refused.TooWide
       | Some ceiling ↦ answer_outcome index max_buckets search (answer_of index search)
     ]

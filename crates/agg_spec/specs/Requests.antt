@@ -4,6 +4,7 @@ use Rattle.agg_model.specs.declared.bulk.Item.{Item}
 use Rattle.agg_model.specs.declared.aggregation.Search.{Search}
 use Rattle.agg_model.specs.declared.outcome.Refused.{Refused}
 use Rattle.agg_model.specs.declared.outcome.Refused.TheVariants as refused
+use Rattle.agg_evaluation.specs.Rows.{rows_of_documents}
 use Rattle.agg_reading.specs.declared.fault.RequestFault.{RequestFault}
 use Rattle.agg_reading.specs.declared.fault.RequestFault.TheVariants as fault
 use Rattle.agg_reading.specs.Lines.{ScriptRefusal}
@@ -18,7 +19,7 @@ abbrev pub loaded_index : Loaded → Index
 loaded_index l = record {
   name = l.index.name;
   mapping = l.index.mapping;
-  shards = map (map (λ d. (d.id, d.root))) (shards_of l.store l.index.shards);
+  shards = map rows_of_documents (shards_of l.store l.index.shards);
 }
 
 -- the refusal of a body; its reading answers no other fault

@@ -16,7 +16,7 @@ use Rattle.agg_evaluation.specs.Shard.{shard_answer}
 use Rattle.agg_evaluation.specs.Whole.{whole}
 use Rattle.agg_evaluation.specs.Cost.{cost}
 use Rattle.agg_evaluation.specs.Trace.{trace}
-use Rattle.agg_spec.specs.Index.{Index, rows_by_shard}
+use Rattle.agg_spec.specs.Index.{Index}
 use Rattle.agg_spec.specs.Outcome.{Request, outcome}
 use Rattle.agg_spec.specs.Charges.{Amounts, no_amounts, one_at, Step, Run, started, run, holds_after, charge_of, return_of}
 
@@ -63,7 +63,7 @@ answer_steps result_cost _ = return_of AtRequest result_cost
 
 abbrev pub answered_steps : ℕ → Index → Search → Outcome → List Step
 answered_steps batch index search answer =
-    let parts = batches batch (rows_by_shard index) in
+    let parts = batches batch index.shards in
     reduction_steps search parts ++ answer_steps (cost (merged search (batch_results search parts))) answer
 
 -- a search that is too wide has no task

@@ -14,7 +14,7 @@ use Rattle.agg_evaluation.specs.Shard.{shard_node}
 use Rattle.agg_evaluation.specs.Whole.{whole_node}
 use Rattle.agg_model.specs.declared.aggregation.Search.{Search}
 use Rattle.agg_evaluation.specs.Matching.{matched_roots}
-use Rattle.agg_spec.specs.Index.{Index, rows_by_shard}
+use Rattle.agg_spec.specs.Index.{Index}
 use Rattle.agg_spec.specs.Final.{finisher}
 
 abbrev pub answered_count : BucketAnswer → ℕ
@@ -48,4 +48,4 @@ all_key_count a shards = sum_by (λ s. total_key_count s.0 (out-Agg a).kind s.1)
 
 -- the rows that a search hands to an aggregation at its top: of each shard those that match
 abbrev pub matched_by_shard : Index → Search → List (List PlacedRow × List PlacedRow)
-matched_by_shard index search = map (λ all. (all, matched_roots all search.query)) (rows_by_shard index)
+matched_by_shard index search = map (λ all. (all, matched_roots all search.query)) index.shards

@@ -14,7 +14,7 @@ use Rattle.agg_evaluation.specs.Rows.{PlacedRow}
 use Rattle.agg_evaluation.specs.Whole.{whole}
 use Rattle.agg_evaluation.specs.Cost.{cost}
 use Rattle.agg_evaluation.specs.Trace.{peak}
-use Rattle.agg_spec.specs.Index.{Index, rows_by_shard}
+use Rattle.agg_spec.specs.Index.{Index}
 use Rattle.agg_spec.specs.Outcome.{Request, outcome, shard_answers}
 use Rattle.agg_spec.specs.Charges.{refusal_of}
 use Rattle.agg_model.specs.Breakers.{limit_of}
@@ -47,7 +47,7 @@ module _ (settings : Settings) (index : Index) where
 
   -- what each task of a search holds at most
   abbrev pub task_peaks : Request → List ℕ
-  task_peaks request = peaks_of (rows_by_shard index) (running_search request)
+  task_peaks request = peaks_of index.shards (running_search request)
 
 -- `held` is the columns' charge, which is held before the wave
 module _ (settings : Settings) (index : Index) (held : ℕ) where

@@ -12,3 +12,4 @@ pub mod Sizes
 pub mod Inserting
 pub mod Ready
 pub mod QuerySizes
+pub mod Making

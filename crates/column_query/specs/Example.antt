@@ -1,7 +1,9 @@
 -- The worked example of the tests: three documents over the fields `b`, `items.s`, `n` and `t`, with nested `items`.
-use Rattle.std.specs.Prelude.{ℕ, pos, negsuc, true, false, List, [], ◌∷◌}
+use Rattle.std.specs.Prelude.{ℕ, pos, negsuc, true, false, None, List, [], ◌∷◌, codes}
 use Rattle.agg_model.specs.declared.mapping.FieldKind.{FieldKind}
 use Rattle.agg_model.specs.declared.mapping.FieldKind.TheVariants.{Boolean, Keyword, Long}
+use Rattle.agg_model.specs.declared.mapping.Field.{Field}
+use Rattle.agg_model.specs.declared.mapping.Mapping.{Mapping}
 use Rattle.agg_model.specs.declared.row.Document.{Document}
 use Rattle.agg_model.specs.declared.row.FieldValues.{FieldValues}
 use Rattle.agg_model.specs.declared.row.Row.{Row, roll-Row}
@@ -9,8 +11,16 @@ use Rattle.agg_model.specs.declared.row.Children.{roll-Children}
 use Rattle.agg_model.specs.declared.row.Scalar.{Scalar}
 use Rattle.agg_model.specs.declared.row.Scalar.TheVariants.{Whole, Word, Flag}
 
-abbrev pub example_kinds : List FieldKind
-example_kinds = Boolean ∷ Keyword ∷ Long ∷ Keyword ∷ []
+abbrev pub field_of : List ℕ → FieldKind → ℕ → Field
+field_of path kind context = record { path = path; kind = kind; ignore_above = None; context = context }
+
+abbrev pub example_mapping : Mapping
+example_mapping = record {
+  fields = field_of (codes "b") Boolean 0 ∷ field_of (codes "items.s") Keyword 1 ∷ field_of (codes "n") Long 0 ∷ field_of (codes "t") Keyword 0 ∷ [];
+  nested = record { path = codes "items"; parent = 0 } ∷ [];
+  objects = [];
+  strict = false;
+}
 
 abbrev pub values_for : ℕ → List Scalar → FieldValues
 values_for field values = record { field = field; values = values }

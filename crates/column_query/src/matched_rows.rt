@@ -2,11 +2,12 @@
 ghost use Rattle.std.specs.Prelude.{◌≡◌, ◌<◌, length, true, map, slice_get, Some, IfOk};
 ghost use Rattle.agg_evaluation.specs.Matching.{matches};
 ghost use Rattle.agg_evaluation.specs.Rows.{roots};
+ghost use Rattle.column_query.specs.Made.{IsMadeFor};
 ghost use Rattle.column_query.specs.Prepared.{reads_below, says};
 ghost use Rattle.agg_evaluation.specs.Conditions.{looks_below};
 
 use crate::prepared::{Prepared, is_match};
-use crate::preparing::prepare;
+use crate::preparing::prepare_query;
 use agg_model::Query;
 use shard_columns::Shard;
 use std::alloc::{AllocError, Global};
@@ -55,13 +56,26 @@ fn said(alloc: Global, shard: &Shard, query: &Prepared) -> Result<Bits, AllocErr
     Ok(Bits { bits })
 }
 
-/// For each document of the shard, in the order of its roots, whether the query matches it. The fields of the query are
-/// fields of the shard. A root takes time by its values and the rows beneath it that the query asks for, times the
-/// logarithm of the longest list in the query.
-pub fn matched(alloc: Global, shard: &Shard, query: &Query) -> Result<Bits, AllocError>
+/// For each document of the shard, in the order of its roots, whether the query matches it, which looks at fields of the
+/// shard.
+pub(crate) fn matched_roots(
+    alloc: Global,
+    shard: &Shard,
+    query: &Query,
+) -> Result<Bits, AllocError>
     requires { looks_below (length shard.now.kinds) query.now ≡ true }
     ensures { IfOk result (λ bits. bits ≡ map (matches shard.now.rows query.now) (roots shard.now.rows)) }
 {
-    let prepared = prepare(alloc, shard, query)?;
+    let prepared = prepare_query(alloc, shard, query)?;
     said(alloc, shard, &prepared)
+}
+
+/// For each document of the shard, in the order of its roots, whether the query matches it. The query is made for the mapping
+/// of the shard, and for roots. A root takes time by its values and the rows beneath it that the query asks for, times the
+/// logarithm of the longest list in the query.
+pub fn matched(alloc: Global, shard: &Shard, query: &Query) -> Result<Bits, AllocError>
+    requires { IsMadeFor shard.now 0 query.now }
+    ensures { IfOk result (λ bits. bits ≡ map (matches shard.now.rows query.now) (roots shard.now.rows)) }
+{
+    matched_roots(alloc, shard, query)
 }

@@ -1,6 +1,7 @@
 //! Preparing a query for a shard.
 ghost use Rattle.std.specs.Prelude.{◌≡◌, ◌<◌, length, true, IfOk, OnOk};
 ghost use Rattle.std.specs.List.{list_all};
+ghost use Rattle.column_query.specs.Made.{IsMade};
 ghost use Rattle.column_query.specs.Prepared.{AddsNumber, StandForAll, BoundAsAll, HasIds, IsReady, AreReady};
 ghost use Rattle.agg_evaluation.specs.Conditions.{looks_below};
 
@@ -63,7 +64,7 @@ fn ids_of(alloc: Global, values: &[Text]) -> Result<BTreeSet<Vec<u8>>, AllocErro
     Ok(ids)
 }
 
-#[cycle(prepare)]
+#[cycle(prepare_query)]
 fn prepare_all(
     alloc: Global,
     shard: &Shard,
@@ -74,14 +75,18 @@ fn prepare_all(
 {
     let mut prepared = List::new(alloc);
     for query in queries.as_slice() {
-        prepared.push(prepare(alloc, shard, query)?)?;
+        prepared.push(prepare_query(alloc, shard, query)?)?;
     }
     Ok(prepared)
 }
 
-/// The query, prepared for the shard, whose fields it names by their places in the mapping.
-#[cycle(prepare)]
-pub fn prepare(alloc: Global, shard: &Shard, query: &Query) -> Result<Prepared, AllocError>
+/// The query, which looks at fields of the shard, prepared for it.
+#[cycle(prepare_query)]
+pub(crate) fn prepare_query(
+    alloc: Global,
+    shard: &Shard,
+    query: &Query,
+) -> Result<Prepared, AllocError>
     requires { looks_below (length shard.now.kinds) query.now ≡ true }
     ensures { IfOk result (λ prepared. IsReady shard.now query.now prepared) }
 {
@@ -116,7 +121,16 @@ pub fn prepare(alloc: Global, shard: &Shard, query: &Query) -> Result<Prepared, 
         }),
         Query::Nested { path, query } => Ok(Prepared::Nested {
             path: *path,
-            query: Boxed::new(alloc, prepare(alloc, shard, query.get())?)?,
+            query: Boxed::new(alloc, prepare_query(alloc, shard, query.get())?)?,
         }),
     }
+}
+
+/// The query, prepared for the shard, for whose mapping it is made. It names fields and nested paths by their places in the
+/// mapping, and may be asked of rows of any one context.
+pub fn prepare(alloc: Global, shard: &Shard, query: &Query) -> Result<Prepared, AllocError>
+    requires { IsMade shard.now query.now }
+    ensures { IfOk result (λ prepared. IsReady shard.now query.now prepared) }
+{
+    prepare_query(alloc, shard, query)
 }

@@ -1,10 +1,13 @@
-ghost use Rattle.std.specs.Prelude.{◌≡◌, ◌∷◌, ◌<◌, [], IfOk, length, map, true};
+ghost use Rattle.std.specs.Prelude.{◌≡◌, ◌∷◌, ◌<◌, [], IfOk, length, true};
 ghost use Rattle.std.specs.List.{list_all};
-ghost use Rattle.column_query.specs.Example.{values_for, flags, numbers, words, item_of, first_root, second_root, third_root, document_of, example_documents, example_kinds};
+ghost use Rattle.column_query.specs.Example.{values_for, flags, numbers, words, item_of, first_root, second_root, third_root, document_of, field_of, example_documents, example_mapping};
 ghost use Rattle.agg_evaluation.specs.Conditions.{looks_below};
+ghost use Rattle.shard_columns.specs.Built.{IsShardOf};
 
-use crate::matched_rows::matched;
+use crate::matched_rows::{matched, matched_roots};
 use crate::matching::matches;
+use crate::prepared::is_match;
+use crate::preparing::prepare;
 use agg_model::{
     Boxed, Children, Document, Field, FieldKind, FieldValues, List, Mapping, NestedPath, Probe,
     Query, RangeOp, RangeTest, Row, Scalar, Text,
@@ -24,7 +27,7 @@ const T: u32 = 3;
 const ITEMS: u32 = 0;
 
 fn field(alloc: Global, path: &str, kind: FieldKind, context: u32) -> Result<Field, AllocError>
-    ensures { IfOk result (λ f. f.kind ≡ kind) }
+    ensures { IfOk result (λ f. f ≡ field_of path.now kind context) }
 {
     Ok(Field {
         path: Text::of(alloc, path)?,
@@ -35,8 +38,7 @@ fn field(alloc: Global, path: &str, kind: FieldKind, context: u32) -> Result<Fie
 }
 
 fn mapping(alloc: Global) -> Result<Mapping, AllocError>
-    ensures kinds { IfOk result (λ m. map (λ f. f.kind) m.fields ≡ example_kinds) }
-    ensures paths { IfOk result (λ m. length m.nested ≡ 1) }
+    ensures { IfOk result (λ m. m ≡ example_mapping) }
 {
     let mut fields = List::new(alloc);
     fields.push(field(alloc, "b", FieldKind::Boolean, 0)?)?;
@@ -166,7 +168,8 @@ fn documents(alloc: Global) -> Result<List<Document>, AllocError>
 }
 
 fn example(alloc: Global) -> Result<Shard, AllocError>
-    ensures { IfOk result (λ s. length s.kinds ≡ 4) }
+    ensures kinds { IfOk result (λ s. length s.kinds ≡ 4) }
+    ensures built { IfOk result (λ s. IsShardOf example_mapping s) }
 {
     let documents = documents(alloc)?;
     let mapping = mapping(alloc)?;
@@ -183,11 +186,31 @@ fn answers(
     requires kinds { length shard.now.kinds ≡ 4 }
     requires looks { looks_below 4 query ≡ true }
 {
-    let bits = matched(alloc, shard, &query)?;
+    let bits = matched_roots(alloc, shard, &query)?;
     if bits.len() != 3 {
         return Ok(false);
     }
     Ok(bits.get(0) == wanted[0] && bits.get(1) == wanted[1] && bits.get(2) == wanted[2])
+}
+
+// Whether `items.s` being `mm` matches the first document alone, by the calls that ask for a query of the shard's mapping.
+fn first_alone(alloc: Global, shard: &Shard) -> Result<bool, AllocError>
+    requires { IsShardOf example_mapping shard.now }
+{
+    let inner = Query::Term {
+        field: S,
+        value: Probe::Word(Text::of(alloc, "mm")?),
+    };
+    let query = Query::Nested {
+        path: ITEMS,
+        query: Boxed::new(alloc, inner)?,
+    };
+    let prepared = prepare(alloc, shard, &query)?;
+    let bits = matched(alloc, shard, &query)?;
+    if bits.len() != 3 || shard.len() == 0 {
+        return Ok(false);
+    }
+    Ok(is_match(shard, &prepared, 0) && bits.get(0) && !bits.get(1) && !bits.get(2))
 }
 
 fn word(alloc: Global, word: &str) -> Result<Probe, AllocError> {
@@ -410,5 +433,13 @@ fn single_rows(rt: HostRuntime) -> Result<(), Fail> {
     assert!(rt; !matches(&shard, &query, 0));
     assert!(rt; !matches(&shard, &query, 1));
     assert!(rt; matches(&shard, &query, 2));
+    Ok(())
+}
+
+#[test]
+fn queries_of_the_mapping(rt: HostRuntime) -> Result<(), Fail> {
+    let alloc = rt.alloc();
+    let shard = example(alloc)?;
+    assert!(rt; first_alone(alloc, &shard)?);
     Ok(())
 }

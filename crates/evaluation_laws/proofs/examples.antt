@@ -9,4 +9,5 @@ mod Queries
 mod ReverseNested
 mod Terms
 mod Traces
+mod TrueCounts
 mod Wholes

@@ -18,7 +18,7 @@ use Rattle.shard_columns.specs.Layout.{children_of}
 use Rattle.agg_evaluation.specs.DocumentFits.{path_of, fields_fit, is_path_of, row_fits, children_fit, child_fits, rows_fit, fits, all_fit}
 use Rattle.agg_evaluation.specs.Counted.{is_around_row, IsApart}
 use Rattle.agg_model.specs.Contexts.{parents_before, parents_before_from}
-use Rattle.fitting_laws.proofs.Weights.{rows_at, beneath_at, rows_from}
+use Rattle.agg_evaluation.proofs.RowsFit.{rows_at, beneath_at, rows_from}
 
 -- what is left of a place behind another with which it begins
 abbrev left_of : List ℕ → List ℕ → Option (List ℕ)

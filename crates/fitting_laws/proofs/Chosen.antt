@@ -12,7 +12,8 @@ use Rattle.agg_evaluation.specs.DocumentFits.{all_fit}
 use Rattle.fitting_laws.specs.Stores.{IsIndexed}
 use Rattle.fitting_laws.specs.Wholes.{AreChosen}
 use Rattle.fitting_laws.proofs.Measures.{missing_one, no_miss, none_left}
-use Rattle.fitting_laws.proofs.Stores.{shards_fit, shards_weigh}
+use Rattle.agg_reading.proofs.ShardWeights.{shards_weigh}
+use Rattle.fitting_laws.proofs.Stores.{shards_fit}
 
 pub any_chosen : (m : Mapping) (shards chosen others : List (List Document)) → AreChosen m shards → IsPermutation shards (chosen ++ others) → AreChosen m chosen
 any_chosen m shards chosen others h moved =

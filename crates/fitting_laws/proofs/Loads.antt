@@ -85,5 +85,5 @@ loaded_indexed ls =
     let found : (o : Script Loaded) → IfOk o Done → IfOk o IsIndexed = by in found (loaded ls) (loaded_done ls)
   where
     by : (o : Script Loaded) → IfOk o Done → IfOk o IsIndexed
-    by (Ok l) d = record { fitting = d.1; paths = d.0.1; few = d.0.0.mapping; some = d.0.0.shards.0; at_most = d.0.0.shards.1; shards = shards_given l.index.mapping l.store l.index.shards d.0.0.mapping d.0.0.shards.0 d.1 }
+    by (Ok l) d = record { fitting = d.1; ordered = d.0.0.mapping; paths = d.0.1; some = d.0.0.shards.0; at_most = d.0.0.shards.1; shards = shards_given l.index.mapping l.store l.index.shards d.0.0.shards.0 d.1 }
     by (Err e) d = tt

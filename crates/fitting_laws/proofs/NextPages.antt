@@ -25,7 +25,7 @@ use Rattle.agg_evaluation.specs.SearchFits.{search_fits}
 use Rattle.agg_evaluation.specs.Shard.{Collector, page, bucket_of, node_of, collector_of, shard_node, shard_answer}
 use Rattle.agg_evaluation.specs.Whole.{Parts, parts, parts_at, whole_bucket, whole_by, whole_node, whole, shape_of, by_key}
 use Rattle.agg_spec.specs.Final.{final, Finisher, finish_at, finish_bucket, finisher_of, finisher}
-use Rattle.agg_spec.specs.Index.{Index, rows_by_shard}
+use Rattle.agg_spec.specs.Index.{Index}
 use Rattle.agg_spec.specs.Outcome.{answer_of}
 use Rattle.agg_spec.specs.Pages.{is_composite, is_paged, last_key, next_search, search_after}
 use Rattle.list_laws.specs.Sorting.{sorted}
@@ -172,7 +172,7 @@ paged_takes s (a ∷ []) e shards =
 pub next_fits : (index : Index) (s : Search) → search_fits index.mapping s ≡ true → IfSome (next_search index (is_paged s.aggs) s) (λ next. search_fits index.mapping next ≡ true)
 next_fits index s h =
     elim (is_paged s.aggs) as (λ b. is_paged s.aggs ≡ b → IfSome (next_search index b s) (λ next. search_fits index.mapping next ≡ true)) [
-      | true ↦ λ e. behind (last_key (answer_of index s).nodes) (paged_takes s s.aggs e (rows_by_shard index))
+      | true ↦ λ e. behind (last_key (answer_of index s).nodes) (paged_takes s s.aggs e index.shards)
       | false ↦ λ e. tt
     ] refl
   where

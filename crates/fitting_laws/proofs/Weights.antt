@@ -12,13 +12,7 @@ use Rattle.agg_model.specs.Weight.{field_weight}
 use Rattle.agg_reading.specs.Store as store
 use Rattle.shard_columns.specs.Layout.{children_of}
 use Rattle.agg_evaluation.specs.RowsWeight as placed
-
--- the rows of a path, numbered from k
-abbrev pub rows_at : ℕ → List ℕ → List ℕ → ℕ → List (ℕ → Walk) → List PlacedRow
-rows_at path id place k ws = flat_map (λ (r : ℕ × (ℕ → Walk)). r.1 (path + 1) id (place ++ path ∷ r.0 ∷ [])) (enumerate_from k ws)
-
-abbrev pub beneath_at : List ℕ → List ℕ → List Walk → List PlacedRow
-beneath_at id place ws = flat_map (λ c. c id place) ws
+use Rattle.agg_evaluation.proofs.RowsFit.{rows_at, beneath_at, rows_from}
 
 mutual
   row_same : (r : Row) (context : ℕ) (id place : List ℕ) → placed.rows_weight (rows_of r context id place) ≡ store.row_weight r
@@ -40,10 +34,6 @@ mutual
   rows_same (more_of-Row r rest) path k id place =
       sum_by-append placed.row_weight (rows_of r (path + 1) id (place ++ path ∷ k ∷ [])) (rows_at path id place (k + 1) (fold_rows walk_children walk_row rest))
       ∙ (λ i. row_same r (path + 1) id (place ++ path ∷ k ∷ []) i + rows_same rest path (k + 1) id place i)
-
--- the rows of documents that are numbered from k
-abbrev pub rows_from : ℕ → List Document → List PlacedRow
-rows_from k ds = flat_map (λ (d : ℕ × (List ℕ × Row)). rows_of d.1.1 0 d.1.0 (d.0 ∷ [])) (enumerate_from k (map (λ (d : Document). (d.id, d.root)) ds))
 
 weigh_from : (k : ℕ) (ds : List Document) → placed.rows_weight (rows_from k ds) ≡ sum_by store.weight ds
 weigh_from k [] = refl

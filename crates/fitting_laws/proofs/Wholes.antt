@@ -35,7 +35,7 @@ use Rattle.fitting_laws.proofs.Counting.{filter_counted, roots_counted}
 use Rattle.fitting_laws.proofs.Hits.{hits_fit}
 use Rattle.fitting_laws.proofs.Measures.{counts_light, sums_light}
 use Rattle.fitting_laws.proofs.NumbersFit.{counted, summed, tree_fits}
-use Rattle.fitting_laws.proofs.Placed.{rows_fit_placed}
+use Rattle.agg_evaluation.proofs.RowsFit.{rows_fit_placed}
 use Rattle.fitting_laws.proofs.Reach.{reach}
 use Rattle.fitting_laws.proofs.ReachShards.{collected_within}
 use Rattle.fitting_laws.proofs.ReachUnions.{AddsUp, whole_adds}

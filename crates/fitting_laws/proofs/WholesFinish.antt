@@ -26,7 +26,7 @@ use Rattle.fitting_laws.proofs.Finishes.{finishes}
 use Rattle.fitting_laws.proofs.Follows.{search_intervals}
 use Rattle.fitting_laws.proofs.Owns.{owns, whole_keeps}
 use Rattle.fitting_laws.proofs.OwnShards.{collected_owns}
-use Rattle.fitting_laws.proofs.Placed.{rows_fit_placed}
+use Rattle.agg_evaluation.proofs.RowsFit.{rows_fit_placed}
 use Rattle.fitting_laws.proofs.Wholes.{all_at, matched, matched_counted, nodes_of, answers_at, nodes_are_trees, whole_counts}
 
 -- each node passes the test of its own place

@@ -39,7 +39,7 @@ use Rattle.growth_laws.proofs.Built.{collectors-same, node-same}
 use Rattle.growth_laws.proofs.FilterKeys.{filters-among}
 use Rattle.growth_laws.proofs.Gathering.{Gathers, bucket_at, group-more, keys-more, no_rows, put-groups}
 use Rattle.growth_laws.proofs.InsertedKeys.{ascending-insert_all, has_key-insert_all, insert_all}
-use Rattle.growth_laws.proofs.Metrics.{count-append, metric-append}
+use Rattle.growth_laws.proofs.Metrics.{metric-append}
 use Rattle.growth_laws.proofs.PageBuckets.{put-page-groups}
 use Rattle.growth_laws.proofs.PageKeys.{all-keys}
 use Rattle.std.proofs.Math.Bool.{or-true}

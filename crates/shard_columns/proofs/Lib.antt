@@ -10,5 +10,7 @@ pub mod Enclosing
 pub mod Dictionaries
 pub mod Numbering
 pub mod Weighing
+pub mod Givens
 pub mod Making
+pub mod Indexing
 pub mod Parents

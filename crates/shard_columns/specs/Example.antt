@@ -1,5 +1,8 @@
 -- The worked example of the tests: a root with three nested items, of one word each.
-use Rattle.std.specs.Prelude.{ℕ, List, [], ◌∷◌}
+use Rattle.std.specs.Prelude.{ℕ, List, [], ◌∷◌, None, false, codes}
+use Rattle.agg_model.specs.declared.mapping.FieldKind.TheVariants.{Keyword}
+use Rattle.agg_model.specs.declared.mapping.Mapping.{Mapping}
+use Rattle.agg_model.specs.declared.row.Document.{Document}
 use Rattle.agg_model.specs.declared.row.Row.{Row, roll-Row}
 use Rattle.agg_model.specs.declared.row.Children.{roll-Children}
 use Rattle.agg_model.specs.declared.row.Scalar.TheVariants.{Word}
@@ -9,3 +12,15 @@ item_of word = roll-Row (record { values = record { field = 0; values = Word wor
 
 abbrev pub example_root : Row
 example_root = roll-Row (record { values = []; children = roll-Children (record { path = 0; rows = item_of (107 ∷ []) ∷ item_of (109 ∷ 109 ∷ []) ∷ item_of (107 ∷ []) ∷ [] }) ∷ [] })
+
+-- a keyword `s` in the nested path `items`
+abbrev pub example_mapping : Mapping
+example_mapping = record {
+  fields = record { path = codes "items.s"; kind = Keyword; ignore_above = None; context = 1 } ∷ [];
+  nested = record { path = codes "items"; parent = 0 } ∷ [];
+  objects = [];
+  strict = false;
+}
+
+abbrev pub example_documents : List Document
+example_documents = record { id = codes "1"; routing = codes "1"; root = example_root } ∷ []

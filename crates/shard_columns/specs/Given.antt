@@ -1,4 +1,4 @@
--- Documents such as a mapping gives, and what a shard that is built from them shows.
+-- What the columns of a shard are made on: what holds of the rows of documents that fit their mapping.
 use Rattle.std.specs.Prelude.{◌≡◌, ℕ, ◌<◌, ◌≤◌, List, [], ◌∷◌, map, length, slice_get, Some, IsTrue}
 use Rattle.std.specs.List.Sorted.{IsStrictlyIncreasing}
 use Rattle.agg_model.specs.declared.limits.TheConstants.{MAX_PATHS, WEIGHT_LIMIT}
@@ -6,7 +6,6 @@ use Rattle.agg_model.specs.declared.mapping.FieldKind.{FieldKind}
 use Rattle.agg_model.specs.declared.mapping.Mapping.{Mapping}
 use Rattle.agg_model.specs.declared.row.Document.{Document}
 use Rattle.agg_evaluation.specs.Rows.{PlacedRow, row_of, rows_of_documents}
-use Rattle.shard_columns.specs.Columns.{Columns}
 use Rattle.shard_columns.specs.Values.{FieldsBelow}
 use Rattle.shard_columns.specs.Kinds.{AreOfKind}
 use Rattle.shard_columns.specs.Rising.{documents_rise}
@@ -25,8 +24,7 @@ FieldsRise rows = (n : ℕ) → IsStrictlyIncreasing (map (λ v. v.field) (row_o
 abbrev pub KindsHold : List FieldKind → List PlacedRow → Type 0
 KindsHold kinds rows = (field : ℕ) (kind : FieldKind) → slice_get kinds field ≡ Some kind → AreOfKind kind field rows
 
--- The reader of documents gives such, with a mapping of an index line and a store that it accepts: at most MAX_PATHS fields
--- and nested paths, and a weight below WEIGHT_LIMIT.
+-- Fields and nested paths ascend, each value is of its field's kind, and there are few of all.
 pub record IsGiven (mapping : Mapping) (documents : List Document) : Type 0 where
   pub fields : RowsBelow (length mapping.fields) (rows_of_documents documents)
   pub rising : FieldsRise (rows_of_documents documents)
@@ -36,11 +34,3 @@ pub record IsGiven (mapping : Mapping) (documents : List Document) : Type 0 wher
   pub few_fields : length mapping.fields ≤ MAX_PATHS
   pub few_paths : length mapping.nested ≤ MAX_PATHS
   pub light : rows_weight (rows_of_documents documents) < WEIGHT_LIMIT
-
-abbrev pub columns_from : Mapping → List Document → Columns
-columns_from mapping documents = record {
-  kinds = map (λ f. f.kind) mapping.fields;
-  contexts = map (λ f. f.context) mapping.fields;
-  parents = map (λ p. p.parent) mapping.nested;
-  rows = rows_of_documents documents;
-}

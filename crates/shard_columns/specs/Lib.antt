@@ -5,6 +5,7 @@ pub mod Words
 pub mod Columns
 pub mod Shard
 pub mod Given
+pub mod Built
 pub mod Cell
 pub mod Index
 pub mod Dictionary

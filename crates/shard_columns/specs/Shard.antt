@@ -4,6 +4,7 @@ use Rattle.std.specs.List.{zip}
 use Rattle.agg_model.specs.declared.limits.TheConstants.{MAX_PATHS, WEIGHT_LIMIT}
 use Rattle.agg_evaluation.specs.Rows.{PlacedRow, row_of}
 use Rattle.shard_columns.specs.declared.shard.Shard.TheInside.{Inside}
+use Rattle.shard_columns.specs.Built.{IsShard}
 use Rattle.shard_columns.specs.Columns.{Columns}
 use Rattle.shard_columns.specs.Contexts.{AreNumbered, AreEnclosed}
 use Rattle.shard_columns.specs.Dictionary.{words_of}
@@ -34,3 +35,4 @@ pub record IsSound (s : Inside) : Type 0 where
   pub kinds : KindsHold s.kinds.items (placed_rows s)
   pub counted : length s.values.stored.items ≡ sum (map value_count (placed_rows s))
   pub light : rows_weight (placed_rows s) < WEIGHT_LIMIT
+  pub built : IsShard (columns_of s)

@@ -1,8 +1,12 @@
-ghost use Rattle.std.specs.Prelude.{◌≡◌, ◌↔◌, ◌<◌, ◌+◌, ◌^◌, ℕ, slice_index, IfOk, IfSome, IfNone, IsNone, length, map, sum_by, [], Some, slice_get, slice_index_or};
+ghost use Rattle.std.specs.Prelude.{◌≡◌, ◌↔◌, ◌<◌, ◌+◌, ◌≤◌, ◌^◌, ℕ, IsTrue, slice_index, IfOk, IfSome, IfNone, IsNone, length, map, sum_by, [], Some, slice_get, slice_index_or};
 ghost use Rattle.shard_columns.specs.Values.{shown, row_values, IsWithin, total_count};
 ghost use Rattle.shard_columns.specs.Words.{AllFieldsBelow, AreDictionaries};
 ghost use Rattle.shard_columns.specs.Layout.{ids_of, values_of_laid, entries_of_laid};
-ghost use Rattle.agg_evaluation.specs.Rows.{row_of, roots, values_of, beneath};
+ghost use Rattle.agg_model.specs.declared.limits.TheConstants.{MAX_PATHS, WEIGHT_LIMIT};
+ghost use Rattle.agg_model.specs.Contexts.{parents_before};
+ghost use Rattle.agg_evaluation.specs.DocumentFits.{all_fit};
+ghost use Rattle.agg_evaluation.specs.Rows.{row_of, roots, rows_of_documents, values_of, beneath};
+ghost use Rattle.agg_evaluation.specs.RowsWeight.{rows_weight};
 ghost use Rattle.shard_columns.specs.Dictionary.{words_of, as_values, NoRowHas, longest_word};
 ghost use Rattle.agg_evaluation.specs.ColumnBytes.{shard_bytes};
 ghost use Rattle.shard_columns.specs.Kinds.{AreOfKind};
@@ -137,17 +141,21 @@ fn parents(alloc: Global, nested: &[NestedPath]) -> Result<Vec<u32>, AllocError>
 }
 
 impl Shard {
-    ghost use Rattle.shard_columns.specs.Given.{IsGiven, columns_from};
+    ghost use Rattle.shard_columns.specs.Built.{columns_from, IsShard};
 
-    /// The documents of a shard under their mapping, in time n log n and memory in proportion to rows and values. It takes up
-    /// to `MAX_PATHS` fields and nested paths, and documents whose rows, values and bytes of words are fewer than
-    /// `WEIGHT_LIMIT` together.
+    /// The documents of a shard under their mapping, in time n log n and memory in proportion to rows and values.
+    ///
+    /// The mapping has up to `MAX_PATHS` fields and nested paths, each path behind the one around it. The documents are such
+    /// as their reader gives them for it, with rows, values and bytes of words that are fewer than `WEIGHT_LIMIT` together.
     pub fn build(
         alloc: Global,
         documents: &List<Document>,
         mapping: &Mapping,
     ) -> Result<Shard, AllocError>
-        requires { IsGiven mapping.now documents.now }
+        requires few { length mapping.now.fields + length mapping.now.nested ≤ MAX_PATHS }
+        requires paths { IsTrue (parents_before mapping.now) }
+        requires fit { IsTrue (all_fit mapping.now documents.now) }
+        requires light { rows_weight (rows_of_documents documents.now) < WEIGHT_LIMIT }
         ensures { IfOk result (λ s. s ≡ columns_from mapping.now documents.now) }
     {
         let layout = lay(alloc, documents)?;
@@ -176,9 +184,10 @@ impl Shard {
         })
     }
 
-    /// The number of rows.
+    /// The number of rows. They are those of documents that fit the mapping that the shard was built with.
     pub fn len(&self) -> u32
-        ensures { result ≡ length self.now.rows }
+        ensures rows { result ≡ length self.now.rows }
+        ensures built { IsShard self.now }
     {
         self.rows.len() as u32
     }

@@ -1,6 +1,6 @@
-ghost use Rattle.std.specs.Prelude.{◌≡◌, ◌∷◌, [], IfOk, length, map};
+ghost use Rattle.std.specs.Prelude.{◌≡◌, ◌∷◌, [], IfOk};
 ghost use Rattle.agg_model.specs.declared.mapping.FieldKind.TheVariants.{Keyword};
-ghost use Rattle.shard_columns.specs.Example.{item_of, example_root};
+ghost use Rattle.shard_columns.specs.Example.{item_of, example_root, example_mapping, example_documents};
 
 use crate::shard::{Cell, Shard};
 use agg_model::{
@@ -27,8 +27,7 @@ fn item(alloc: Global, word: &str) -> Result<Row, AllocError>
 }
 
 fn mapping(alloc: Global) -> Result<Mapping, AllocError>
-    ensures kinds { IfOk result (λ m. map (λ f. f.kind) m.fields ≡ Keyword ∷ []) }
-    ensures paths { IfOk result (λ m. length m.nested ≡ 1) }
+    ensures { IfOk result (λ m. m ≡ example_mapping) }
 {
     let mut fields = List::new(alloc);
     fields.push(Field {
@@ -69,8 +68,8 @@ fn root(alloc: Global) -> Result<Row, AllocError>
     })
 }
 
-fn example(alloc: Global) -> Result<Shard, AllocError>
-    ensures { IfOk result (λ s. s.kinds ≡ Keyword ∷ []) }
+fn documents(alloc: Global) -> Result<List<Document>, AllocError>
+    ensures { IfOk result (λ ds. ds ≡ example_documents) }
 {
     let mut documents = List::new(alloc);
     documents.push(Document {
@@ -78,6 +77,13 @@ fn example(alloc: Global) -> Result<Shard, AllocError>
         routing: Text::of(alloc, "1")?,
         root: root(alloc)?,
     })?;
+    Ok(documents)
+}
+
+fn example(alloc: Global) -> Result<Shard, AllocError>
+    ensures { IfOk result (λ s. s.kinds ≡ Keyword ∷ []) }
+{
+    let documents = documents(alloc)?;
     let mapping = mapping(alloc)?;
     Shard::build(alloc, &documents, &mapping)
 }

@@ -35,7 +35,7 @@ unfolding computing
 metrics_of_nothing = refl
 
 value_count_counts_values : shard_answer (search_of query.All ((agg (codes "b") (kind.ValueCount 0 None) []) ∷ (agg (codes "n") (kind.ValueCount 1 None) []) ∷ (agg (codes "t") (kind.ValueCount 2 None) []) ∷ [])) documents
-    ≡ result 3 ((metric 2 (pos 0) None None) ∷ (metric 3 (pos 0) None None) ∷ (metric 3 (pos 0) None None) ∷ [])
+    ≡ result 3 ((metric 2 (pos 0) None None) ∷ (metric 3 (pos 3) (Some (negsuc 0)) (Some (pos 4))) ∷ (metric 3 (pos 0) None None) ∷ [])
 unfolding computing
 value_count_counts_values = refl
 

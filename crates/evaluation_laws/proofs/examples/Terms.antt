@@ -76,7 +76,7 @@ repeats = shard_rows
 
 -- but numbers keep their repeats for metrics
 equal_values_of_a_row_count_once : shard_answer (search_of query.All ((agg (codes "n") (terms 1) []) ∷ (agg (codes "s") (kind.Sum 1 None) []) ∷ (agg (codes "u") (terms 2) []) ∷ (agg (codes "v") (kind.ValueCount 2 None) []) ∷ (agg (codes "w") (kind.ValueCount 1 None) []) ∷ [])) repeats
-    ≡ result 1 ((keyed (bucket (key.Whole (pos 5)) 1 [] ∷ [])) ∷ (metric 2 (pos 10) (Some (pos 5)) (Some (pos 5))) ∷ (keyed (bucket (key.Word (codes "a")) 1 [] ∷ bucket (key.Word (codes "b")) 1 [] ∷ [])) ∷ (metric 2 (pos 0) None None) ∷ (metric 2 (pos 0) None None) ∷ [])
+    ≡ result 1 ((keyed (bucket (key.Whole (pos 5)) 1 [] ∷ [])) ∷ (metric 2 (pos 10) (Some (pos 5)) (Some (pos 5))) ∷ (keyed (bucket (key.Word (codes "a")) 1 [] ∷ bucket (key.Word (codes "b")) 1 [] ∷ [])) ∷ (metric 2 (pos 0) None None) ∷ (metric 2 (pos 10) (Some (pos 5)) (Some (pos 5))) ∷ [])
 unfolding computing
 equal_values_of_a_row_count_once = refl
 

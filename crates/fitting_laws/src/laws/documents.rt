@@ -1,5 +1,5 @@
 //! Laws of documents: what is read fits its mapping, and is such as an index takes.
-ghost use Rattle.std.specs.Prelude.{◌≡◌, ℕ, ◌+◌, ◌<◌, ◌≤◌, List, length, sum_by, IsTrue, IfOk};
+ghost use Rattle.std.specs.Prelude.{◌≡◌, ℕ, ◌≤◌, List, sum_by, IsTrue, IfOk};
 ghost use Rattle.agg_evaluation.specs.Counted.{IsApart};
 ghost use Rattle.agg_evaluation.specs.DocumentFits.{fits, all_fit};
 ghost use Rattle.agg_evaluation.specs.PlacedFits.{rows_placed};
@@ -8,7 +8,6 @@ ghost use Rattle.agg_evaluation.specs.RowsWeight.{rows_weight};
 ghost use Rattle.agg_model.specs.Contexts.{parents_before};
 ghost use Rattle.agg_model.specs.Lines.{Line};
 ghost use Rattle.agg_model.specs.declared.bulk.Action.{Action};
-ghost use Rattle.agg_model.specs.declared.limits.TheConstants.{MAX_PATHS, WEIGHT_LIMIT};
 ghost use Rattle.agg_model.specs.declared.mapping.Mapping.{Mapping};
 ghost use Rattle.agg_model.specs.declared.row.Document.{Document};
 ghost use Rattle.agg_reading.specs.Document.{document_at};
@@ -16,7 +15,6 @@ ghost use Rattle.agg_reading.specs.IndexLine.{index_line_at};
 ghost use Rattle.agg_reading.specs.Script.{loaded};
 ghost use Rattle.agg_reading.specs.Store.{Store, weight, store_weight, applied, shards_of};
 ghost use Rattle.fitting_laws.specs.Stores.{IsFitting, AreShards, IsIndexed};
-ghost use Rattle.shard_columns.specs.Given.{IsGiven};
 
 /// The root row of each document that is read fits the mapping.
 pub fn documents_that_are_read_fit()
@@ -41,16 +39,14 @@ pub fn rows_of_fitting_documents_fit()
         IsTrue (rows_placed m (rows_of_documents documents)) }
 {}
 
-/// Documents that fit are such as a shard is built from, and so are those of each shard of a store.
-pub fn fitting_documents_are_given()
-    ensures one { (m : Mapping) (documents : List Document) → length m.fields + length m.nested ≤ MAX_PATHS →
-        sum_by weight documents < WEIGHT_LIMIT → IsTrue (all_fit m documents) → IsGiven m documents }
-    ensures shards { (m : Mapping) (store : Store) (n : ℕ) → length m.fields + length m.nested ≤ MAX_PATHS →
-        1 ≤ n → IsFitting m store → AreShards m (shards_of store n) }
+/// The shards of a store whose documents fit are such as an index is built from: they fit, and their rows weigh less than
+/// `WEIGHT_LIMIT` together.
+pub fn shards_of_fitting_stores_fit()
+    ensures { (m : Mapping) (store : Store) (n : ℕ) → 1 ≤ n → IsFitting m store → AreShards m (shards_of store n) }
 {}
 
-/// The shards of what is loaded are such as an index takes: 1 to `MAX_SHARDS`, each as the mapping gives it, and all
-/// lighter than `WEIGHT_LIMIT` together.
+/// What is loaded is what an index is built from: its mapping's paths stand in order, each behind the one around it, and its
+/// shards are 1 to `MAX_SHARDS`, of documents that fit and are lighter than `WEIGHT_LIMIT` together.
 pub fn what_is_loaded_is_an_index()
     ensures { (lines : List Line) → IfOk (loaded lines) IsIndexed }
 {}

@@ -5,7 +5,7 @@ use Rattle.agg_model.specs.declared.mapping.NestedPath.{NestedPath}
 use Rattle.agg_reading.specs.declared.parts.FoundField.{FoundField}
 use Rattle.agg_reading.specs.declared.parts.FoundPath.{FoundPath}
 use Rattle.agg_reading.specs.Mapping.{numbered_field, numbered_path}
-use Rattle.agg_mapping.proofs.PathOrder.{ascend_mapped}
+use Rattle.agg_reading.proofs.PathOrder.{ascend_mapped}
 use Rattle.agg_mapping.proofs.numbering.numbered.Goals as goal
 
 pub returns-clause-ordered : goal.returns-clause-ordered

@@ -1,4 +1,5 @@
-use Rattle.agg_query.proofs.Readable.{a_query, no_other}
+use Rattle.agg_reading.proofs.Refusing.{no_other}
+use Rattle.agg_reading.proofs.QueryRefusals.{a_query}
 use Rattle.agg_query.proofs.query.counted_query_at.Goals as goal
 
 pub returns-clause-json : goal.returns-clause-json

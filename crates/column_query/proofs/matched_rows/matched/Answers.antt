@@ -1,7 +1,5 @@
-use Rattle.std.proofs.Common.{◌≡◌, Bool, List, IfOk, subst}
-use Rattle.column_query.proofs.Ready.{said-roots}
+use Rattle.column_query.proofs.Making.{looks-for}
 use Rattle.column_query.proofs.matched_rows.matched.Goals as goal
 
-pub returns : goal.returns
-returns c =
-    subst (λ (bs : List Bool). IfOk c.said.result (λ bits. bits ≡ bs)) (said-roots c.args.shard.now c.args.query.now c.in_ok-prepared.prepared c.in_ok-prepared.ensures) c.said.ensures
+pub matched_roots-requires : goal.matched_roots-requires
+matched_roots-requires c = looks-for c.args.shard.now c.args.query.now 0 c.requires

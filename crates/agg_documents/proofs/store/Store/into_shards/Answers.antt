@@ -1,5 +1,7 @@
-use Rattle.std.proofs.Common.{List, sym, ◌∙◌, ap}
-use Rattle.agg_reading.specs.Store.{Store, shards_of}
+use Rattle.std.specs.Prelude.{sum_by}
+use Rattle.std.proofs.Common.{List, sym, ◌∙◌, ap, arith}
+use Rattle.agg_reading.specs.Store.{Store, weight, store_weight, shards_of}
+use Rattle.agg_reading.proofs.ShardWeights.{shards_weigh}
 use Rattle.agg_documents.specs.declared.slot.Slot.{Slot}
 use Rattle.agg_documents.specs.Slots.{entries_of}
 use Rattle.agg_documents.proofs.Dealing.{dealt-none, length-dealt, dealt-live, dealt-gone, dealt-all}
@@ -21,9 +23,17 @@ loop-slot-preserved-in_default c =
     dealt-gone c.loop-slot.lists.items c.in-Some.slot c.loop-slot.slot-iterator c.next.new.self c.into_iter-slot-iterator.result c.args.shards c.loop-slot.invariant
     c.in-Some.ensures.steps (sym c.in_default.ensures)
 
-pub returns : goal.returns
-returns c =
+pub returns-clause-shards : goal.returns-clause-shards
+returns-clause-shards c =
     c.from_vec.ensures
     ∙ (dealt-all c.loop-slot.lists.items c.loop-slot.slot-iterator c.into_iter-slot-iterator.result c.args.shards c.loop-slot.invariant c.in-None.ensures.steps.0
     ∙ (ap (λ (ss : List Slot). shards_of (entries_of ss) c.args.shards) c.into_iter-slot-iterator.ensures.into_iter_gives.0
     ∙ ap (λ (es : Store). shards_of es c.args.shards) c.self.view_is))
+
+pub returns-clause-light : goal.returns-clause-light
+returns-clause-light c =
+    let all = shards_weigh c.args.self c.args.shards c.requires in
+    let same = ap (sum_by (sum_by weight)) (returns-clause-shards c) in
+    let kept = c.self.invariant.weight in
+    let shown = ap store_weight c.self.view_is in
+    omega (arith, all, same, kept, shown, c.self.invariant.light)

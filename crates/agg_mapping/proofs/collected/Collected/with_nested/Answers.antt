@@ -3,7 +3,7 @@ use Rattle.std.proofs.lemmas.List.{length_push}
 use Rattle.agg_reading.specs.declared.parts.FoundPath.{FoundPath}
 use Rattle.agg_mapping.specs.Arranged.{arranged}
 use Rattle.agg_mapping.proofs.CollectedLemmas.{room}
-use Rattle.agg_mapping.proofs.PathOrder.{sorted-last}
+use Rattle.agg_reading.proofs.PathOrder.{sorted-last}
 use Rattle.agg_mapping.proofs.collected.Collected.with_nested.Goals as goal
 
 pub invariant_of-result : goal.invariant_of-result

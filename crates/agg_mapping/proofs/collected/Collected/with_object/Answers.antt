@@ -1,6 +1,6 @@
 use Rattle.std.proofs.Common.{ℕ, List, []}
 use Rattle.agg_mapping.specs.Arranged.{arranged}
-use Rattle.agg_mapping.proofs.PathOrder.{sorted-last}
+use Rattle.agg_reading.proofs.PathOrder.{sorted-last}
 use Rattle.agg_mapping.proofs.collected.Collected.with_object.Goals as goal
 
 pub returns : goal.returns

@@ -1,4 +1,4 @@
-use Rattle.fitting_laws.proofs.Stores.{shards_weigh}
+use Rattle.agg_reading.proofs.ShardWeights.{shards_weigh}
 use Rattle.fitting_laws.proofs.Weights as weights
 use Rattle.fitting_laws.proofs.laws.documents.weights_agree.Goals as goal
 

@@ -1,4 +1,5 @@
-use Rattle.fitting_laws.proofs.Queries.{query_from_fits, fits_below}
+use Rattle.fitting_laws.proofs.Queries.{query_from_fits}
+use Rattle.agg_evaluation.proofs.QueriesFit.{fits_below}
 use Rattle.fitting_laws.proofs.laws.searches.queries_that_are_read_fit.Goals as goal
 
 pub returns-clause-read : goal.returns-clause-read

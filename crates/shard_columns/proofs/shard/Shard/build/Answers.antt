@@ -20,6 +20,8 @@ use Rattle.shard_columns.specs.Ends.{each, root_ends}
 use Rattle.agg_evaluation.specs.RowsWeight.{rows_weight}
 use Rattle.shard_columns.proofs.Building.{AllFieldsBelow-given, rows-stored, total-values}
 use Rattle.shard_columns.proofs.Enclosing.{all-rows-laid}
+use Rattle.shard_columns.specs.Built.{columns_from}
+use Rattle.shard_columns.proofs.Givens.{documents_given}
 use Rattle.shard_columns.proofs.Making.{values-laid, contexts-below, AreEnclosed-laid, dictionaries-are}
 use Rattle.shard_columns.proofs.shard.Shard.build.Goals as goal
 
@@ -27,13 +29,13 @@ pub dictionaries-requires : goal.dictionaries-requires
 dictionaries-requires c =
     subst (λ (ls : List Laid). AllFieldsBelow (length c.as_slice-fields.result.now) ls) (sym c.as_slice-laid.ensures.value)
     (AllFieldsBelow-given (length c.as_slice-fields.result.now) (ids_of c.args.documents.now) c.in_ok-layout.layout.rows.items (rows_of_documents c.args.documents.now) c.in_ok-layout.ensures.rows
-    (subst (λ (n : ℕ). RowsBelow n (rows_of_documents c.args.documents.now)) (sym (ap length c.as_slice-fields.ensures)) c.requires.fields))
+    (subst (λ (n : ℕ). RowsBelow n (rows_of_documents c.args.documents.now)) (sym (ap length c.as_slice-fields.ensures)) (documents_given c.args.mapping.now c.args.documents.now c.requires.few c.requires.light c.requires.fit).fields))
 
 pub store-requires : goal.store-requires
 store-requires c =
     let below = subst (λ (ls : List Laid). AllFieldsBelow (length c.as_slice-fields.result.now) ls) (sym c.as_slice-laid.ensures.value)
     (AllFieldsBelow-given (length c.as_slice-fields.result.now) (ids_of c.args.documents.now) c.in_ok-layout.layout.rows.items (rows_of_documents c.args.documents.now) c.in_ok-layout.ensures.rows
-    (subst (λ (n : ℕ). RowsBelow n (rows_of_documents c.args.documents.now)) (sym (ap length c.as_slice-fields.ensures)) c.requires.fields)) in
+    (subst (λ (n : ℕ). RowsBelow n (rows_of_documents c.args.documents.now)) (sym (ap length c.as_slice-fields.ensures)) (documents_given c.args.mapping.now c.args.documents.now c.requires.few c.requires.light c.requires.fit).fields)) in
     let size : length c.as_slice.result.now ≡ length c.as_slice-fields.result.now = ap length c.as_slice.ensures.value ∙ c.in_ok-words.ensures.sizes in
     record {
       below = subst (λ (n : ℕ). AllFieldsBelow n c.as_slice-laid.result.now) (sym size) below;
@@ -47,7 +49,7 @@ numbers_by_context-requires c =
     let nested_size = ap length c.as_slice-nested.ensures in
     subst (ContextsBelow (length c.as_slice-nested.result.now + 1)) (sym c.as_slice-2.ensures.value)
     (contexts-below (ids_of c.args.documents.now) c.in_ok-layout.layout.rows.items c.in_ok-rows.rows.items (rows_of_documents c.args.documents.now) (length c.as_slice-nested.result.now + 1) entries_are c.in_ok-layout.ensures.rows
-    (λ n. omega (arith, c.requires.contexts n, nested_size)))
+    (λ n. omega (arith, (documents_given c.args.mapping.now c.args.documents.now c.requires.few c.requires.light c.requires.fit).contexts n, nested_size)))
 
 pub invariant_of-result : goal.invariant_of-result
 invariant_of-result c =
@@ -59,7 +61,7 @@ invariant_of-result c =
     ap (λ (ids : List (List ℕ)). placed ids [] (zip entries values)) c.in_ok-ids.ensures
     ∙ (rows-stored (ids_of c.args.documents.now) c.in_ok-layout.layout.rows.items entries values entries_are values_are ∙ c.in_ok-layout.ensures.rows) in
     let documents = c.args.documents.now in
-    let given = c.requires in
+    let given = documents_given c.args.mapping.now c.args.documents.now c.requires.few c.requires.light c.requires.fit in
     let all : List PlacedRow = rows_of_documents documents in
     let fields_are = c.as_slice-fields.ensures in
     let nested_are = c.as_slice-nested.ensures in
@@ -78,6 +80,9 @@ invariant_of-result c =
     let rows_laid = all-rows-laid documents (subst T (sym given.paths) tt) in
     let enclosed : AreEnclosed all c.in_ok-layout.layout.ends.items =
     subst (AreEnclosed all) (sym c.in_ok-layout.ensures.ends) (AreEnclosed-laid [] (λ q. 0 ≤ q) all (each (map root_ends documents) 0) rows_laid) in
+    let contexts_are : c.in_ok-contexts.contexts.items ≡ map (λ f. f.context) c.args.mapping.now.fields = c.in_ok-contexts.ensures ∙ ap (map (λ (f : Field). f.context)) fields_are in
+    let columns_are : record { kinds = c.in_ok-kinds.kinds.items; contexts = c.in_ok-contexts.contexts.items; parents = c.in_ok-parents.parents.items; rows = placed c.in_ok-ids.ids.items [] (zip entries values) } ≡ columns_from c.args.mapping.now documents =
+    λ i. record { kinds = kinds_are i; contexts = contexts_are i; parents = parents_are i; rows = rows_are i } in
     let kinds_hold : KindsHold c.in_ok-kinds.kinds.items all = subst (λ (ks : List FieldKind). KindsHold ks all) (sym kinds_are) given.kinds in
     record {
       aligned = ap length values_are ∙ (length-map laid (λ (l : Laid). l.values.now) ∙ (sym (length-map laid (λ (l : Laid). l.entry)) ∙ sym (ap length entries_are)));
@@ -96,6 +101,7 @@ invariant_of-result c =
       counted = c.in_ok-values.ensures.counted ∙ (ap (λ (ls : List Laid). sum_by total_count (values_of_laid ls)) c.as_slice-laid.ensures.value
           ∙ (ap (sum_by total_count) (sym (values-laid ids laid all c.in_ok-layout.ensures.rows)) ∙ (total-values all ∙ ap (λ (rs : List PlacedRow). sum (map value_count rs)) (sym rows_are))));
       light = subst (λ (rs : List PlacedRow). rows_weight rs < 2 ^ 32) (sym rows_are) given.light;
+      built = ∣ (c.args.mapping.now, ∣ (documents, record { few = c.requires.few; paths = c.requires.paths; fit = c.requires.fit; light = c.requires.light; columns_are = columns_are }) ∣₁) ∣₁;
     }
 
 pub returns : goal.returns
@@ -110,9 +116,4 @@ returns c =
     let kinds_are = c.in_ok-kinds.ensures ∙ ap (map (λ (f : _). f.kind)) c.as_slice-fields.ensures in
     let contexts_are = c.in_ok-contexts.ensures ∙ ap (map (λ (f : _). f.context)) c.as_slice-fields.ensures in
     let parents_are = c.in_ok-parents.ensures ∙ ap (map (λ (p : _). p.parent)) c.as_slice-nested.ensures in
-    let make : List FieldKind → List ℕ → List ℕ → List PlacedRow → Columns = λ k x p r. record { kinds = k; contexts = x; parents = p; rows = r } in
-    let old = placed c.in_ok-ids.ids.items [] (zip entries values) in
-    ap (λ (k : List FieldKind). make k c.in_ok-contexts.contexts.items c.in_ok-parents.parents.items old) kinds_are
-    ∙ (ap (λ (x : List ℕ). make (map (λ f. f.kind) c.args.mapping.now.fields) x c.in_ok-parents.parents.items old) contexts_are
-    ∙ (ap (λ (p : List ℕ). make (map (λ f. f.kind) c.args.mapping.now.fields) (map (λ f. f.context) c.args.mapping.now.fields) p old) parents_are
-    ∙ ap (λ (r : List PlacedRow). make (map (λ f. f.kind) c.args.mapping.now.fields) (map (λ f. f.context) c.args.mapping.now.fields) (map (λ p. p.parent) c.args.mapping.now.nested) r) rows_are))
+    λ i. record { kinds = kinds_are i; contexts = contexts_are i; parents = parents_are i; rows = rows_are i }
