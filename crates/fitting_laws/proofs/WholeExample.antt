@@ -1,4 +1,4 @@
--- A small index that is read from bytes, and a search that is read for it: all that the laws of wholes ask for is there.
+-- An index and a search that are read from bytes: all that the laws of wholes ask for is there, and their whole is computed.
 use Rattle.std.specs.Prelude.{◌≡◌, refl, ℕ, List, [], ◌∷◌, ◌++◌, map, length, sum_by, Bool, true, false, ◌&&◌, nat_le, nat_lt, Result, Ok, Err, codes}
 use Rattle.std.specs.List.{list_all}
 use Rattle.agg_model.specs.Contexts.{parents_before}
