@@ -6,11 +6,10 @@ use Rattle.agg_model.specs.declared.partial.Node.{Node}
 use Rattle.agg_model.specs.declared.partial.Partial.{Partial}
 use Rattle.agg_model.specs.declared.aggregation.Agg.{Agg}
 use Rattle.agg_model.specs.declared.aggregation.Search.{Search}
-use Rattle.agg_evaluation.specs.Rows.{PlacedRow}
 use Rattle.agg_evaluation.specs.Matching.{matched_roots}
 use Rattle.agg_evaluation.specs.Shard.{shard_node, shard_answer}
 use Rattle.agg_evaluation.specs.Whole.{whole_node, whole}
-use Rattle.agg_spec.specs.Index.{Index}
+use Rattle.agg_spec.specs.Index.{Index, rows_in}
 use Rattle.agg_spec.specs.Outcome.{shard_answers, answer_of}
 use Rattle.agg_spec.specs.Final.{finisher, finish_each}
 use Rattle.agg_spec.specs.TermsSums.{answer_of_rows, matched_by_shard}
@@ -29,16 +28,15 @@ mapped-at f [] j x at = absurd (let no : ⊥ = cc in no)
 mapped-at f (y ∷ ys) zero x at = let same : y ≡ x = cc in ap (λ z. Some (f z)) same
 mapped-at f (y ∷ ys) (suc j) x at = mapped-at f ys j x at
 
-pub answer_of-at : (index : Index) (search : Search) (j : ℕ) (a : Agg) → slice_get search.aggs j ≡ Some a → slice_get (answer_of index search).nodes j ≡ Some (answer_of_rows a (matched_by_shard index search))
-answer_of-at index search j a at =
-    let trees = shard_answers index search in
+pub answer_of-at : (index : Index) (search : Search) (shards : List ℕ) (j : ℕ) (a : Agg) → slice_get search.aggs j ≡ Some a → slice_get (answer_of index search shards).nodes j ≡ Some (answer_of_rows a (matched_by_shard index search shards))
+answer_of-at index search shards j a at =
+    let trees = shard_answers index search shards in
     let nodes_at = λ (n : ℕ). filter_map (λ (t : Partial). slice_get t.nodes n) trees in
-    let shards = index.shards in
     let node : slice_get (whole search trees).nodes j ≡ Some (whole_node a (nodes_at j)) =
     slice_get-enumerated 0 search.aggs (λ a. whole_node a.1 (nodes_at a.0)) j a at ∙ ap (λ n. Some (whole_node a (nodes_at n))) (let e : 0 + j ≡ j = omega arith in e) in
-    let same : nodes_at j ≡ map (λ s. shard_node s.0 a s.1) (matched_by_shard index search) =
-    filter_map-there (λ (t : Partial). slice_get t.nodes j) (shard_answer search) (λ all. shard_node all a (matched_roots all search.query))
-    (λ all. mapped-at (λ a. shard_node all a (matched_roots all search.query)) search.aggs j a at) shards
-    ∙ sym (map-map (λ s. shard_node s.0 a s.1) (λ (all : List PlacedRow). (all, matched_roots all search.query)) shards) in
+    let same : nodes_at j ≡ map (λ s. shard_node s.0 a s.1) (matched_by_shard index search shards) =
+    filter_map-there (λ (t : Partial). slice_get t.nodes j) (λ shard. shard_answer search (rows_in index shard)) (λ shard. shard_node (rows_in index shard) a (matched_roots (rows_in index shard) search.query))
+    (λ shard. mapped-at (λ a. shard_node (rows_in index shard) a (matched_roots (rows_in index shard) search.query)) search.aggs j a at) shards
+    ∙ sym (map-map (λ s. shard_node s.0 a s.1) (λ (shard : ℕ). (rows_in index shard, matched_roots (rows_in index shard) search.query)) shards) in
     finished-at search.aggs (whole search trees).nodes j a (whole_node a (nodes_at j)) at node
     ∙ ap (λ ns. Some ((finisher a).finish (whole_node a ns))) same

@@ -94,7 +94,7 @@ unfolding computing
 request_limit_of_4865 = refl
 
 -- the response
-request_limit_of_4866 : solo_outcome (request_limit 4866) two_words 19 terms ≡ outcome two_words 65536 terms
+request_limit_of_4866 : solo_outcome (request_limit 4866) two_words 19 terms ≡ outcome two_words 65536 terms []
 unfolding computing
 request_limit_of_4866 = refl
 
@@ -153,6 +153,6 @@ statistics_of_four_batches :
 unfolding computing
 statistics_of_four_batches = refl
 
-response_whatever_the_batches : solo_outcome (record (settings default_limits) { batch = 2 }) seven_shards 178 terms ≡ outcome seven_shards 65536 terms
+response_whatever_the_batches : solo_outcome (record (settings default_limits) { batch = 2 }) seven_shards 178 terms ≡ outcome seven_shards 65536 terms []
 unfolding computing
 response_whatever_the_batches = refl

@@ -36,7 +36,7 @@ body_that_trips = (inl refl, tt)
 
 second_body_trips :
     MayAnswerWave (settings (record default_limits { inflight = 100 })) no_documents 0 (terms ∷ terms ∷ [])
-    (outcome no_documents 65536 terms ∷ ended.Tripped (record { which = which.Inflight; wanted = 152; limit = 100 }) ∷ [])
+    (outcome no_documents 65536 terms [] ∷ ended.Tripped (record { which = which.Inflight; wanted = 152; limit = 100 }) ∷ [])
 unfolding computing
 second_body_trips = ((refl, record { at_request = all_within 4608 644245094 (lit≤ tt); at_parent = all_within 4608 751619276 (lit≤ tt) }, record { at_request = lit≤ tt; at_parent = lit≤ tt }), (inl refl, tt))
 

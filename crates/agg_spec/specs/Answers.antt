@@ -19,8 +19,8 @@ ended_line text = text ++ codes "\n"
 -- want of memory has no line
 abbrev pub outcome_line : Outcome → Option (List ℕ)
 outcome_line (ended.Response line) = Some line
-outcome_line (ended.Refused r) = Some (refusal_line r)
-outcome_line (ended.Tripped t) = Some (exception_line t (codes "search") 429)
+outcome_line (ended.Refused r) = Some (refusal_line r [])
+outcome_line (ended.Tripped t) = Some (exception_line t (codes "search") 429 [])
 outcome_line ended.Memory = None
 
 abbrev pub before_none : Option (List ℕ) → List ℕ → List ℕ

@@ -5,12 +5,12 @@ use Rattle.agg_model.specs.declared.settings.Settings.{Settings}
 use Rattle.agg_evaluation.specs.Cost.{cost}
 use Rattle.agg_evaluation.specs.Trace.{gross}
 use Rattle.agg_evaluation.specs.Ceiling.{greatest_of}
-use Rattle.agg_spec.specs.Index.{Index}
+use Rattle.agg_spec.specs.Index.{Index, shard_numbers}
 use Rattle.agg_spec.specs.Outcome.{Request, shard_answers}
 use Rattle.agg_spec.specs.Wave.{answer, running_search, result_cost, response_length}
 
 abbrev pub task_costs : Index → Search → List ℕ
-task_costs index search = map cost (shard_answers index search)
+task_costs index search = map cost (shard_answers index search (shard_numbers index))
 
 abbrev pub gross_sum : Index → Search → ℕ
 gross_sum index search = sum (map (λ all. unsigned_abs (gross search all)) index.shards)

@@ -7,6 +7,7 @@ pub mod BucketCount
 pub mod GapCount
 pub mod RangeCheck
 pub mod Index
+pub mod Failures
 pub mod Json
 pub mod Average
 pub mod AnswerTree

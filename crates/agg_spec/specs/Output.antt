@@ -77,7 +77,7 @@ module _ (settings : Settings) where
 
   -- columns beyond a limit end the run
   abbrev pub EndsLoaded : LoadedScript → Option Tripped → List ℕ → ℕ → Type 0
-  EndsLoaded s (Some t) text status = (status ≡ 6) × (text ≡ ended_line (exception_line t (codes "columns") 6))
+  EndsLoaded s (Some t) text status = (status ≡ 6) × (text ≡ ended_line (exception_line t (codes "columns") 6 []))
   EndsLoaded s None text status = EndsScript s s.refused text status
 
   abbrev pub refusal_of_columns : LoadedScript → Option Tripped
@@ -98,7 +98,7 @@ module _ (settings : Settings) where
   Stops (Ok l) text = StopsLoaded (loaded_script l) (refusal_of_columns (loaded_script l)) text
 
   abbrev pub BeginsLoaded : LoadedScript → Option Tripped → List ℕ → Type 0
-  BeginsLoaded s (Some t) text = text ≡ ended_line (exception_line t (codes "columns") 6)
+  BeginsLoaded s (Some t) text = text ≡ ended_line (exception_line t (codes "columns") 6 [])
   BeginsLoaded s None text = HasBegun s text ⊎ ((status : ℕ) × EndsScript s s.refused text status)
 
   -- what an output may begin with

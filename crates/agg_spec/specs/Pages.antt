@@ -11,7 +11,7 @@ use Rattle.agg_model.specs.declared.aggregation.Search.{Search}
 use Rattle.agg_model.specs.declared.outcome.Refused.{Refused}
 use Rattle.agg_model.specs.declared.outcome.Outcome.{Outcome}
 use Rattle.agg_model.specs.declared.outcome.Outcome.TheVariants as ended
-use Rattle.agg_spec.specs.Index.{Index}
+use Rattle.agg_spec.specs.Index.{Index, shard_numbers}
 use Rattle.agg_spec.specs.Outcome.{Request, answer_of}
 
 abbrev pub is_composite : Kind → Bool
@@ -40,7 +40,7 @@ last_key [] = None
 last_key (n ∷ ns) = option_map (λ b. (out-BucketAnswer b).key) (last_or None (out-NodeAnswer n).buckets)
 
 abbrev pub next_search : Index → Bool → Search → Option Search
-next_search index true search = option_map (search_after search) (last_key (answer_of index search).nodes)
+next_search index true search = option_map (search_after search) (last_key (answer_of index search (shard_numbers index)).nodes)
 next_search index false search = None
 
 abbrev pub request_after : Index → ℕ → Result Search Refused → Option Request

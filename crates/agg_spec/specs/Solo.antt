@@ -79,7 +79,7 @@ request_steps batch index (Ok search) answer = search_steps batch index search a
 abbrev pub solo_steps : Settings → Index → Request → List Step
 solo_steps settings index request =
     charge_of AtInflight (2 * request.bytes)
-    ++ (request_steps settings.batch index request.search (outcome index settings.max_buckets request) ++ return_of AtInflight (2 * request.bytes))
+    ++ (request_steps settings.batch index request.search (outcome index settings.max_buckets request []) ++ return_of AtInflight (2 * request.bytes))
 
 -- the columns' charge is all that is held before
 abbrev pub columns_held : ℕ → Amounts
@@ -97,7 +97,7 @@ outcome_unless (Some t) answer = ended.Tripped t
 
 -- the first refused charge ends the search, and all that it holds is given back
 abbrev pub solo_outcome : Settings → Index → ℕ → Request → Outcome
-solo_outcome settings index held request = outcome_unless (solo_run settings index held request).refused (outcome index settings.max_buckets request)
+solo_outcome settings index held request = outcome_unless (solo_run settings index held request).refused (outcome index settings.max_buckets request [])
 
 -- a refusal counts once, at the breaker that refused
 abbrev pub trips_of : Option Tripped → Amounts

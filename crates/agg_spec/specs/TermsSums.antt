@@ -14,7 +14,7 @@ use Rattle.agg_evaluation.specs.Shard.{shard_node}
 use Rattle.agg_evaluation.specs.Whole.{whole_node}
 use Rattle.agg_model.specs.declared.aggregation.Search.{Search}
 use Rattle.agg_evaluation.specs.Matching.{matched_roots}
-use Rattle.agg_spec.specs.Index.{Index}
+use Rattle.agg_spec.specs.Index.{Index, rows_in}
 use Rattle.agg_spec.specs.Final.{finisher}
 
 abbrev pub answered_count : BucketAnswer → ℕ
@@ -46,6 +46,6 @@ answer_of_rows a shards = (finisher a).finish (whole_of_rows a shards)
 abbrev pub all_key_count : Agg → List (List PlacedRow × List PlacedRow) → ℕ
 all_key_count a shards = sum_by (λ s. total_key_count s.0 (out-Agg a).kind s.1) shards
 
--- the rows that a search hands to an aggregation at its top: of each shard those that match
-abbrev pub matched_by_shard : Index → Search → List (List PlacedRow × List PlacedRow)
-matched_by_shard index search = map (λ all. (all, matched_roots all search.query)) index.shards
+-- the rows that a search hands to an aggregation at its top: of each of these shards those that match
+abbrev pub matched_by_shard : Index → Search → List ℕ → List (List PlacedRow × List PlacedRow)
+matched_by_shard index search shards = map (λ shard. (rows_in index shard, matched_roots (rows_in index shard) search.query)) shards

@@ -11,11 +11,10 @@ use Rattle.agg_model.specs.declared.outcome.Refused.TheVariants as refused
 use Rattle.agg_model.specs.declared.outcome.Outcome.{Outcome}
 use Rattle.agg_model.specs.declared.outcome.Outcome.TheVariants as ended
 use Rattle.agg_evaluation.specs.Rows.{PlacedRow}
-use Rattle.agg_evaluation.specs.Whole.{whole}
 use Rattle.agg_evaluation.specs.Cost.{cost}
 use Rattle.agg_evaluation.specs.Trace.{peak}
-use Rattle.agg_spec.specs.Index.{Index}
-use Rattle.agg_spec.specs.Outcome.{Request, outcome, shard_answers}
+use Rattle.agg_spec.specs.Index.{Index, shard_numbers}
+use Rattle.agg_spec.specs.Outcome.{Request, outcome, whole_of}
 use Rattle.agg_spec.specs.Charges.{refusal_of}
 use Rattle.agg_model.specs.Breakers.{limit_of}
 
@@ -32,7 +31,7 @@ peaks_of shards (Some search) = map (λ all. unsigned_abs (peak search all)) sha
 -- the cost of the whole of the shard answers
 abbrev pub result_cost : Index → Option Search → ℕ
 result_cost index None = 0
-result_cost index (Some search) = cost (whole search (shard_answers index search))
+result_cost index (Some search) = cost (whole_of index search (shard_numbers index))
 
 abbrev pub response_length : Outcome → ℕ
 response_length (ended.Response line) = length line
@@ -40,7 +39,7 @@ response_length _ = 0
 
 module _ (settings : Settings) (index : Index) where
   abbrev pub answer : Request → Outcome
-  answer request = outcome index settings.max_buckets request
+  answer request = outcome index settings.max_buckets request []
 
   abbrev pub running_search : Request → Option Search
   running_search request = running request.search (answer request)

@@ -53,9 +53,9 @@ pub fn returned_terms_are_within_their_error()
         AllByRecursion (IsWithinError (true_group_count agg shards)) (out-NodeAnswer (answer_of_rows agg shards)).buckets }
 {}
 
-/// A search answers each aggregation at its top as the aggregation answers the rows of each shard that match.
+/// A search of some shards answers each aggregation at its top as the aggregation answers the rows of each that match.
 pub fn a_search_answers_the_rows_that_match()
-    ensures { (index : Index) (search : Search) (place : ℕ) (agg : Agg) →
+    ensures { (index : Index) (search : Search) (shards : List ℕ) (place : ℕ) (agg : Agg) →
         slice_get search.aggs place ≡ Some agg →
-        slice_get (answer_of index search).nodes place ≡ Some (answer_of_rows agg (matched_by_shard index search)) }
+        slice_get (answer_of index search shards).nodes place ≡ Some (answer_of_rows agg (matched_by_shard index search shards)) }
 {}
