@@ -4,20 +4,20 @@ mod CountExamples
 mod FilterExamples
 mod HistogramExamples
 mod LargerExamples
-mod LargerScriptExamples
 mod LineExamples
 mod MetricExamples
 mod NestedExamples
 mod OrderExamples
 mod OutcomeExamples
-mod OutputExamples
 mod Samples
-mod ScriptExamples
+pub mod Runs
+mod Refutations
 mod SoloExamples
 mod StatusExamples
+mod WorkersExamples
+pub mod SoloLaws
 mod TermsExamples
 mod WaveExamples
-mod WorkersExamples
 pub mod FallingCounts
 pub mod GroupSums
 pub mod SearchAnswers

@@ -1,6 +1,6 @@
 -- The outcome of a search by the whole reduction: all shards that did not fail, in order, with no breaker and no memory limit
 -- ('Search API').
-use Rattle.std.specs.Prelude.{ℕ, nat_lt, true, false, List, map, length, Option, Some, None, Result, Ok, Err}
+use Rattle.std.specs.Prelude.{ℕ, nat_lt, true, false, List, [], map, length, Option, Some, None, Result, Ok, Err}
 use Rattle.agg_model.specs.declared.answer.Answer.{Answer}
 use Rattle.agg_model.specs.declared.partial.Partial.{Partial}
 use Rattle.agg_model.specs.declared.aggregation.Search.{Search}
@@ -70,3 +70,16 @@ request_outcome index max_buckets (Ok search) failures = search_outcome index ma
 
 abbrev pub outcome : Index → ℕ → Request → List Failure → Outcome
 outcome index max_buckets request failures = request_outcome index max_buckets request.search failures
+
+-- the search that tasks run for: none where the body is refused, or where the search is too wide
+abbrev pub running : Result Search Refused → Outcome → Option Search
+running (Err r) answer = None
+running (Ok search) (ended.Refused refused.TooWide) = None
+running (Ok search) answer = Some search
+
+abbrev pub running_search : Index → ℕ → Request → Option Search
+running_search index max_buckets request = running request.search (outcome index max_buckets request [])
+
+abbrev pub response_length : Outcome → ℕ
+response_length (ended.Response line) = length line
+response_length _ = 0
