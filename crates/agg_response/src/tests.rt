@@ -1,7 +1,7 @@
 use crate::{bulk_line, exception, refusal, script_line, stats_line, usage_line};
 use agg_model::{
-    ActionKind, Applied, BreakerStats, Failure, Item, ItemEnd, ItemRefusal, List, Refused, Text, Totals,
-    Tripped, Usage, Which,
+    ActionKind, Applied, BreakerStats, Failure, Item, ItemEnd, ItemRefusal, List, Refused, Text,
+    Totals, Tripped, Usage, Which,
 };
 use std::alloc::{AllocError, Global};
 use std::test::Fail;
