@@ -11,8 +11,10 @@ mod OrderExamples
 mod OutcomeExamples
 mod Samples
 pub mod Runs
+mod OutputExamples
 mod Refutations
 mod SoloExamples
+mod SettingsLineExamples
 mod StatusExamples
 mod WorkersExamples
 pub mod SoloLaws
