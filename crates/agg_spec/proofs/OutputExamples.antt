@@ -1,5 +1,5 @@
 -- Output of one worker, computed: from the bytes of the input to the bytes that are written.
-use Rattle.std.specs.Prelude.{refl, ℕ, true, List, [], ◌∷◌, length, Some, Ok, codes}
+use Rattle.std.specs.Prelude.{refl, ℕ, List, [], length, Ok, codes}
 use Rattle.std.proofs.Common.{inl, inr}
 use Rattle.agg_spec.proofs.Samples.{default_limits, settings, request_limit}
 use Rattle.agg_spec.proofs.Runs.{Writes, no_change, well, refused_at}

@@ -1,5 +1,5 @@
 -- What no output may say, refuted by computation: each number that is wrong by one, and each answer that stands in the wrong place.
-use Rattle.std.specs.Prelude.{◌≡◌, refl, ℕ, ◌<◌, ◌≤◌, true, List, [], ◌∷◌, Some, Err, codes}
+use Rattle.std.specs.Prelude.{◌≡◌, refl, ℕ, ◌<◌, ◌≤◌, [], ◌∷◌, Err, codes}
 use Rattle.std.proofs.Common.{inl, inr, ap, arith}
 use Rattle.agg_model.specs.declared.breaker.Which.{Which}
 use Rattle.agg_model.specs.declared.breaker.Which.TheVariants as which
@@ -12,7 +12,7 @@ use Rattle.agg_spec.specs.Outcome.{Request}
 use Rattle.agg_spec.specs.Rounds.{Round, plain_answer}
 use Rattle.agg_spec.specs.Rises.{RoseBy, rises}
 use Rattle.agg_spec.specs.Wave.{MayAnswerWave}
-use Rattle.agg_spec.proofs.Samples.{words, row, index, one_shard, default_limits, settings, request_limit, terms}
+use Rattle.agg_spec.proofs.Samples.{words, row, one_shard, default_limits, settings, request_limit, terms}
 use Rattle.agg_spec.proofs.Computing.{computing}
 
 abbrev two_words : Index

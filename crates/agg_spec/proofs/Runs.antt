@@ -1,15 +1,11 @@
 -- Runs of one worker, computed from the bytes of the input, and their lines as bytes.
-use Rattle.std.specs.Prelude.{◌≡◌, refl, ℕ, zero, suc, List, [], ◌∷◌, ◌++◌, map, zip, option_to_list, is_some, Some, None, Result, Ok, Err, Bool, true, false, codes, length}
-use Rattle.std.specs.List.{AllByRecursion}
+use Rattle.std.specs.Prelude.{◌≡◌, refl, ℕ, zero, suc, List, [], ◌∷◌, ◌++◌, map, option_to_list, is_some, Some, None, Result, Ok, Err, Bool, true, false, codes}
 use Rattle.std.proofs.Common.{sym, subst, inl, inr}
 use Rattle.agg_model.specs.Lines.{lines}
-use Rattle.agg_model.specs.declared.mapping.Mapping.{Mapping}
 use Rattle.agg_model.specs.declared.settings.Settings.{Settings}
 use Rattle.agg_model.specs.declared.settings.Usage.{Usage}
-use Rattle.agg_model.specs.declared.outcome.Answered.{Answered}
 use Rattle.agg_reading.specs.Lines.{ScriptRefusal}
 use Rattle.agg_reading.specs.Script.{Loaded, loaded}
-use Rattle.serde_json.specs.Data.{Data}
 use Rattle.agg_spec.specs.Index.{Index}
 use Rattle.agg_spec.specs.Outcome.{Request}
 use Rattle.agg_spec.specs.BulkLine.{bulk_line}
@@ -152,7 +148,7 @@ module _ (change : Change) (words : Settings) (input : List ℕ) (read : ℕ) (t
           printed = printed;
           by_status = inl (
             subst (λ s. IsWholeOf change words s 5 (early_lines r)) (sym is)
-            (inr (inl (refl, subst (λ o. EndsRefused change words script o (early_lines r)) (sym found) ends))),
+                (inr (inl (refl, subst (λ o. EndsRefused change words script o (early_lines r)) (sym found) ends))),
             refl,
           );
         };

@@ -1,14 +1,12 @@
 -- Output of scripts with settings lines, computed from the bytes of the input.
-use Rattle.std.specs.Prelude.{◌≡◌, refl, ℕ, true, List, [], ◌∷◌, length, Some, Ok, Err, Result, if◌then◌else◌, codes}
-use Rattle.std.proofs.Common.{inl, inr}
+use Rattle.std.specs.Prelude.{refl, ℕ, List, length, Ok, Err, if◌then◌else◌, codes}
+use Rattle.std.proofs.Common.{inl}
 use Rattle.agg_spec.proofs.Samples.{default_limits, settings, request_limit}
-use Rattle.agg_spec.proofs.Runs.{Writes, no_change, well, refused_at}
+use Rattle.agg_spec.proofs.Runs.{Writes, well}
 use Rattle.agg_reading.proofs.Computing.{computing as reading_computing}
 use Rattle.agg_spec.proofs.Computing.{computing}
 use Rattle.std.specs.Str.{bytes_eq}
-use Rattle.serde_json.specs.Data.{Data}
 use Rattle.serde_json.specs.Written.{compact_text}
-use Rattle.agg_model.specs.declared.settings.Settings.{Settings}
 use Rattle.agg_spec.specs.Answers.{Change}
 
 -- what two settings lines give; of every other one the name `x` is refused

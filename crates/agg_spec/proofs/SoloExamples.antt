@@ -15,7 +15,6 @@ use Rattle.agg_evaluation.specs.Trace.{trace}
 use Rattle.agg_spec.specs.Outcome.{Request, outcome}
 use Rattle.agg_spec.specs.Reduction.{batches}
 use Rattle.agg_spec.specs.Solo.{idle, solo_answer, solo_run}
-use Rattle.agg_spec.specs.Rounds.{Round}
 use Rattle.agg_spec.specs.Columns.{columns_charge, columns_refusal}
 use Rattle.agg_spec.specs.Statistics.{solo_totals}
 use Rattle.agg_spec.specs.StatisticsLine.{statistics_line}

@@ -1,5 +1,5 @@
 -- A run is taken apart at any step, task or batch; a refused charge has one place.
-use Rattle.std.specs.Prelude.{◌≡◌, refl, ℕ, Bool, false, List, [], ◌∷◌, ◌++◌, fold, flat_map, Option, Some, None}
+use Rattle.std.specs.Prelude.{◌≡◌, refl, ℕ, false, List, [], ◌∷◌, ◌++◌, fold, flat_map, Option, Some, None}
 use Rattle.std.proofs.Common.{◌∙◌, ap, sym}
 use Rattle.agg_model.specs.declared.breaker.Child.{Child}
 use Rattle.agg_model.specs.declared.breaker.Limits.{Limits}

@@ -8,12 +8,11 @@ use Rattle.agg_spec.specs.Generator.{generated}
 use Rattle.agg_reading.specs.Script.{loaded}
 use Rattle.agg_spec.specs.Requests.{LoadedScript, Segment, cut_short}
 use Rattle.agg_spec.specs.Rounds.{Round}
-use Rattle.agg_spec.specs.Written.{Line, bulk, answer, statistics, answer_lines, told}
+use Rattle.agg_spec.specs.Written.{Line, answer, told}
 use Rattle.agg_spec.specs.Statistics.{solo_totals}
-use Rattle.agg_spec.specs.Answers.{Recent, latest}
 use Rattle.agg_spec.specs.Output.{EndsWell, whole_lines}
 use Rattle.agg_spec.proofs.Samples.{default_limits, settings}
-use Rattle.agg_spec.proofs.Runs.{Writes, no_change, script_in, script_or, well, lines_alone, rounds_alone, end_alone, all_lines_alone, started}
+use Rattle.agg_spec.proofs.Runs.{Writes, no_change, script_in, script_or, well, lines_alone, rounds_alone, end_alone, all_lines_alone}
 use Rattle.agg_reading.proofs.Computing.{computing as reading_computing}
 use Rattle.agg_spec.proofs.Computing.{computing}
 
@@ -50,17 +49,24 @@ source_fails = record {
   piece = [];
   output = record {
     printed = refl;
-    by_status = inr (inl (refl, (refl, record {
-      answers = lines_alone no_change words script_before_the_fault segments_before_the_fault;
-      at_end = end_alone no_change words script_before_the_fault segments_before_the_fault;
-      answered = record {
-        rounds = rounds_alone no_change words script_before_the_fault segments_before_the_fault;
-        allowed = (record { form = refl; each = tt }, tt);
-        lines = refl;
-        recent = refl;
-      };
-      lines = refl;
-    }), refl));
+    by_status = inr (inl (
+      refl,
+      (
+        refl,
+        record {
+          answers = lines_alone no_change words script_before_the_fault segments_before_the_fault;
+          at_end = end_alone no_change words script_before_the_fault segments_before_the_fault;
+          answered = record {
+            rounds = rounds_alone no_change words script_before_the_fault segments_before_the_fault;
+            allowed = (record { form = refl; each = tt }, tt);
+            lines = refl;
+            recent = refl;
+          };
+          lines = refl;
+        },
+      ),
+      refl,
+    ));
   };
   bytes = refl;
 }
@@ -91,14 +97,17 @@ sink_fails = record {
   piece = codes "{\"_shards\":{\"failed\"";
   output = record {
     printed = refl;
-    by_status = inr (inr (inl (refl, record {
-      next = answer response;
-      cut = record { later = drop 2 (all_lines_alone no_change words script); status = 0; whole = inl (refl, ends) };
-      printed = refl;
-      left = codes ":0,\"skipped\":0,\"successful\":1,\"total\":1},\"aggregations\":{\"t\":{\"buckets\":[],\"doc_count_error_upper_bound\":0,\"sum_other_doc_count\":0}},\"hits\":{\"hits\":[],\"max_score\":null,\"total\":{\"relation\":\"eq\",\"value\":0}},\"status\":200,\"timed_out\":false,\"took\":0}\n";
-      some_left = λ e. (let no : ⊥ = cc in no);
-      front = refl;
-    })));
+    by_status = inr (inr (inl (
+      refl,
+      record {
+        next = answer response;
+        cut = record { later = drop 2 (all_lines_alone no_change words script); status = 0; whole = inl (refl, ends) };
+        printed = refl;
+        left = codes ":0,\"skipped\":0,\"successful\":1,\"total\":1},\"aggregations\":{\"t\":{\"buckets\":[],\"doc_count_error_upper_bound\":0,\"sum_other_doc_count\":0}},\"hits\":{\"hits\":[],\"max_score\":null,\"total\":{\"relation\":\"eq\",\"value\":0}},\"status\":200,\"timed_out\":false,\"took\":0}\n";
+        some_left = λ e. (let no : ⊥ = cc in no);
+        front = refl;
+      },
+    )));
   };
   bytes = refl;
 }
@@ -115,27 +124,34 @@ memory_runs_out =
       piece = [];
       output = record {
         printed = refl;
-        by_status = inr (inr (inr (refl, record {
-          next = answer wanting;
-          cut = record {
-            later = statistics_behind;
-            status = 0;
-            whole = inl (refl, record {
-              answers = take 2 (all_lines_alone no_change words script) ++ answer wanting ∷ [];
-              at_end = record { settings = words; rounds = first ++ second };
-              totals = solo_totals words script.index script.columns (first ++ second);
-              whole = refl;
-              answered = record {
-                rounds = (first ++ second) ∷ [];
-                allowed = (record { form = refl; each = ((refl, inl refl), ((refl, inr refl), tt)) }, tt);
-                lines = refl;
-                recent = refl;
-              };
-              total = refl;
-              lines = refl;
-            });
-          };
-        }, refl)));
+        by_status = inr (inr (inr (
+          refl,
+          record {
+            next = answer wanting;
+            cut = record {
+              later = statistics_behind;
+              status = 0;
+              whole = inl (
+                refl,
+                record {
+                  answers = take 2 (all_lines_alone no_change words script) ++ answer wanting ∷ [];
+                  at_end = record { settings = words; rounds = first ++ second };
+                  totals = solo_totals words script.index script.columns (first ++ second);
+                  whole = refl;
+                  answered = record {
+                    rounds = (first ++ second) ∷ [];
+                    allowed = (record { form = refl; each = ((refl, inl refl), ((refl, inr refl), tt)) }, tt);
+                    lines = refl;
+                    recent = refl;
+                  };
+                  total = refl;
+                  lines = refl;
+                },
+              );
+            };
+          },
+          refl,
+        )));
       };
       bytes = refl;
     }

@@ -1,21 +1,18 @@
 -- Waves, computed: their ceilings, what they are granted, and answers that are allowed.
-use Rattle.std.specs.Prelude.{◌≡◌, refl, ℕ, ◌-◌, true, List, [], ◌∷◌, Err, codes}
+use Rattle.std.specs.Prelude.{◌≡◌, refl, ℕ, true, [], ◌∷◌, codes}
 use Rattle.agg_spec.specs.Index.{Index}
 use Rattle.agg_spec.proofs.Samples.{words, row, index, one_shard}
 use Rattle.std.specs.Prelude.{◌+◌, ◌*◌, ◌≤◌, zero, suc, All}
 use Rattle.std.proofs.Common.{inl, inr, lit<, lit≤, arith}
 use Rattle.agg_model.specs.declared.breaker.Which.TheVariants as which
-use Rattle.agg_model.specs.declared.breaker.Tripped.{Tripped}
 use Rattle.agg_model.specs.declared.breaker.Which.{Which}
 use Rattle.agg_model.specs.declared.outcome.Answered.{Answered}
 use Rattle.agg_model.specs.declared.outcome.Outcome.TheVariants as ended
-use Rattle.agg_model.specs.declared.outcome.Refused.TheVariants as refused
-use Rattle.agg_spec.specs.Outcome.{Request, outcome}
 use Rattle.agg_spec.specs.Columns.{columns_charge}
 use Rattle.agg_spec.specs.Wave.{wave_ceiling, MayAnswerWave}
-use Rattle.agg_spec.specs.Rounds.{Round, plain_answer}
-use Rattle.agg_spec.specs.Rises.{Rises, rises}
-use Rattle.agg_spec.proofs.Samples.{default_limits, settings, request_limit, request, search_of, leaf, by_count, terms}
+use Rattle.agg_spec.specs.Rounds.{plain_answer}
+use Rattle.agg_spec.specs.Rises.{rises}
+use Rattle.agg_spec.proofs.Samples.{default_limits, settings, request_limit, terms}
 use Rattle.agg_spec.proofs.Computing.{computing}
 
 abbrev no_documents : Index

@@ -1,5 +1,5 @@
 -- Output of several workers that run two searches side by side, computed.
-use Rattle.std.specs.Prelude.{refl, ℕ, false, List, [], ◌∷◌, ◌++◌, length, None, Ok, codes, All, ◌≤◌, zero, suc}
+use Rattle.std.specs.Prelude.{refl, ℕ, false, List, [], ◌∷◌, ◌++◌, length, Ok, codes, All, ◌≤◌, zero, suc}
 use Rattle.std.proofs.Common.{inl, lit≤, arith}
 use Rattle.agg_model.specs.declared.settings.Settings.{Settings}
 use Rattle.agg_model.specs.declared.outcome.Answered.{Answered}
@@ -53,40 +53,55 @@ two_workers =
       piece = [];
       output = record {
         printed = refl;
-        by_status = inl (inl (refl, record {
-          answers = answers;
-          at_end = record { settings = words; rounds = wave ∷ [] };
-          totals = totals_after words script.index 19 granted no_amounts;
-          whole = refl;
-          answered = record {
-            rounds = (wave ∷ []) ∷ [];
-            allowed = (record {
-              form = refl;
-              each = ((refl, (
-                (tt, (refl, record { at_request = all_within 4866 644245094 (lit≤ tt); at_parent = all_within 4866 751619276 (lit≤ tt) }, record { at_request = lit≤ tt; at_parent = lit≤ tt })),
-                ((tt, (refl, record { at_request = all_within 4866 644245094 (lit≤ tt); at_parent = all_within 4866 751619276 (lit≤ tt) }, record { at_request = lit≤ tt; at_parent = lit≤ tt })), tt),
-              )), tt);
-            }, tt);
-            lines = refl;
-            recent = refl;
-          };
-          total = record {
-            granted = granted;
-            trips = no_amounts;
-            rose = record {
-              fielddata = (refl, refl);
-              inflight = (refl, refl);
-              searches = lit≤ tt;
-              exactly = λ e. refl;
-              parent = refl;
-              request_trips = lit≤ tt;
-              parent_trips = lit≤ tt;
-              no_trips = λ e. refl;
-            };
-            totals = refl;
-          };
-          lines = refl;
-        }), refl);
+        by_status = inl (
+          inl (
+            refl,
+            record {
+              answers = answers;
+              at_end = record { settings = words; rounds = wave ∷ [] };
+              totals = totals_after words script.index 19 granted no_amounts;
+              whole = refl;
+              answered = record {
+                rounds = (wave ∷ []) ∷ [];
+                allowed = (
+                  record {
+                    form = refl;
+                    each = (
+                      (
+                        refl,
+                        (
+                          (tt, (refl, record { at_request = all_within 4866 644245094 (lit≤ tt); at_parent = all_within 4866 751619276 (lit≤ tt) }, record { at_request = lit≤ tt; at_parent = lit≤ tt })),
+                          ((tt, (refl, record { at_request = all_within 4866 644245094 (lit≤ tt); at_parent = all_within 4866 751619276 (lit≤ tt) }, record { at_request = lit≤ tt; at_parent = lit≤ tt })), tt),
+                        ),
+                      ),
+                      tt,
+                    );
+                  },
+                  tt,
+                );
+                lines = refl;
+                recent = refl;
+              };
+              total = record {
+                granted = granted;
+                trips = no_amounts;
+                rose = record {
+                  fielddata = (refl, refl);
+                  inflight = (refl, refl);
+                  searches = lit≤ tt;
+                  exactly = λ e. refl;
+                  parent = refl;
+                  request_trips = lit≤ tt;
+                  parent_trips = lit≤ tt;
+                  no_trips = λ e. refl;
+                };
+                totals = refl;
+              };
+              lines = refl;
+            },
+          ),
+          refl,
+        );
       };
       bytes = refl;
     }

@@ -1,19 +1,16 @@
 -- Where memory and limits are enough, a run answers each search as the whole reduction does ('Circuit breaker settings').
-use Rattle.std.specs.Prelude.{◌≡◌, ◌≤◌, ⊤, ℕ, true, false, List, [], ◌∷◌, map, None, Ok, Result}
+use Rattle.std.specs.Prelude.{◌≡◌, ◌≤◌, ℕ, true, false, List, [], map, None}
 use Rattle.std.specs.List.{AllByRecursion}
 use Rattle.agg_model.specs.declared.settings.Settings.{Settings}
 use Rattle.agg_model.specs.Lines.{lines}
 use Rattle.agg_reading.specs.Script.{loaded}
 use Rattle.agg_spec.specs.Index.{Index}
 use Rattle.agg_spec.specs.Charges.{no_amounts}
-use Rattle.agg_spec.specs.Outcome.{Request}
-use Rattle.agg_spec.specs.Requests.{LoadedScript}
 use Rattle.agg_spec.specs.Rounds.{Round, plain_answer, body_bytes}
 use Rattle.agg_spec.specs.Solo.{idle, solo_run}
 use Rattle.agg_spec.specs.Wave.{wave_ceiling}
 use Rattle.agg_spec.specs.Statistics.{is_solo}
 use Rattle.agg_spec.specs.Answers.{Change, AreAnswered}
-use Rattle.agg_spec.specs.Written.{Line, answer}
 use Rattle.agg_spec.specs.Output.{Script, answered, script_from, text_read}
 
 module _ (index : Index) (columns : ℕ) where

@@ -1,5 +1,5 @@
 -- The output of a run: the lines that stand whole in it, and the piece of a line behind them, by the status with which it ends.
-use Rattle.std.specs.Prelude.{◌≡◌, ◌≢◌, ◌⊎◌, IsTrue, ℕ, ◌++◌, nat_lt, true, false, List, [], ◌∷◌, filter, length, take, Option, Some, None, is_some, Result, Ok, Err, codes}
+use Rattle.std.specs.Prelude.{◌≡◌, ◌≢◌, ◌⊎◌, IsTrue, ℕ, ◌++◌, nat_lt, List, [], ◌∷◌, filter, length, take, Option, Some, None, is_some, Result, Ok, Err, codes}
 use Rattle.std.specs.Option.{option_map_or}
 use Rattle.agg_model.specs.declared.breaker.Tripped.{Tripped}
 use Rattle.agg_model.specs.declared.breaker.Totals.{Totals}

@@ -1,5 +1,5 @@
 -- A round: searches that are answered together, side by side or as the pages of a scan one by one ('Multi search API').
-use Rattle.std.specs.Prelude.{ℕ, ◌&&◌, ◌*◌, Bool, true, false, List, [], ◌∷◌, map, sum_by, zip}
+use Rattle.std.specs.Prelude.{ℕ, ◌*◌, Bool, true, false, List, [], sum_by}
 use Rattle.std.specs.List.{list_all}
 use Rattle.agg_model.specs.declared.settings.Settings.{Settings}
 use Rattle.agg_model.specs.declared.outcome.Failure.{Failure}

@@ -1,6 +1,6 @@
 -- One worker that runs one search at a time, with all charges in their order ('Circuit breaker settings', request and inflight
 -- requests).
-use Rattle.std.specs.Prelude.{ℕ, ◌*◌, List, [], ◌∷◌, ◌++◌, fold, length, Option, Some, None}
+use Rattle.std.specs.Prelude.{ℕ, ◌*◌, List, [], fold, length, Option, Some, None}
 use Rattle.agg_model.specs.declared.breaker.Child.TheVariants.{Request as AtRequest, Inflight as AtInflight}
 use Rattle.agg_model.specs.declared.breaker.Tripped.{Tripped}
 use Rattle.agg_model.specs.declared.aggregation.Search.{Search}
