@@ -13,7 +13,7 @@ use Rattle.agg_spec.specs.Final.{final}
 use Rattle.agg_spec.specs.Response.{response_line}
 use Rattle.agg_spec.specs.BulkLine.{bulk_line}
 use Rattle.document_terms.specs.SmallSearch.{terms_search}
-use Rattle.agg_program.specs.SmallForm.{index_name, body_front, body_back}
+use Rattle.agg_program.specs.SmallForm.{index_name, index_mapping, body_front, body_back}
 
 -- the search of a body of this form: all documents, and `terms` of the field `t` under this name
 abbrev pub search_named : List ℕ → Search
@@ -23,7 +23,7 @@ search_named name = terms_search name (length (body_front ++ name ++ body_back))
 abbrev pub search_line : List Document → List ℕ → List ℕ
 search_line documents name =
     let search = search_named name in
-    response_line search 1 (final search (whole search (shard_answer search (shard_rows (map (λ d. (d.id, d.root)) documents)) ∷ [])))
+    response_line search index_mapping (final search (whole search (shard_answer search (shard_rows (map (λ d. (d.id, d.root)) documents)) ∷ []))) 1 []
 
 abbrev pub item_of : Document → Item
 item_of d = record { kind = Index; id = d.id; end = Applied Created }

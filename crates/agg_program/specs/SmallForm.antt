@@ -1,10 +1,14 @@
 -- The scripts that are answered so far: one index with one shard, documents with one keyword, and searches with one
 -- aggregation (Elasticsearch Reference 8, 'Bulk API', 'Multi search API', 'Terms aggregation'). All else is not built yet.
-use Rattle.std.specs.Prelude.{ℕ, ◌+◌, ◌-◌, List, [], ◌∷◌, ◌++◌, length, take, drop, Option, Some, None, option_and_then, Ok, Err, Bool, not, ◌&&◌, nat_le, if◌then◌else◌, codes, ⊤}
+use Rattle.std.specs.Prelude.{ℕ, ◌+◌, ◌-◌, List, [], ◌∷◌, ◌++◌, length, take, drop, Option, Some, None, option_and_then, Ok, Err, Bool, false, not, ◌&&◌, nat_le, if◌then◌else◌, codes, ⊤}
 use Rattle.std.specs.List.{list_all}
 use Rattle.std.specs.Str.{bytes_eq}
 use Rattle.agg_model.specs.declared.limits.TheConstants.{MAX_NAME}
 use Rattle.agg_model.specs.declared.script_refusal.TheConstants.{NOT_BUILT}
+use Rattle.agg_model.specs.declared.mapping.Field.{Field}
+use Rattle.agg_model.specs.declared.mapping.FieldKind.{FieldKind}
+use Rattle.agg_model.specs.declared.mapping.FieldKind.TheVariants as field
+use Rattle.agg_model.specs.declared.mapping.Mapping.{Mapping}
 use Rattle.agg_model.specs.Lines.{Line}
 use Rattle.agg_reading.specs.Lines.{Script, ScriptRefusal, Place, line_fault}
 
@@ -28,6 +32,17 @@ index_name = codes "i"
 
 abbrev pub index_text : List ℕ
 index_text = codes "{\"index\":\"i\",\"mappings\":{\"properties\":{\"b\":{\"type\":\"boolean\"},\"n\":{\"type\":\"long\"},\"t\":{\"type\":\"keyword\"}}},\"settings\":{\"number_of_shards\":1}}"
+
+abbrev pub root_field : List ℕ → FieldKind → Field
+root_field path kind = record { path = path; kind = kind; ignore_above = None; context = 0 }
+
+abbrev pub index_mapping : Mapping
+index_mapping = record {
+  fields = root_field (codes "b") field.Boolean ∷ root_field (codes "n") field.Long ∷ root_field (codes "t") field.Keyword ∷ [];
+  nested = [];
+  objects = [];
+  strict = false;
+}
 
 abbrev pub action_text : List ℕ
 action_text = codes "{\"index\":{}}"

@@ -2,11 +2,15 @@
 ghost use Rattle.std.specs.Prelude.{◌≡◌, ◌≤◌, [], length, map, IfOk};
 ghost use Rattle.agg_spec.specs.EndLines as end;
 ghost use Rattle.document_terms.specs.SmallSearch.{HaveKeywords};
+ghost use Rattle.agg_program.specs.SmallForm.{root_field, index_mapping};
 ghost use Rattle.agg_program.specs.Answers.{search_named, search_line, item_of, loaded_line};
 
 use agg_model::limits::{MAX_ACTIONS, MAX_NAME};
 use agg_model::script_refusal::NOT_BUILT;
-use agg_model::{ActionKind, Applied, Copying, Document, Item, ItemEnd, List, Search, Text, Usage};
+use agg_model::{
+    ActionKind, Applied, Copying, Document, Field, FieldKind, Item, ItemEnd, List, Mapping, Search,
+    Text, Usage,
+};
 use agg_response::{bulk_line, response, script_line, usage_line};
 use document_answer::answer_of;
 use document_terms::terms_search;
@@ -25,6 +29,34 @@ fn search_named(alloc: Global, name: &Text) -> Result<Search, AllocError>
     terms_search(alloc, name.as_str(), bytes as u64)
 }
 
+/// A field at the root, whose values may be of any length.
+fn root_field(alloc: Global, path: &str, kind: FieldKind) -> Result<Field, AllocError>
+    ensures { IfOk result (λ field. field ≡ root_field path.now kind) }
+{
+    Ok(Field {
+        path: Text::of(alloc, path)?,
+        kind,
+        ignore_above: None,
+        context: 0,
+    })
+}
+
+/// The mapping of the index.
+fn index_mapping(alloc: Global) -> Result<Mapping, AllocError>
+    ensures { IfOk result (λ mapping. mapping ≡ index_mapping) }
+{
+    let mut fields = List::new(alloc);
+    fields.push(root_field(alloc, "b", FieldKind::Boolean)?)?;
+    fields.push(root_field(alloc, "n", FieldKind::Long)?)?;
+    fields.push(root_field(alloc, "t", FieldKind::Keyword)?)?;
+    Ok(Mapping {
+        fields,
+        nested: List::new(alloc),
+        objects: List::new(alloc),
+        strict: false,
+    })
+}
+
 /// The line of a search whose aggregation has this name.
 pub(crate) fn search_line(
     alloc: Global,
@@ -38,7 +70,8 @@ pub(crate) fn search_line(
 {
     let search = search_named(alloc, name)?;
     let answer = answer_of(alloc, &search, documents)?;
-    response(alloc, &search, &answer, 1)
+    let mapping = index_mapping(alloc)?;
+    response(alloc, &search, &mapping, &answer, 1, &List::new(alloc))
 }
 
 /// The item of a document that was put into the store.

@@ -1,17 +1,36 @@
 -- Members put one after another while a loop goes through a list: what is left of the list answers for all of it.
-use Rattle.std.specs.Prelude.{◌≡◌, refl, ℕ, ◌+◌, List, [], ◌∷◌, ◌++◌, map, flat_map, codes}
+use Rattle.std.specs.Prelude.{◌≡◌, refl, ℕ, ◌+◌, ◌-◌, List, [], ◌∷◌, ◌++◌, map, flat_map, length, codes}
 use Rattle.std.proofs.Common.{◌∙◌, ap, sym, drop, append_assoc}
-use Rattle.serde_json.specs.Data.{Data, Members}
+use Rattle.serde_json.specs.Data.{Data, Members, object, no_members}
 use Rattle.serde_json.specs.Data.{put as with_member}
 use Rattle.agg_model.specs.declared.answer.BucketAnswer.{BucketAnswer, out-BucketAnswer}
 use Rattle.agg_model.specs.declared.answer.NodeAnswer.{NodeAnswer, out-NodeAnswer}
 use Rattle.agg_model.specs.declared.aggregation.Agg.{Agg}
 use Rattle.agg_spec.specs.AnswerTree.{Printer, printer, named_answers, bucket_members}
+use Rattle.agg_model.specs.declared.outcome.Failure.{Failure}
+use Rattle.agg_spec.specs.ErrorLines.{failures_member}
+use Rattle.agg_spec.specs.Response.{shards_member}
 use Rattle.agg_spec.specs.Json.{Member, with_members, count}
 
 pub with_members-append : (xs ys : List Member) (ms : Members) → with_members (xs ++ ys) ms ≡ with_members ys (with_members xs ms)
 with_members-append [] ys ms = refl
 with_members-append (x ∷ xs) ys ms = with_members-append xs ys (with_member x.0 x.1 ms)
+
+-- how many shards failed, which, and how many answered
+pub shards_told : (failures : List Failure) (shards total failed : ℕ) (counted told skipped answered all : Members) (shown : Data)
+    → total ≡ shards → failed ≡ length failures → counted ≡ with_member (codes "failed") (count failed) no_members
+    → told ≡ with_members (failures_member failures) counted → skipped ≡ with_member (codes "skipped") (count 0) told
+    → answered ≡ with_member (codes "successful") (count (total - failed)) skipped → all ≡ with_member (codes "total") (count total) answered
+    → shown ≡ object all → shown ≡ (shards_member shards failures).1
+shards_told failures shards total failed counted told skipped answered all shown s f c t k a l o =
+    let behind : ℕ → ℕ → List Member = λ n m. (codes "skipped", count 0) ∷ (codes "successful", count (m - n)) ∷ (codes "total", count m) ∷ [] in
+    let made : all ≡ with_members (behind failed total) (with_members (failures_member failures) (with_member (codes "failed") (count failed) no_members)) =
+    l ∙ ap (with_member (codes "total") (count total)) (a ∙ ap (with_member (codes "successful") (count (total - failed)))
+    (k ∙ ap (with_member (codes "skipped") (count 0)) (t ∙ ap (with_members (failures_member failures)) c))) in
+    o ∙ ap object (made
+    ∙ ap (λ n. with_members (behind n total) (with_members (failures_member failures) (with_member (codes "failed") (count n) no_members))) f
+    ∙ ap (λ m. with_members (behind (length failures) m) (with_members (failures_member failures) (with_member (codes "failed") (count (length failures)) no_members))) s
+    ∙ sym (with_members-append (failures_member failures) (behind (length failures) shards) (with_member (codes "failed") (count (length failures)) no_members)))
 
 -- a bucket's own members and then the answers below it are all its members
 pub bucket_made : (children : List Printer) (own : List Member) (b : BucketAnswer) (ms : Members)

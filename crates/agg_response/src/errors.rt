@@ -1,18 +1,18 @@
 //! The lines of refused searches, and the last line of a run that ends early.
-ghost use Rattle.std.specs.Prelude.{◌≡◌, IfOk, codes, [], ◌∷◌, string_bytes};
+ghost use Rattle.std.specs.Prelude.{◌≡◌, IfOk, codes, [], ◌∷◌, map, string_bytes};
 ghost use Rattle.serde_json.specs.Data.{object, no_members};
-ghost use Rattle.serde_json.specs.View.{members_view};
+ghost use Rattle.serde_json.specs.View.{view, members_view};
 ghost use Rattle.serde_json.specs.Written.{compact_text};
-ghost use Rattle.agg_spec.specs.Json.{object_of, count, with_members};
+ghost use Rattle.agg_spec.specs.Json.{array_of, object_of, count, with_members};
 ghost use Rattle.agg_spec.specs.EndLines as definition;
-ghost use Rattle.agg_spec.specs.ErrorLines.{breaker_name as name_of_breaker, durability as durability_of, breaker_reason, exception_line, refusal_members as members_of_refusal, refusal_line};
+ghost use Rattle.agg_spec.specs.ErrorLines.{breaker_name as name_of_breaker, durability as durability_of, breaker_reason, breaker_members as members_of_breaker, failure_value, failures_member, exception_line, refusal_members as members_of_refusal, refusal_line};
 
-use crate::json::Object;
+use crate::json::{Array, Json, Object};
 use agg_model::script_refusal::{
     BAD_HEADER, BAD_INDEX_LINE, INPUT_TOO_LONG, LINE_TOO_LONG, MALFORMED_ACTION, MISSING_BODY,
     MISSING_SECTION, MISSING_SOURCE, NOT_BUILT, TOO_MANY_DOCUMENTS, UPDATE_NOT_SUPPORTED,
 };
-use agg_model::{Refused, Text, Tripped, Usage, Which};
+use agg_model::{Failure, List, Refused, Text, Tripped, Usage, Which};
 use std::alloc::{AllocError, Global};
 
 /// The line of an error with these members.
@@ -59,23 +59,72 @@ fn reason(alloc: Global, tripped: &Tripped, label: &str) -> Result<String, Alloc
     )
 }
 
+/// The members of a charge that a breaker refused; `label` says what the bytes were for.
+fn breaker_members(alloc: Global, tripped: &Tripped, label: &str) -> Result<Object, AllocError>
+    ensures { IfOk result (λ o. members_view o.members.entries ≡ with_members (members_of_breaker tripped.now label.now) no_members) }
+{
+    Object::new(alloc)
+        .with_count(alloc, "bytes_limit", tripped.limit)?
+        .with_count(alloc, "bytes_wanted", tripped.wanted)?
+        .with_text(alloc, "durability", durability(tripped.which))?
+        .with_text(alloc, "reason", reason(alloc, tripped, label)?.as_str())?
+        .with_text(alloc, "type", "circuit_breaking_exception")
+}
+
+/// A shard that failed, with the refused charge of its task.
+fn failure_value(alloc: Global, failure: &Failure) -> Result<Json, AllocError>
+    ensures { IfOk result (λ j. view j.value ≡ failure_value failure.now) }
+{
+    let reason = breaker_members(alloc, &failure.tripped, "search")?;
+    Ok(
+        Object::new(alloc)
+            .with(alloc, "reason", reason.into_json())?
+            .with_count(alloc, "shard", u64::from(failure.shard))?
+            .into_json(),
+    )
+}
+
+/// All shards that failed.
+fn failure_values(alloc: Global, failures: &List<Failure>) -> Result<Json, AllocError>
+    ensures { IfOk result (λ j. view j.value ≡ array_of (map failure_value failures.now)) }
+{
+    let mut values = Array::new(alloc);
+    for failure in failures.as_slice() {
+        values = values.with(failure_value(alloc, failure)?)?;
+    }
+    Ok(values.into_json())
+}
+
+/// The object with the shards that failed, where there are some.
+pub(crate) fn with_failures(
+    alloc: Global,
+    object: Object,
+    failures: &List<Failure>,
+) -> Result<Object, AllocError>
+    ensures { IfOk result (λ o. members_view o.members.entries
+        ≡ with_members (failures_member failures.now) (members_view object.members.entries)) }
+{
+    if failures.is_empty() {
+        return Ok(object);
+    }
+    object.with(alloc, "failures", failure_values(alloc, failures)?)
+}
+
 /// The line of a charge that a breaker refused. `label` says what the bytes were for, `search` or `columns`; `status` is
-/// 429 for a search and the program's exit status for columns.
+/// 429 for a search and the program's exit status for columns. `failures` are the shards that had failed before, which a
+/// search with partial results leaves out.
 pub fn exception(
     alloc: Global,
     tripped: &Tripped,
     label: &str,
     status: u16,
+    failures: &List<Failure>,
 ) -> Result<Text, AllocError>
-    ensures { IfOk result (λ t. t ≡ exception_line tripped.now label.now status) }
+    ensures { IfOk result (λ t. t ≡ exception_line tripped.now label.now status failures.now) }
 {
-    let members = Object::new(alloc)
-        .with_count(alloc, "bytes_limit", tripped.limit)?
-        .with_count(alloc, "bytes_wanted", tripped.wanted)?
-        .with_text(alloc, "durability", durability(tripped.which))?
-        .with_text(alloc, "reason", reason(alloc, tripped, label)?.as_str())?
-        .with_text(alloc, "type", "circuit_breaking_exception")?;
-    error_line(alloc, members, status)
+    let members = breaker_members(alloc, tripped, label)?;
+    let all = with_failures(alloc, members, failures)?;
+    error_line(alloc, all, status)
 }
 
 /// The members of a refusal.
@@ -107,12 +156,17 @@ fn refusal_members(alloc: Global, refused: &Refused) -> Result<Object, AllocErro
     }
 }
 
-/// The line of a refused search.
-pub fn refusal(alloc: Global, refused: &Refused) -> Result<Text, AllocError>
-    ensures { IfOk result (λ t. t ≡ refusal_line refused.now) }
+/// The line of a refused search, with the shards that it left out.
+pub fn refusal(
+    alloc: Global,
+    refused: &Refused,
+    failures: &List<Failure>,
+) -> Result<Text, AllocError>
+    ensures { IfOk result (λ t. t ≡ refusal_line refused.now failures.now) }
 {
     let members = refusal_members(alloc, refused)?;
-    error_line(alloc, members, 400)
+    let all = with_failures(alloc, members, failures)?;
+    error_line(alloc, all, 400)
 }
 
 /// The last line of a run whose words are outside the grammar.

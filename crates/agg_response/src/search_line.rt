@@ -1,5 +1,5 @@
 //! The line that answers a search.
-ghost use Rattle.std.specs.Prelude.{◌≡◌, ◌∷◌, [], IfOk, None, codes, false};
+ghost use Rattle.std.specs.Prelude.{◌≡◌, ◌≤◌, ◌∷◌, [], IfOk, None, codes, false, length};
 ghost use Rattle.serde_json.specs.Data.{object, boolean};
 ghost use Rattle.serde_json.specs.View.{view, members_view};
 ghost use Rattle.serde_json.specs.Written.{compact_text};
@@ -8,22 +8,25 @@ ghost use Rattle.agg_spec.specs.RangeCheck.{out_of_range};
 ghost use Rattle.agg_spec.specs.Response as definition;
 
 use crate::answers::with_answers;
+use crate::errors::with_failures;
 use crate::json::{Array, Json, Object, flag_value, text_value};
 use crate::numbers::null_value;
-use agg_model::{Answer, Search, Text};
+use agg_model::{Answer, Failure, List, Mapping, Search, Text};
 use std::alloc::{AllocError, Global};
 
-/// The shards that answered, all of them.
-fn shards_value(alloc: Global, shards: u32) -> Result<Json, AllocError>
-    ensures { IfOk result (λ j. view j.value ≡ (definition.shards_member shards).1) }
+/// How many shards there are, and how many answered; the others failed.
+fn shards_value(alloc: Global, shards: u32, failures: &List<Failure>) -> Result<Json, AllocError>
+    requires { length failures.now ≤ shards }
+    ensures { IfOk result (λ j. view j.value ≡ (definition.shards_member shards failures.now).1) }
 {
-    let shards = u64::from(shards);
+    let total = u64::from(shards);
+    let failed = failures.len() as u64;
+    let counted = Object::new(alloc).with_count(alloc, "failed", failed)?;
     Ok(
-        Object::new(alloc)
-            .with_count(alloc, "failed", 0)?
+        with_failures(alloc, counted, failures)?
             .with_count(alloc, "skipped", 0)?
-            .with_count(alloc, "successful", shards)?
-            .with_count(alloc, "total", shards)?
+            .with_count(alloc, "successful", total - failed)?
+            .with_count(alloc, "total", total)?
             .into_json(),
     )
 }
@@ -77,18 +80,22 @@ fn finished(alloc: Global, members: Object, hits: Json) -> Result<Text, AllocErr
         .text(alloc)
 }
 
-/// The line of the final answer to a search over so many shards. Only numbers of 64 bits can be printed, so an answer
-/// with a wider sum or key is refused before.
+/// The line of the final answer to a search of an index with this mapping and so many shards, of which some failed. Only
+/// numbers of 64 bits can be printed, so an answer with a wider sum or key is refused before.
 pub fn response(
     alloc: Global,
     search: &Search,
+    _mapping: &Mapping,
     answer: &Answer,
     shards: u32,
+    failures: &List<Failure>,
 ) -> Result<Text, AllocError>
-    requires { out_of_range search.now answer.now ≡ None }
-    ensures { IfOk result (λ t. t ≡ definition.response_line search.now shards answer.now) }
+    requires in_range { out_of_range search.now answer.now ≡ None }
+    requires few { length failures.now ≤ shards }
+    ensures { IfOk result (λ t. t ≡ definition.response_line search.now _mapping.now answer.now shards failures.now) }
 {
-    let opened = Object::new(alloc).with(alloc, "_shards", shards_value(alloc, shards)?)?;
+    let told = shards_value(alloc, shards, failures)?;
+    let opened = Object::new(alloc).with(alloc, "_shards", told)?;
     let answered = with_aggregations(alloc, opened, search, answer)?;
     let hits = hits_value(alloc, answer.hits)?;
     finished(alloc, answered, hits)

@@ -1,7 +1,7 @@
 use crate::{bulk_line, exception, refusal, script_line, stats_line, usage_line};
 use agg_model::{
-    ActionKind, Applied, BreakerStats, Item, ItemEnd, ItemRefusal, List, Refused, Text, Totals,
-    Tripped, Usage, Which,
+    ActionKind, Applied, BreakerStats, Failure, Item, ItemEnd, ItemRefusal, List, Refused, Text,
+    Totals, Tripped, Usage, Which,
 };
 use std::alloc::{AllocError, Global};
 use std::test::Fail;
@@ -56,7 +56,7 @@ fn an_exception_names_the_breaker_and_the_bytes(rt: HostRuntime) -> Result<(), F
         wanted: 4866,
         limit: 4865,
     };
-    let line = exception(rt.alloc(), &tripped, "search", 429)?;
+    let line = exception(rt.alloc(), &tripped, "search", 429, &List::new(rt.alloc()))?;
     let wanted =
         "{\"error\":{\"bytes_limit\":4865,\"bytes_wanted\":4866,\"durability\":\"TRANSIENT\",\"reason\":\"[request] Data too large, data for [search] would be [4866b], which is larger than the limit of [4865b]\",\"type\":\"circuit_breaking_exception\"},\"status\":429}";
     assert!(rt; line.as_str() == wanted);
@@ -64,14 +64,35 @@ fn an_exception_names_the_breaker_and_the_bytes(rt: HostRuntime) -> Result<(), F
 }
 
 #[test]
+fn lines_name_the_shards_that_failed(rt: HostRuntime) -> Result<(), Fail> {
+    let tripped = Tripped {
+        which: Which::Request,
+        wanted: 4608,
+        limit: 4000,
+    };
+    let mut failures = List::new(rt.alloc());
+    failures.push(Failure { shard: 1, tripped })?;
+    let line = refusal(
+        rt.alloc(),
+        &Refused::TooManyBuckets { count: 3, max: 2 },
+        &failures,
+    )?;
+    let wanted =
+        "{\"error\":{\"count\":3,\"failures\":[{\"reason\":{\"bytes_limit\":4000,\"bytes_wanted\":4608,\"durability\":\"TRANSIENT\",\"reason\":\"[request] Data too large, data for [search] would be [4608b], which is larger than the limit of [4000b]\",\"type\":\"circuit_breaking_exception\"},\"shard\":1}],\"max_buckets\":2,\"reason\":\"too many buckets\",\"type\":\"too_many_buckets_exception\"},\"status\":400}";
+    assert!(rt; line.as_str() == wanted);
+    Ok(())
+}
+
+#[test]
 fn each_refusal_of_a_search_has_its_line(rt: HostRuntime) -> Result<(), Fail> {
-    let line = refusal(rt.alloc(), &Refused::NotJson)?;
+    let none = List::new(rt.alloc());
+    let line = refusal(rt.alloc(), &Refused::NotJson, &none)?;
     assert!(rt;
         line.as_str()
             == "{\"error\":{\"reason\":\"the body is not JSON\",\"type\":\"parsing_exception\"},\"status\":400}"
     );
     let path = Text::of(rt.alloc(), "/aggs/t/terms/field")?;
-    let line = refusal(rt.alloc(), &Refused::Bad { code: 108, path })?;
+    let line = refusal(rt.alloc(), &Refused::Bad { code: 108, path }, &none)?;
     assert!(rt;
         line.as_str()
             == "{\"error\":{\"code\":108,\"path\":\"/aggs/t/terms/field\",\"reason\":\"bad request\",\"type\":\"parsing_exception\"},\"status\":400}"
@@ -80,18 +101,18 @@ fn each_refusal_of_a_search_has_its_line(rt: HostRuntime) -> Result<(), Fail> {
         count: 10000000001,
         max: 65536,
     };
-    let line = refusal(rt.alloc(), &many)?;
+    let line = refusal(rt.alloc(), &many, &none)?;
     assert!(rt;
         line.as_str()
             == "{\"error\":{\"count\":10000000001,\"max_buckets\":65536,\"reason\":\"too many buckets\",\"type\":\"too_many_buckets_exception\"},\"status\":400}"
     );
     let path = Text::of(rt.alloc(), "/s")?;
-    let line = refusal(rt.alloc(), &Refused::SumRange { path })?;
+    let line = refusal(rt.alloc(), &Refused::SumRange { path }, &none)?;
     assert!(rt;
         line.as_str()
             == "{\"error\":{\"path\":\"/s\",\"reason\":\"a number is outside 64 bits\",\"type\":\"number_range_exception\"},\"status\":400}"
     );
-    let line = refusal(rt.alloc(), &Refused::TooWide)?;
+    let line = refusal(rt.alloc(), &Refused::TooWide, &none)?;
     assert!(rt;
         line.as_str()
             == "{\"error\":{\"reason\":\"the search is too wide\",\"type\":\"too_wide_exception\"},\"status\":400}"

@@ -3,7 +3,7 @@ use Rattle.std.specs.Prelude.{◌≡◌, refl, ℕ, pos, negsuc, false, [], ◌�
 use Rattle.agg_model.specs.declared.query.Query.TheVariants as query
 use Rattle.agg_model.specs.declared.aggregation.Kind.TheVariants as kind
 use Rattle.agg_evaluation.specs.Keys.{no_bounds}
-use Rattle.agg_spec.specs.Index.{Index}
+use Rattle.agg_spec.specs.Index.{Index, shard_numbers}
 use Rattle.agg_spec.proofs.Samples.{numbers, words, row, index, one_shard, by_count, by_key, agg, leaf, search_of}
 use Rattle.agg_model.specs.declared.aggregation.Search.{Search}
 use Rattle.agg_evaluation.specs.Whole.{whole}
@@ -13,10 +13,10 @@ use Rattle.agg_spec.specs.GapCount.{planned_buckets}
 use Rattle.agg_spec.proofs.Computing.{computing}
 
 abbrev planned : Index → Search → ℕ
-planned index search = planned_buckets search (whole search (shard_answers index search))
+planned index search = planned_buckets search (whole search (shard_answers index search (shard_numbers index)))
 
 abbrev built : Index → Search → ℕ
-built index search = total_buckets search (answer_of index search)
+built index search = total_buckets search (answer_of index search (shard_numbers index))
 
 abbrev far_apart : Index
 far_apart = one_shard (row (numbers (pos 0 ∷ []) ∷ []) ∷ row (numbers (pos 10000000000 ∷ []) ∷ []) ∷ [])

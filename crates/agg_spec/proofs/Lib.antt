@@ -4,17 +4,19 @@ mod CountExamples
 mod FilterExamples
 mod HistogramExamples
 mod LargerExamples
-mod LargerScriptExamples
 mod LineExamples
 mod MetricExamples
 mod NestedExamples
 mod OrderExamples
 mod OutcomeExamples
-mod OutputExamples
 mod Samples
-mod ScriptExamples
+pub mod Runs
+mod OutputExamples
+mod Refutations
 mod SoloExamples
+mod SettingsLineExamples
 mod StatusExamples
+mod WorkersExamples
+pub mod SoloLaws
 mod TermsExamples
 mod WaveExamples
-mod WorkersExamples

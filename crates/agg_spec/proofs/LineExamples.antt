@@ -69,61 +69,61 @@ unfolding computing
 index_is_full = refl
 
 request_breaker :
-    exception_line (tripped which.Request 4866 4865) (codes "search") 429
+    exception_line (tripped which.Request 4866 4865) (codes "search") 429 []
     ≡ codes "{\"error\":{\"bytes_limit\":4865,\"bytes_wanted\":4866,\"durability\":\"TRANSIENT\",\"reason\":\"[request] Data too large, data for [search] would be [4866b], which is larger than the limit of [4865b]\",\"type\":\"circuit_breaking_exception\"},\"status\":429}"
 unfolding computing
 request_breaker = refl
 
 parent_breaker :
-    exception_line (tripped which.Parent 4703 95) (codes "search") 429
+    exception_line (tripped which.Parent 4703 95) (codes "search") 429 []
     ≡ codes "{\"error\":{\"bytes_limit\":95,\"bytes_wanted\":4703,\"durability\":\"TRANSIENT\",\"reason\":\"[parent] Data too large, data for [search] would be [4703b], which is larger than the limit of [95b]\",\"type\":\"circuit_breaking_exception\"},\"status\":429}"
 unfolding computing
 parent_breaker = refl
 
 columns_at_fielddata :
-    exception_line (tripped which.Fielddata 19 18) (codes "columns") 6
+    exception_line (tripped which.Fielddata 19 18) (codes "columns") 6 []
     ≡ codes "{\"error\":{\"bytes_limit\":18,\"bytes_wanted\":19,\"durability\":\"PERMANENT\",\"reason\":\"[fielddata] Data too large, data for [columns] would be [19b], which is larger than the limit of [18b]\",\"type\":\"circuit_breaking_exception\"},\"status\":6}"
 unfolding computing
 columns_at_fielddata = refl
 
 columns_at_the_parent :
-    exception_line (tripped which.Parent 19 0) (codes "columns") 6
+    exception_line (tripped which.Parent 19 0) (codes "columns") 6 []
     ≡ codes "{\"error\":{\"bytes_limit\":0,\"bytes_wanted\":19,\"durability\":\"TRANSIENT\",\"reason\":\"[parent] Data too large, data for [columns] would be [19b], which is larger than the limit of [0b]\",\"type\":\"circuit_breaking_exception\"},\"status\":6}"
 unfolding computing
 columns_at_the_parent = refl
 
 inflight_breaker :
-    exception_line (tripped which.Inflight 76 10) (codes "search") 429
+    exception_line (tripped which.Inflight 76 10) (codes "search") 429 []
     ≡ codes "{\"error\":{\"bytes_limit\":10,\"bytes_wanted\":76,\"durability\":\"TRANSIENT\",\"reason\":\"[inflight_requests] Data too large, data for [search] would be [76b], which is larger than the limit of [10b]\",\"type\":\"circuit_breaking_exception\"},\"status\":429}"
 unfolding computing
 inflight_breaker = refl
 
 body_is_not_json :
-    refusal_line refused.NotJson
+    refusal_line refused.NotJson []
     ≡ codes "{\"error\":{\"reason\":\"the body is not JSON\",\"type\":\"parsing_exception\"},\"status\":400}"
 unfolding computing
 body_is_not_json = refl
 
 bad_request :
-    refusal_line (refused.Bad 108 (codes "/aggs/t/terms/field"))
+    refusal_line (refused.Bad 108 (codes "/aggs/t/terms/field")) []
     ≡ codes "{\"error\":{\"code\":108,\"path\":\"/aggs/t/terms/field\",\"reason\":\"bad request\",\"type\":\"parsing_exception\"},\"status\":400}"
 unfolding computing
 bad_request = refl
 
 too_many_buckets :
-    refusal_line (refused.TooManyBuckets 10000000001 65536)
+    refusal_line (refused.TooManyBuckets 10000000001 65536) []
     ≡ codes "{\"error\":{\"count\":10000000001,\"max_buckets\":65536,\"reason\":\"too many buckets\",\"type\":\"too_many_buckets_exception\"},\"status\":400}"
 unfolding computing
 too_many_buckets = refl
 
 number_out_of_range :
-    refusal_line (refused.SumRange (codes "/s"))
+    refusal_line (refused.SumRange (codes "/s")) []
     ≡ codes "{\"error\":{\"path\":\"/s\",\"reason\":\"a number is outside 64 bits\",\"type\":\"number_range_exception\"},\"status\":400}"
 unfolding computing
 number_out_of_range = refl
 
 too_wide :
-    refusal_line refused.TooWide
+    refusal_line refused.TooWide []
     ≡ codes "{\"error\":{\"reason\":\"the search is too wide\",\"type\":\"too_wide_exception\"},\"status\":400}"
 unfolding computing
 too_wide = refl

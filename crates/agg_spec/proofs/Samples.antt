@@ -21,7 +21,7 @@ use Rattle.agg_model.specs.declared.breaker.Limits.{Limits}
 use Rattle.agg_model.specs.declared.breaker.BreakerStats.{BreakerStats}
 use Rattle.agg_model.specs.declared.settings.Settings.{Settings}
 use Rattle.agg_evaluation.specs.Rows.{shard_rows}
-use Rattle.agg_spec.specs.Index.{Index}
+use Rattle.agg_spec.specs.Index.{Index, shard_numbers}
 use Rattle.agg_spec.specs.Outcome.{Request, answer_of}
 use Rattle.agg_spec.specs.Json.{object_of}
 use Rattle.agg_spec.specs.AnswerTree.{printer, named_answers}
@@ -90,7 +90,7 @@ search_of query aggs = record { query = query; aggs = aggs; body_bytes = 0; part
 
 -- the text of the member `aggregations` of the response
 abbrev pub aggregations_text : Index → Search → List ℕ
-aggregations_text index search = compact_text (object_of (named_answers (map printer search.aggs) (answer_of index search).nodes))
+aggregations_text index search = compact_text (object_of (named_answers (map printer search.aggs) (answer_of index search (shard_numbers index)).nodes))
 
 abbrev pub default_limits : Limits
 default_limits = record { request = 644245094; fielddata = 429496729; inflight = 1073741824; parent = 751619276 }

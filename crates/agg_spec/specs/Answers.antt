@@ -1,87 +1,109 @@
--- The answers to the requests of a script, wave after wave ('Multi search API').
-use Rattle.std.specs.Prelude.{◌≡◌, ◌⊎◌, ⊤, ℕ, ◌==◌, ◌&&◌, ◌/◌, Bool, true, false, List, [], ◌∷◌, ◌++◌, map, flat_map, length, take, zip, Option, Some, None, is_some, codes}
-use Rattle.std.specs.List.{list_all}
+-- The answers to the searches and settings lines of a script, in their order ('Multi search API').
+use Rattle.std.specs.Prelude.{◌≡◌, ◌⊎◌, ⊤, ℕ, true, false, List, [], ◌∷◌, ◌++◌, map, option_to_list, Option, Some, None, Result, Ok, Err}
+use Rattle.std.specs.List.{AllByRecursion}
+use Rattle.serde_json.specs.Data.{Data}
+use Rattle.agg_model.specs.declared.breaker.Tripped.{Tripped}
 use Rattle.agg_model.specs.declared.settings.Settings.{Settings}
-use Rattle.agg_model.specs.declared.outcome.Outcome.{Outcome}
+use Rattle.agg_model.specs.declared.outcome.Answered.{Answered}
 use Rattle.agg_model.specs.declared.outcome.Outcome.TheVariants as ended
 use Rattle.agg_spec.specs.Index.{Index}
-use Rattle.agg_spec.specs.ErrorLines.{exception_line, refusal_line}
 use Rattle.agg_spec.specs.Outcome.{Request}
-use Rattle.agg_spec.specs.Solo.{batches, solo_outcome}
+use Rattle.agg_spec.specs.Columns.{columns_refusal}
+use Rattle.agg_spec.specs.Pages.{next_page}
+use Rattle.agg_spec.specs.Requests.{Segment}
+use Rattle.agg_spec.specs.Rounds.{Round}
+use Rattle.agg_spec.specs.Reduction.{batches}
+use Rattle.agg_spec.specs.Solo.{idle, solo_answer}
 use Rattle.agg_spec.specs.Wave.{MayAnswerWave}
-use Rattle.agg_spec.specs.Pages.{pages, EachPage}
-use Rattle.agg_spec.specs.Statistics.{Round}
+use Rattle.agg_spec.specs.Statistics.{is_solo}
 
--- a line that was written
-abbrev pub ended_line : List ℕ → List ℕ
-ended_line text = text ++ codes "\n"
+-- The settings that a settings line gives, or the name that it refuses: by the settings in force, those of the program's words, and
+-- the line. The grammar of its values is that of the words.
+abbrev pub Change : Type 0
+Change = Settings → Settings → Data → Result Settings (List ℕ)
 
--- want of memory has no line
-abbrev pub outcome_line : Outcome → Option (List ℕ)
-outcome_line (ended.Response line) = Some line
-outcome_line (ended.Refused r) = Some (refusal_line r)
-outcome_line (ended.Tripped t) = Some (exception_line t (codes "search") 429)
-outcome_line ended.Memory = None
+-- what a settings line comes to
+pub data Changed : Type 0 where
+  accepted : Settings → Changed
+  refused : List ℕ → Changed
+  -- the columns are beyond a new limit
+  too_heavy : Tripped → Changed
 
-abbrev pub before_none : Option (List ℕ) → List ℕ → List ℕ
-before_none None rest = []
-before_none (Some line) rest = ended_line line ++ rest
+abbrev pub if_light : Settings → Option Tripped → Changed
+if_light settings None = accepted settings
+if_light settings (Some t) = too_heavy t
 
--- the lines of the outcomes, up to the first that has none
-abbrev pub outcomes_text : List Outcome → List ℕ
-outcomes_text [] = []
-outcomes_text (o ∷ os) = before_none (outcome_line o) (outcomes_text os)
+abbrev pub changed_to : ℕ → Result Settings (List ℕ) → Changed
+changed_to columns (Ok settings) = if_light settings (columns_refusal settings.limits columns)
+changed_to columns (Err name) = refused name
 
-abbrev pub all_have_lines : List Outcome → Bool
-all_have_lines = list_all (λ o. is_some (outcome_line o))
+module _ (index : Index) (columns : ℕ) where
+  -- With one worker that runs one search at a time there is one answer, unless memory runs out.
+  abbrev pub IsSolo : Settings → List Request → List Answered → Type 0
+  IsSolo settings (r ∷ []) (a ∷ []) = (a ≡ solo_answer settings index (idle columns) r) ⊎ (a.outcome ≡ ended.Memory)
+  IsSolo settings _ _ = ⊥
 
--- one worker that runs one search at a time
-abbrev pub is_solo : Settings → Bool
-is_solo settings = (settings.workers == 1) && (settings.width == 1)
-
--- the requests in waves of a width
-abbrev pub waves_of : ℕ → List Request → List (List Request)
-waves_of width requests = batches width requests
-
--- the waves but a last one that is not full
-abbrev pub full_waves : ℕ → List Request → List (List Request)
-full_waves width requests = take (length requests / width) (waves_of width requests)
-
-module _ (settings : Settings) (index : Index) (held : ℕ) where
-  -- Alone, a request has one outcome, unless memory runs out.
-  abbrev pub MayAnswerOne : Request → Outcome → Type 0
-  MayAnswerOne r o =
-      elim (is_solo settings) [
-        | true ↦ (o ≡ solo_outcome settings index held r) ⊎ (o ≡ ended.Memory)
-        | false ↦ MayAnswerWave settings index held (r ∷ []) (o ∷ [])
+  -- a round may be answered so
+  abbrev pub IsAllowed : Round → Type 0
+  IsAllowed round =
+      elim (is_solo round.settings) [
+        | true ↦ IsSolo round.settings round.requests round.answers
+        | false ↦ MayAnswerWave round.settings index columns round.requests round.answers
       ]
 
-  -- a wave of one request may be answered as that request
-  abbrev pub MayAnswerTogether : List Request → List Outcome → Type 0
-  MayAnswerTogether (r ∷ []) (o ∷ []) = MayAnswerOne r o
-  MayAnswerTogether wave outcomes = MayAnswerWave settings index held wave outcomes
+  -- the page after an answered page
+  abbrev pub page_after : Request → List Answered → Option Request
+  page_after r (a ∷ []) = next_page index r a.outcome a.failures
+  page_after r _ = None
 
-  -- in a scan a wave is one request, whose pages are answered one after another
-  abbrev pub MayAnswerPages : List Request → List Outcome → Type 0
-  MayAnswerPages (r ∷ []) outcomes = EachPage MayAnswerOne index (Some r) outcomes
-  MayAnswerPages _ outcomes = ⊥
+  -- in a scan each page is a round; the next page of a search comes before the searches behind it
+  abbrev pub ArePages : List Request → List Round → Type 0
+  ArePages [] [] = ⊤
+  ArePages (r ∷ rest) (round ∷ rounds) = (round.requests ≡ r ∷ []) × ArePages (option_to_list (page_after r round.answers) ++ rest) rounds
+  ArePages _ _ = ⊥
 
-  abbrev pub AreAnswers : List Request → List Outcome → Type 0
-  AreAnswers wave outcomes = elim settings.scan [ true ↦ MayAnswerPages wave outcomes | false ↦ MayAnswerTogether wave outcomes ]
+  -- else each wave is a round
+  abbrev pub AreWaves : ℕ → List Request → List Round → Type 0
+  AreWaves width requests rounds = map (λ round. round.requests) rounds ≡ batches width requests
 
-  -- each wave has its outcomes
-  abbrev pub AreAllAnswers : List (List Request) → List (List Outcome) → Type 0
-  AreAllAnswers [] [] = ⊤
-  AreAllAnswers (wave ∷ waves) (outcomes ∷ rest) = AreAnswers wave outcomes × AreAllAnswers waves rest
-  AreAllAnswers _ _ = ⊥
+  abbrev pub AreFormed : Settings → List Request → List Round → Type 0
+  AreFormed settings requests rounds = elim settings.scan [ true ↦ ArePages requests rounds | false ↦ AreWaves settings.width requests rounds ]
 
-  abbrev pub page_rounds : List Request → List Outcome → List Round
-  page_rounds (r ∷ rs) outcomes = map (λ p. record { requests = p.0 ∷ []; outcomes = p.1 ∷ [] }) (zip (pages index (Some r) outcomes) outcomes)
-  page_rounds [] outcomes = []
+  -- The rounds in which these searches ran with these settings, of each of which P holds.
+  pub record AreRounds (P : Round → Type 0) (settings : Settings) (requests : List Request) (rounds : List Round) : Type 0 where
+    pub form : AreFormed settings requests rounds
+    pub each : AllByRecursion (λ round. (round.settings ≡ settings) × P round) rounds
 
-  -- what ran as one wave: in a scan each page by itself
-  abbrev pub rounds_of : List Request → List Outcome → List Round
-  rounds_of wave outcomes = elim settings.scan [ true ↦ page_rounds wave outcomes | false ↦ record { requests = wave; outcomes = outcomes } ∷ [] ]
+-- the settings in force, and the rounds since they are
+pub record Recent : Type 0 where
+  pub settings : Settings
+  pub rounds : List Round
 
-  abbrev pub all_rounds : List (List Request) → List (List Outcome) → List Round
-  all_rounds waves answers = flat_map (λ p. rounds_of p.0 p.1) (zip waves answers)
+abbrev pub with_rounds : List Round → Recent → Recent
+with_rounds rounds recent = record recent { rounds = recent.rounds ++ rounds }
+
+-- an accepted settings line starts the statistics anew
+abbrev pub after_change : Changed → Recent → Recent
+after_change (accepted settings) recent = record { settings = settings; rounds = [] }
+after_change _ recent = recent
+
+-- `words` are the settings of the program's words
+module _ (change : Change) (words : Settings) (index : Index) (columns : ℕ) where
+  abbrev pub changed_by : Recent → Data → Changed
+  changed_by recent line = changed_to columns (change recent.settings words line)
+
+  abbrev pub after_line : Option Data → Recent → Recent
+  after_line None recent = recent
+  after_line (Some line) recent = after_change (changed_by recent line) recent
+
+  -- each segment ran with the settings in force
+  abbrev pub AreAnswered : (Round → Type 0) → Recent → List Segment → List (List Round) → Type 0
+  AreAnswered P recent [] [] = ⊤
+  AreAnswered P recent (s ∷ rest) (rounds ∷ later) =
+      AreRounds index columns P recent.settings s.requests rounds × AreAnswered P (after_line s.change (with_rounds rounds recent)) rest later
+  AreAnswered P recent _ _ = ⊥
+
+  -- the settings in force at the end
+  abbrev pub latest : Recent → List Segment → List (List Round) → Recent
+  latest recent (s ∷ rest) (rounds ∷ later) = latest (after_line s.change (with_rounds rounds recent)) rest later
+  latest recent _ _ = recent

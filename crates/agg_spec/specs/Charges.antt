@@ -65,18 +65,19 @@ or_else (Some t) later = Some t
 abbrev pub refusal_of : Limits → Amounts → Child → ℕ → Option Tripped
 refusal_of limits holds c n = or_else (trip_at limits holds (which_of c) n) (trip_at limits holds Parent n)
 
--- what is held, the sums of what was granted, and the refusal that ended it
+-- what is held, the sums of what was granted, how often each breaker refused, and the refusal that ended it
 pub record Run : Type 0 where
   pub holds : Amounts
   pub granted : Amounts
+  pub trips : Amounts
   pub refused : Option Tripped
 
 abbrev pub started : Amounts → Run
-started holds = record { holds = holds; granted = no_amounts; refused = None }
+started holds = record { holds = holds; granted = no_amounts; trips = no_amounts; refused = None }
 
 abbrev pub charged : Option Tripped → Child → ℕ → Run → Run
 charged None c n r = record r { holds = raised c n r.holds; granted = raised c n r.granted }
-charged (Some t) c n r = record r { refused = Some t }
+charged (Some t) c n r = record r { trips = amounts_sum r.trips (one_at t.which); refused = Some t }
 
 abbrev pub stepped : Limits → Run → Step → Run
 stepped limits r (charge c n) = charged (refusal_of limits r.holds c n) c n r
@@ -91,13 +92,6 @@ stepped_unless (Some t) limits r s = r
 abbrev pub run : Limits → Run → List Step → Run
 run limits r [] = r
 run limits r (s ∷ rest) = run limits (stepped_unless r.refused limits r s) rest
-
--- the holds after each step
-abbrev pub holds_after : Limits → Run → List Step → List Amounts
-holds_after limits r [] = []
-holds_after limits r (s ∷ rest) =
-    let next = stepped_unless r.refused limits r s in
-    next.holds ∷ holds_after limits next rest
 
 -- a step of 0 bytes is none
 abbrev pub charge_of : Child → ℕ → List Step

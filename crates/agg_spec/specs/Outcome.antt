@@ -1,8 +1,10 @@
--- The outcome of a search by the whole reduction: all shards in order, with no breaker and no memory limit ('Search API').
-use Rattle.std.specs.Prelude.{ℕ, nat_lt, true, false, List, map, length, Option, Some, None, Result, Ok, Err}
+-- The outcome of a search by the whole reduction: all shards that did not fail, in order, with no breaker and no memory limit
+-- ('Search API').
+use Rattle.std.specs.Prelude.{ℕ, nat_lt, true, false, List, [], map, length, Option, Some, None, Result, Ok, Err}
 use Rattle.agg_model.specs.declared.answer.Answer.{Answer}
 use Rattle.agg_model.specs.declared.partial.Partial.{Partial}
 use Rattle.agg_model.specs.declared.aggregation.Search.{Search}
+use Rattle.agg_model.specs.declared.outcome.Failure.{Failure}
 use Rattle.agg_model.specs.declared.outcome.Refused.{Refused}
 use Rattle.agg_model.specs.declared.outcome.Refused.TheVariants as refused
 use Rattle.agg_model.specs.declared.outcome.Outcome.{Outcome}
@@ -10,7 +12,8 @@ use Rattle.agg_model.specs.declared.outcome.Outcome.TheVariants as ended
 use Rattle.agg_evaluation.specs.Shard.{shard_answer}
 use Rattle.agg_evaluation.specs.Whole.{whole}
 use Rattle.agg_evaluation.specs.Ceiling.{search_ceiling}
-use Rattle.agg_spec.specs.Index.{Index, field_kinds}
+use Rattle.agg_spec.specs.Index.{Index, field_kinds, rows_in}
+use Rattle.agg_spec.specs.Failures.{unfailed, total_failure}
 use Rattle.agg_spec.specs.Final.{final}
 use Rattle.agg_spec.specs.BucketCount.{total_buckets}
 use Rattle.agg_spec.specs.RangeCheck.{out_of_range}
@@ -21,11 +24,16 @@ pub record Request : Type 0 where
   pub bytes : ℕ
   pub search : Result Search Refused
 
-abbrev pub shard_answers : Index → Search → List Partial
-shard_answers index search = map (shard_answer search) index.shards
+-- the answers of the shards of these numbers
+abbrev pub shard_answers : Index → Search → List ℕ → List Partial
+shard_answers index search shards = map (λ shard. shard_answer search (rows_in index shard)) shards
 
-abbrev pub answer_of : Index → Search → Answer
-answer_of index search = final search (whole search (shard_answers index search))
+-- their whole
+abbrev pub whole_of : Index → Search → List ℕ → Partial
+whole_of index search shards = whole search (shard_answers index search shards)
+
+abbrev pub answer_of : Index → Search → List ℕ → Answer
+answer_of index search shards = final search (whole_of index search shards)
 
 -- the line, unless a number lies outside 64 bits
 abbrev pub line_in_range : Option (List ℕ) → List ℕ → Outcome
@@ -33,24 +41,45 @@ line_in_range None line = ended.Response line
 line_in_range (Some path) line = ended.Refused (refused.SumRange path)
 
 -- what an answer prints, unless it has too many buckets
-abbrev pub answer_outcome : Index → ℕ → Search → Answer → Outcome
-answer_outcome index max_buckets search answer =
+abbrev pub answer_outcome : Index → ℕ → Search → List Failure → Answer → Outcome
+answer_outcome index max_buckets search failures answer =
     elim (nat_lt max_buckets (total_buckets search answer)) [
       | true ↦ ended.Refused (refused.TooManyBuckets (total_buckets search answer) max_buckets)
-      | false ↦ line_in_range (out_of_range search answer) (response_line search (length index.shards) answer)
+      | false ↦ line_in_range (out_of_range search answer) (response_line search index.mapping answer (length index.shards) failures)
+    ]
+
+-- the answer of the shards that are left, or the refusal where all failed
+abbrev pub outcome_of_shards : Index → ℕ → Search → List Failure → List ℕ → Outcome
+outcome_of_shards index max_buckets search failures left =
+    elim (total_failure failures left) [
+      | Some t ↦ ended.Tripped t
+      | None ↦ answer_outcome index max_buckets search failures (answer_of index search left)
     ]
 
 -- a search that is too wide is not begun
-abbrev pub search_outcome : Index → ℕ → Search → Outcome
-search_outcome index max_buckets search =
+abbrev pub search_outcome : Index → ℕ → Search → List Failure → Outcome
+search_outcome index max_buckets search failures =
     elim (search_ceiling (field_kinds index) search index.shards) [
       | None ↦ ended.Refused refused.TooWide
-      | Some ceiling ↦ answer_outcome index max_buckets search (answer_of index search)
+      | Some ceiling ↦ outcome_of_shards index max_buckets search failures (unfailed index failures)
     ]
 
-abbrev pub request_outcome : Index → ℕ → Result Search Refused → Outcome
-request_outcome index max_buckets (Err r) = ended.Refused r
-request_outcome index max_buckets (Ok search) = search_outcome index max_buckets search
+abbrev pub request_outcome : Index → ℕ → Result Search Refused → List Failure → Outcome
+request_outcome index max_buckets (Err r) failures = ended.Refused r
+request_outcome index max_buckets (Ok search) failures = search_outcome index max_buckets search failures
 
-abbrev pub outcome : Index → ℕ → Request → Outcome
-outcome index max_buckets request = request_outcome index max_buckets request.search
+abbrev pub outcome : Index → ℕ → Request → List Failure → Outcome
+outcome index max_buckets request failures = request_outcome index max_buckets request.search failures
+
+-- the search that tasks run for: none where the body is refused, or where the search is too wide
+abbrev pub running : Result Search Refused → Outcome → Option Search
+running (Err r) answer = None
+running (Ok search) (ended.Refused refused.TooWide) = None
+running (Ok search) answer = Some search
+
+abbrev pub running_search : Index → ℕ → Request → Option Search
+running_search index max_buckets request = running request.search (outcome index max_buckets request [])
+
+abbrev pub response_length : Outcome → ℕ
+response_length (ended.Response line) = length line
+response_length _ = 0

@@ -1,129 +1,145 @@
--- The output of a run: what the program writes, by the status with which it ends (newline-delimited JSON).
-use Rattle.std.specs.Prelude.{◌≡◌, ◌⊎◌, IsTrue, ℕ, ◌++◌, nat_lt, true, false, List, [], flat_map, filter, length, take, Option, Some, None, is_some, Result, Ok, Err, codes}
+-- The output of a run: the lines that stand whole in it, and the piece of a line behind them, by the status with which it ends.
+use Rattle.std.specs.Prelude.{◌≡◌, ◌≢◌, ◌⊎◌, IsTrue, ℕ, ◌++◌, nat_lt, List, [], ◌∷◌, filter, length, take, Option, Some, None, is_some, Result, Ok, Err, codes}
 use Rattle.std.specs.Option.{option_map_or}
 use Rattle.agg_model.specs.declared.breaker.Tripped.{Tripped}
 use Rattle.agg_model.specs.declared.breaker.Totals.{Totals}
 use Rattle.agg_model.specs.declared.settings.Settings.{Settings}
 use Rattle.agg_model.specs.declared.settings.Usage.{Usage}
-use Rattle.agg_model.specs.declared.outcome.Outcome.{Outcome}
-use Rattle.agg_model.specs.Lines.{Line, lines}
+use Rattle.agg_model.specs.Lines.{lines}
+use Rattle.agg_model.specs.Lines.{Line as InputLine}
 use Rattle.agg_reading.specs.Lines.{ScriptRefusal}
 use Rattle.agg_reading.specs.Script.{Loaded, loaded}
-use Rattle.agg_spec.specs.Outcome.{Request}
 use Rattle.agg_spec.specs.Generator.{generated}
 use Rattle.agg_spec.specs.BulkLine.{bulk_line}
 use Rattle.agg_spec.specs.ErrorLines.{exception_line}
 use Rattle.agg_spec.specs.EndLines.{usage_line, script_line}
-use Rattle.agg_spec.specs.StatisticsLine.{statistics_line}
 use Rattle.agg_spec.specs.Columns.{columns_refusal}
-use Rattle.agg_spec.specs.Statistics.{Round, solo_totals, IsStatistics}
-use Rattle.agg_spec.specs.Requests.{LoadedScript, loaded_script}
-use Rattle.agg_spec.specs.Answers.{ended_line, outcomes_text, all_have_lines, is_solo, waves_of, full_waves, AreAllAnswers, all_rounds}
+use Rattle.agg_spec.specs.Statistics.{AreTotals}
+use Rattle.agg_spec.specs.Requests.{LoadedScript, Segment, loaded_script, cut_short}
+use Rattle.agg_spec.specs.Rounds.{Round}
+use Rattle.agg_spec.specs.Answers.{Change, Recent, IsAllowed, AreAnswered, latest}
+use Rattle.agg_spec.specs.Written.{Line, bulk, error, statistics, line_text, ended_line, is_printed, all_printed, answer_lines}
 
--- the first text is the front of the second
-abbrev pub IsFront : List ℕ → List ℕ → Type 0
-IsFront front whole = (rest : List ℕ) × (whole ≡ front ++ rest)
+-- a script as far as it is read: refused before its bulk lines were loaded, with columns beyond a limit, or loaded
+pub data Script : Type 0 where
+  refused : ScriptRefusal → Script
+  too_heavy : Tripped → Script
+  answered : LoadedScript → Script
 
-abbrev pub refusal_text : ScriptRefusal → List ℕ
-refusal_text r = ended_line (script_line r.number r.line r.path)
+abbrev pub if_light : LoadedScript → Option Tripped → Script
+if_light s None = answered s
+if_light s (Some t) = too_heavy t
 
-module _ (settings : Settings) where
-  -- the bulk line, and the lines of the answers
-  abbrev pub answers_text : LoadedScript → List (List Outcome) → List ℕ
-  answers_text s answers = ended_line (bulk_line s.index.name s.items (is_some settings.generate)) ++ outcomes_text (flat_map (λ os. os) answers)
+abbrev pub script_from : Settings → Result Loaded ScriptRefusal → Script
+script_from words (Err r) = refused r
+script_from words (Ok l) = if_light (loaded_script l) (columns_refusal words.limits (loaded_script l).columns)
 
-  -- the waves that are answered: where the script ends by a refusal, only full ones
-  abbrev pub waves_before : Option ScriptRefusal → List Request → List (List Request)
-  waves_before None requests = waves_of settings.width requests
-  waves_before (Some r) requests = full_waves settings.width requests
+-- the input, or the generated script in its place
+abbrev pub text_read : Settings → List ℕ → List ℕ
+text_read words input = option_map_or generated words.generate input
 
-  -- the answers of these waves, none of which wants memory
-  pub record HasAnswers (s : LoadedScript) (waves : List (List Request)) (answers : List (List Outcome)) : Type 0 where
-    pub allowed : AreAllAnswers settings s.index s.held waves answers
-    pub complete : IsTrue (all_have_lines (flat_map (λ os. os) answers))
+-- the lines whose newline was read
+abbrev pub whole_lines : List ℕ → List InputLine
+whole_lines bytes = filter (λ l. nat_lt (length l.text) l.size) (lines bytes)
 
-  abbrev pub AreTotals : LoadedScript → List Round → Totals → Type 0
-  AreTotals s rounds t =
-      elim (is_solo settings) [
-        | true ↦ t ≡ solo_totals settings s.index s.held (flat_map (λ r. r.requests) rounds)
-        | false ↦ IsStatistics settings s.index s.held rounds t
-      ]
+abbrev pub refusal_line : ScriptRefusal → Line
+refusal_line r = error (script_line r.number r.line r.path)
 
-  -- all requests are answered, and the statistics follow
-  pub record EndsWell (s : LoadedScript) (text : List ℕ) : Type 0 where
-    pub answers : List (List Outcome)
+module _ (change : Change) (words : Settings) where
+  -- the bulk line, and the lines of these segments
+  pub record HasAnswers (s : LoadedScript) (segments : List Segment) (written : List Line) (at_end : Recent) : Type 0 where
+    pub rounds : List (List Round)
+    pub allowed : AreAnswered change words s.index s.columns (IsAllowed s.index s.columns) (record { settings = words; rounds = [] }) segments rounds
+    pub lines : written
+        ≡ bulk (bulk_line s.index.name s.items (is_some words.generate))
+        ∷ answer_lines change words s.index s.columns (record { settings = words; rounds = [] }) segments rounds
+    pub recent : at_end ≡ latest change words s.index s.columns (record { settings = words; rounds = [] }) segments rounds
+
+  -- all is answered, and the statistics follow
+  pub record EndsWell (s : LoadedScript) (written : List Line) : Type 0 where
+    pub answers : List Line
+    pub at_end : Recent
     pub totals : Totals
-    pub answered : HasAnswers s (waves_of settings.width s.requests) answers
-    pub statistics : AreTotals s (all_rounds settings s.index s.held (waves_of settings.width s.requests) answers) totals
-    pub written : text ≡ answers_text s answers ++ ended_line (statistics_line totals)
+    pub whole : s.refused ≡ None
+    pub answered : HasAnswers s s.segments answers at_end
+    pub total : AreTotals at_end.settings s.index s.columns at_end.rounds totals
+    pub lines : written ≡ answers ++ statistics totals ∷ []
 
-  -- the full waves are answered, and some text follows
-  pub record EndsWith (s : LoadedScript) (last : List ℕ) (text : List ℕ) : Type 0 where
-    pub answers : List (List Outcome)
-    pub answered : HasAnswers s (full_waves settings.width s.requests) answers
-    pub written : text ≡ answers_text s answers ++ last
+  -- all but a short last wave is answered, and these lines follow
+  pub record EndsEarly (s : LoadedScript) (last written : List Line) : Type 0 where
+    pub answers : List Line
+    pub at_end : Recent
+    pub answered : HasAnswers s (cut_short words.width s.segments) answers at_end
+    pub lines : written ≡ answers ++ last
 
-  -- the first waves are answered, up to the first that wants memory
-  pub record HasBegun (s : LoadedScript) (text : List ℕ) : Type 0 where
-    pub count : ℕ
-    pub answers : List (List Outcome)
-    pub answered : AreAllAnswers settings s.index s.held (take count (waves_before s.refused s.requests)) answers
-    pub written : text ≡ answers_text s answers
+  -- status 0: the input was read to its end
+  abbrev pub At0 : Script → List Line → Type 0
+  At0 (answered s) written = EndsWell s written
+  At0 _ written = ⊥
 
-  -- a script that is read to its end, or to a refusal in its third section
-  abbrev pub EndsScript : LoadedScript → Option ScriptRefusal → List ℕ → ℕ → Type 0
-  EndsScript s None text status = (status ≡ 0) × EndsWell s text
-  EndsScript s (Some r) text status = (status ≡ 5) × EndsWith s (refusal_text r) text
+  -- status 3: the source failed behind the lines of this script
+  abbrev pub At3 : Script → List Line → Type 0
+  At3 (answered s) written = EndsEarly s [] written
+  At3 _ written = written ≡ []
 
-  -- columns beyond a limit end the run
-  abbrev pub EndsLoaded : LoadedScript → Option Tripped → List ℕ → ℕ → Type 0
-  EndsLoaded s (Some t) text status = (status ≡ 6) × (text ≡ ended_line (exception_line t (codes "columns") 6))
-  EndsLoaded s None text status = EndsScript s s.refused text status
+  abbrev pub EndsRefused : LoadedScript → Option ScriptRefusal → List Line → Type 0
+  EndsRefused s None written = ⊥
+  EndsRefused s (Some r) written = EndsEarly s (refusal_line r ∷ []) written
 
-  abbrev pub refusal_of_columns : LoadedScript → Option Tripped
-  refusal_of_columns s = columns_refusal settings.limits s.held
+  -- status 5: the script is refused
+  abbrev pub At5 : Script → List Line → Type 0
+  At5 (refused r) written = written ≡ refusal_line r ∷ []
+  At5 (too_heavy t) written = ⊥
+  At5 (answered s) written = EndsRefused s s.refused written
 
-  -- the output of a script that is read to its end or to a refusal
-  abbrev pub Ends : Result Loaded ScriptRefusal → List ℕ → ℕ → Type 0
-  Ends (Err r) text status = (status ≡ 5) × (text ≡ refusal_text r)
-  Ends (Ok l) text status = EndsLoaded (loaded_script l) (refusal_of_columns (loaded_script l)) text status
+  -- status 6: the columns are beyond a limit
+  abbrev pub At6 : Script → List Line → Type 0
+  At6 (too_heavy t) written = written ≡ error (exception_line t (codes "columns") 6 []) ∷ []
+  At6 _ written = ⊥
 
-  -- the output where the source failed, by the lines that were read: nothing follows the full waves
-  abbrev pub StopsLoaded : LoadedScript → Option Tripped → List ℕ → Type 0
-  StopsLoaded s (Some t) text = text ≡ []
-  StopsLoaded s None text = EndsWith s [] text
+-- status 2: words outside the grammar end the run before anything is read
+abbrev pub At2 : Usage → List Line → Type 0
+At2 usage written = written ≡ error (usage_line usage) ∷ []
 
-  abbrev pub Stops : Result Loaded ScriptRefusal → List ℕ → Type 0
-  Stops (Err r) text = text ≡ []
-  Stops (Ok l) text = StopsLoaded (loaded_script l) (refusal_of_columns (loaded_script l)) text
+abbrev pub IsWholeOf : Change → Settings → Script → ℕ → List Line → Type 0
+IsWholeOf change words script status written =
+    ((status ≡ 0) × At0 change words script written)
+    ⊎ (((status ≡ 5) × At5 change words script written) ⊎ ((status ≡ 6) × At6 change words script written))
 
-  abbrev pub BeginsLoaded : LoadedScript → Option Tripped → List ℕ → Type 0
-  BeginsLoaded s (Some t) text = text ≡ ended_line (exception_line t (codes "columns") 6)
-  BeginsLoaded s None text = HasBegun s text ⊎ ((status : ℕ) × EndsScript s s.refused text status)
+-- the lines of an output that ends neither by a fault nor by want of memory
+abbrev pub IsWhole : Change → Result Settings Usage → List ℕ → ℕ → List Line → Type 0
+IsWhole change (Err usage) input status written = (status ≡ 2) × At2 usage written
+IsWhole change (Ok words) input status written = IsWholeOf change words (script_from words (loaded (lines (text_read words input)))) status written
 
-  -- what an output may begin with
-  abbrev pub Begins : Result Loaded ScriptRefusal → List ℕ → Type 0
-  Begins (Err r) text = text ≡ refusal_text r
-  Begins (Ok l) text = BeginsLoaded (loaded_script l) (refusal_of_columns (loaded_script l)) text
+-- such an output ends behind these lines, within or before the next one
+pub record IsCut (change : Change) (words : Result Settings Usage) (input : List ℕ) (written : List Line) (next : Line) : Type 0 where
+  pub later : List Line
+  pub status : ℕ
+  pub whole : IsWhole change words input status (written ++ next ∷ later)
 
-  -- a generated script takes the place of the input
-  abbrev pub script_of : List ℕ → List ℕ
-  script_of input = option_map_or generated settings.generate input
+-- status 4: the sink failed, and of the next line a front was written that is not all of it
+pub record At4 (change : Change) (words : Result Settings Usage) (input : List ℕ) (written : List Line) (piece : List ℕ) : Type 0 where
+  pub next : Line
+  pub cut : IsCut change words input written next
+  pub printed : IsTrue (is_printed next)
+  pub left : List ℕ
+  pub some_left : left ≢ []
+  pub front : ended_line (line_text next) ≡ piece ++ left
 
-  -- the lines whose newline was read
-  abbrev pub whole_lines : List ℕ → List Line
-  whole_lines bytes = filter (λ l. nat_lt (length l.text) l.size) (lines bytes)
+-- status 7: memory ran out, in place of the next line
+pub record At7 (change : Change) (words : Result Settings Usage) (input : List ℕ) (written : List Line) : Type 0 where
+  pub next : Line
+  pub cut : IsCut change words input written next
 
-  -- Status 3 is a source that failed; of the input `read` bytes were read. Status 4 is a sink that failed, and 7 want of memory:
-  -- what is written is then the front of an output.
-  abbrev pub IsOutputOf : List ℕ → ℕ → List ℕ → ℕ → Type 0
-  IsOutputOf input read text status =
-      Ends (loaded (lines (script_of input))) text status
-      ⊎ (((status ≡ 3) × (settings.generate ≡ None) × Stops (loaded (whole_lines (take read input))) text)
-      ⊎ (((status ≡ 4) ⊎ (status ≡ 7)) × ((begun : List ℕ) × Begins (loaded (lines (script_of input))) begun × IsFront text begun)))
+-- of the input `read` bytes were read before the source failed
+abbrev pub IsStopped : Change → Result Settings Usage → List ℕ → ℕ → List Line → Type 0
+IsStopped change (Err usage) input read written = ⊥
+IsStopped change (Ok words) input read written =
+    (words.generate ≡ None) × At3 change words (script_from words (loaded (whole_lines (take read input)))) written
 
--- words outside the grammar end the run before anything is read
-abbrev pub IsOutput : Result Settings Usage → List ℕ → ℕ → List ℕ → ℕ → Type 0
-IsOutput (Ok settings) input read text status = IsOutputOf settings input read text status
-IsOutput (Err u) input read text status =
-    ((status ≡ 2) × (text ≡ ended_line (usage_line u))) ⊎ (((status ≡ 4) ⊎ (status ≡ 7)) × IsFront text (ended_line (usage_line u)))
+-- These lines, and behind them this piece of a line, are an output of a run.
+pub record IsOutput (change : Change) (words : Result Settings Usage) (input : List ℕ) (read status : ℕ) (written : List Line) (piece : List ℕ) : Type 0 where
+  pub printed : IsTrue (all_printed written)
+  pub by_status : (IsWhole change words input status written × (piece ≡ []))
+      ⊎ (((status ≡ 3) × IsStopped change words input read written × (piece ≡ []))
+      ⊎ (((status ≡ 4) × At4 change words input written piece) ⊎ ((status ≡ 7) × At7 change words input written × (piece ≡ []))))

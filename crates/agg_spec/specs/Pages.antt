@@ -1,5 +1,5 @@
 -- The pages of a composite aggregation, one search after another ('Composite aggregation', pagination: `after` and `after_key`).
-use Rattle.std.specs.Prelude.{⊤, ℕ, Bool, true, false, List, [], ◌∷◌, map, Option, Some, None, option_map, Result, Ok, Err}
+use Rattle.std.specs.Prelude.{ℕ, Bool, true, false, List, [], ◌∷◌, map, Option, Some, None, option_map, Result, Ok, Err}
 use Rattle.std.specs.List.{last_or}
 use Rattle.agg_model.specs.declared.key.Key.{Key}
 use Rattle.agg_model.specs.declared.answer.BucketAnswer.{out-BucketAnswer}
@@ -8,10 +8,12 @@ use Rattle.agg_model.specs.declared.aggregation.Kind.{Kind}
 use Rattle.agg_model.specs.declared.aggregation.Kind.TheVariants as kind
 use Rattle.agg_model.specs.declared.aggregation.Agg.{Agg, out-Agg, roll-Agg}
 use Rattle.agg_model.specs.declared.aggregation.Search.{Search}
+use Rattle.agg_model.specs.declared.outcome.Failure.{Failure}
 use Rattle.agg_model.specs.declared.outcome.Refused.{Refused}
 use Rattle.agg_model.specs.declared.outcome.Outcome.{Outcome}
 use Rattle.agg_model.specs.declared.outcome.Outcome.TheVariants as ended
 use Rattle.agg_spec.specs.Index.{Index}
+use Rattle.agg_spec.specs.Failures.{unfailed}
 use Rattle.agg_spec.specs.Outcome.{Request, answer_of}
 
 abbrev pub is_composite : Kind → Bool
@@ -39,28 +41,16 @@ abbrev pub last_key : List NodeAnswer → Option Key
 last_key [] = None
 last_key (n ∷ ns) = option_map (λ b. (out-BucketAnswer b).key) (last_or None (out-NodeAnswer n).buckets)
 
-abbrev pub next_search : Index → Bool → Search → Option Search
-next_search index true search = option_map (search_after search) (last_key (answer_of index search).nodes)
-next_search index false search = None
+abbrev pub next_search : Index → List ℕ → Bool → Search → Option Search
+next_search index shards true search = option_map (search_after search) (last_key (answer_of index search shards).nodes)
+next_search index shards false search = None
 
-abbrev pub request_after : Index → ℕ → Result Search Refused → Option Request
-request_after index bytes (Ok search) = option_map (λ s. record { bytes = bytes; search = Ok s }) (next_search index (is_paged search.aggs) search)
-request_after index bytes (Err r) = None
+abbrev pub request_after : Index → List ℕ → ℕ → Result Search Refused → Option Request
+request_after index shards bytes (Ok search) = option_map (λ s. record { bytes = bytes; search = Ok s }) (next_search index shards (is_paged search.aggs) search)
+request_after index shards bytes (Err r) = None
 
--- the page after a page that ended so: there is none after a page without a bucket, or that is not answered
-abbrev pub next_page : Index → Request → Outcome → Option Request
-next_page index request (ended.Response line) = request_after index request.bytes request.search
-next_page index request _ = None
-
--- the pages, given how each of them ended
-abbrev pub pages : Index → Option Request → List Outcome → List Request
-pages index None outcomes = []
-pages index (Some r) [] = []
-pages index (Some r) (o ∷ os) = r ∷ pages index (next_page index r o) os
-
--- the outcomes are those of all pages: each ended as P says, and after the last there is none
-abbrev pub EachPage : (Request → Outcome → Type 0) → Index → Option Request → List Outcome → Type 0
-EachPage P index None [] = ⊤
-EachPage P index None (o ∷ os) = ⊥
-EachPage P index (Some r) [] = ⊥
-EachPage P index (Some r) (o ∷ os) = P r o × EachPage P index (next_page index r o) os
+-- The page after a page that ended so: it follows the last key of the shards that answered. There is none after a page without a
+-- bucket, or that is not answered.
+abbrev pub next_page : Index → Request → Outcome → List Failure → Option Request
+next_page index request (ended.Response line) failures = request_after index (unfailed index failures) request.bytes request.search
+next_page index request _ failures = None

@@ -1,105 +1,64 @@
--- The solo run: one search alone, with all its charges and returns in order ('Circuit breaker settings', request and inflight
--- requests; 'Search API', batched reduce size).
-use Rattle.std.specs.Prelude.{ℕ, ℤ, pos, negsuc, suc, ◌+◌, ◌-◌, ◌*◌, ◌/◌, List, [], ◌∷◌, ◌++◌, map, flat_map, length, take, drop, sum, Option, Some, None, Result, Ok, Err}
-use Rattle.std.specs.List.{range_with_len}
+-- One worker that runs one search at a time, with all charges in their order ('Circuit breaker settings', request and inflight
+-- requests).
+use Rattle.std.specs.Prelude.{ℕ, ◌*◌, List, [], fold, length, Option, Some, None}
 use Rattle.agg_model.specs.declared.breaker.Child.TheVariants.{Request as AtRequest, Inflight as AtInflight}
 use Rattle.agg_model.specs.declared.breaker.Tripped.{Tripped}
-use Rattle.agg_model.specs.declared.partial.Partial.{Partial}
 use Rattle.agg_model.specs.declared.aggregation.Search.{Search}
 use Rattle.agg_model.specs.declared.settings.Settings.{Settings}
-use Rattle.agg_model.specs.declared.outcome.Refused.{Refused}
-use Rattle.agg_model.specs.declared.outcome.Refused.TheVariants as refused
+use Rattle.agg_model.specs.declared.outcome.Answered.{Answered}
 use Rattle.agg_model.specs.declared.outcome.Outcome.{Outcome}
 use Rattle.agg_model.specs.declared.outcome.Outcome.TheVariants as ended
-use Rattle.agg_evaluation.specs.Rows.{PlacedRow}
-use Rattle.agg_evaluation.specs.Shard.{shard_answer}
-use Rattle.agg_evaluation.specs.Whole.{whole}
-use Rattle.agg_evaluation.specs.Cost.{cost}
-use Rattle.agg_evaluation.specs.Trace.{trace}
 use Rattle.agg_spec.specs.Index.{Index}
-use Rattle.agg_spec.specs.Outcome.{Request, outcome}
-use Rattle.agg_spec.specs.Charges.{Amounts, no_amounts, one_at, Step, Run, started, run, holds_after, charge_of, return_of}
-
--- a positive amount of a trace is charged, and a negative one given back
-abbrev pub trace_step : ℤ → List Step
-trace_step (pos n) = charge_of AtRequest n
-trace_step (negsuc n) = return_of AtRequest (suc n)
-
--- the shards in batches of the size, the last one maybe shorter
-abbrev pub batches : {A : Type 0} → ℕ → List A → List (List A)
-batches size shards = map (λ i. take size (drop (i * size) shards)) (range_with_len 0 ((length shards + size - 1) / size))
-
--- one result stays as it is, and several are merged
-abbrev pub merged : Search → List Partial → Partial
-merged search (p ∷ []) = p
-merged search parts = whole search parts
-
--- Two or more results are merged: their costs are charged once more, and afterwards the cost of the result is held.
-abbrev pub merge_steps : Search → List Partial → List Step
-merge_steps search (p ∷ q ∷ rest) =
-    let parts = p ∷ q ∷ rest in
-    let costs = sum (map cost parts) in
-    charge_of AtRequest costs ++ return_of AtRequest (2 * costs - cost (merged search parts))
-merge_steps search _ = []
-
-abbrev pub task_steps : Search → List PlacedRow → List Step
-task_steps search all = flat_map trace_step (trace search all)
-
--- the tasks of a batch, and its merge
-abbrev pub batch_steps : Search → List (List PlacedRow) → List Step
-batch_steps search batch = flat_map (task_steps search) batch ++ merge_steps search (map (shard_answer search) batch)
-
-abbrev pub batch_results : Search → List (List (List PlacedRow)) → List Partial
-batch_results search = map (λ batch. merged search (map (shard_answer search) batch))
-
--- all batches, and the merge of their results
-abbrev pub reduction_steps : Search → List (List (List PlacedRow)) → List Step
-reduction_steps search parts = flat_map (batch_steps search) parts ++ merge_steps search (batch_results search parts)
-
--- the response is charged, and then the response and the result are given back
-abbrev pub answer_steps : ℕ → Outcome → List Step
-answer_steps result_cost (ended.Response line) = charge_of AtRequest (length line) ++ return_of AtRequest (length line + result_cost)
-answer_steps result_cost _ = return_of AtRequest result_cost
-
-abbrev pub answered_steps : ℕ → Index → Search → Outcome → List Step
-answered_steps batch index search answer =
-    let parts = batches batch index.shards in
-    reduction_steps search parts ++ answer_steps (cost (merged search (batch_results search parts))) answer
-
--- a search that is too wide has no task
-abbrev pub search_steps : ℕ → Index → Search → Outcome → List Step
-search_steps batch index search (ended.Refused refused.TooWide) = []
-search_steps batch index search answer = answered_steps batch index search answer
-
-abbrev pub request_steps : ℕ → Index → Result Search Refused → Outcome → List Step
-request_steps batch index (Err r) answer = []
-request_steps batch index (Ok search) answer = search_steps batch index search answer
-
--- the charges and returns of a search that no breaker refuses; its body is charged twice its bytes before it is read
-abbrev pub solo_steps : Settings → Index → Request → List Step
-solo_steps settings index request =
-    charge_of AtInflight (2 * request.bytes)
-    ++ (request_steps settings.batch index request.search (outcome index settings.max_buckets request) ++ return_of AtInflight (2 * request.bytes))
+use Rattle.agg_spec.specs.Outcome.{Request, outcome, running_search}
+use Rattle.agg_spec.specs.Charges.{Amounts, no_amounts, Run, Step, started, run, charge_of}
+use Rattle.agg_spec.specs.Reduction.{Going, begun, reduced, tasks_of}
 
 -- the columns' charge is all that is held before
 abbrev pub columns_held : ℕ → Amounts
-columns_held held = record no_amounts { fielddata = held; parent = held }
+columns_held columns = record no_amounts { fielddata = columns; parent = columns }
 
-abbrev pub solo_run : Settings → Index → ℕ → Request → Run
-solo_run settings index held request = run settings.limits (started (columns_held held)) (solo_steps settings index request)
-
-abbrev pub solo_holds : Settings → Index → ℕ → Request → List Amounts
-solo_holds settings index held request = holds_after settings.limits (started (columns_held held)) (solo_steps settings index request)
+-- the response is charged last
+abbrev pub response_steps : Outcome → List Step
+response_steps (ended.Response line) = charge_of AtRequest (length line)
+response_steps _ = []
 
 abbrev pub outcome_unless : Option Tripped → Outcome → Outcome
 outcome_unless None answer = answer
 outcome_unless (Some t) answer = ended.Tripped t
 
--- the first refused charge ends the search, and all that it holds is given back
-abbrev pub solo_outcome : Settings → Index → ℕ → Request → Outcome
-solo_outcome settings index held request = outcome_unless (solo_run settings index held request).refused (outcome index settings.max_buckets request)
+module _ (settings : Settings) (index : Index) where
+  -- a body is charged twice its bytes before it is read
+  abbrev pub body_charged : Run → Request → Run
+  body_charged start request = run settings.limits start (charge_of AtInflight (2 * request.bytes))
 
--- a refusal counts once, at the breaker that refused
-abbrev pub trips_of : Option Tripped → Amounts
-trips_of None = no_amounts
-trips_of (Some t) = one_at t.which
+  -- a body that is refused, or a search that is too wide, has no task
+  abbrev pub searched : Run → Option Search → Going
+  searched start None = begun start
+  searched start (Some search) = reduced settings.limits search settings.batch start (tasks_of index search)
+
+  abbrev pub outcome_with : Request → Going → Outcome
+  outcome_with request going = outcome index settings.max_buckets request going.failures
+
+  abbrev pub responded : Request → Going → Going
+  responded request going = record going { run = run settings.limits going.run (response_steps (outcome_with request going)) }
+
+  -- a request with all its charges, up to the refused one that ends it
+  abbrev pub solo_run : Run → Request → Going
+  solo_run start request = responded request (searched (body_charged start request) (running_search index settings.max_buckets request))
+
+  abbrev pub solo_answer : Run → Request → Answered
+  solo_answer start request =
+      let going = solo_run start request in
+      record { outcome = outcome_unless going.run.refused (outcome_with request going); failures = going.failures }
+
+  -- at the end of a request all that it holds is given back
+  abbrev pub after_request : Run → Request → Run
+  after_request start request = record (solo_run start request).run { holds = start.holds; refused = None }
+
+  -- the requests one after another: what they are granted and refused together
+  abbrev pub after_requests : Run → List Request → Run
+  after_requests start requests = fold after_request start requests
+
+-- a worker that has answered nothing since the columns were charged
+abbrev pub idle : ℕ → Run
+idle columns = started (columns_held columns)

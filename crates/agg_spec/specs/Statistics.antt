@@ -1,21 +1,18 @@
 -- What the statistics line may say after all searches ('Circuit breaker settings'; 'Nodes stats API', breakers).
-use Rattle.std.specs.Prelude.{◌≡◌, ◌≤◌, ℕ, ◌+◌, min, List, [], ◌∷◌, map, flat_map, length, sum, zip}
+use Rattle.std.specs.Prelude.{◌≡◌, ℕ, ◌==◌, ◌&&◌, Bool, true, false, min, List, flat_map}
 use Rattle.agg_model.specs.declared.breaker.Limits.{Limits}
 use Rattle.agg_model.specs.declared.breaker.BreakerStats.{BreakerStats}
 use Rattle.agg_model.specs.declared.breaker.Totals.{Totals}
-use Rattle.agg_model.specs.declared.settings.Settings.{Settings}
-use Rattle.agg_model.specs.declared.outcome.Outcome.{Outcome}
-use Rattle.agg_model.specs.declared.outcome.Outcome.TheVariants as ended
-use Rattle.agg_spec.specs.Index.{Index}
-use Rattle.agg_spec.specs.BucketCount.{greatest_count}
-use Rattle.agg_spec.specs.Outcome.{Request}
-use Rattle.agg_spec.specs.Charges.{Amounts, no_amounts, amount_at, one_at, amounts_sum}
-use Rattle.agg_spec.specs.Solo.{columns_held, solo_run, trips_of}
-use Rattle.agg_spec.specs.Wave.{body_refusals, body_charge}
-use Rattle.agg_spec.specs.Granted.{spent_on_bodies, spent_on_searches, least_on_searches}
-use Rattle.agg_model.specs.Breakers.{limit_of, overhead_of}
 use Rattle.agg_model.specs.declared.breaker.Which.{Which}
 use Rattle.agg_model.specs.declared.breaker.Which.TheVariants as at
+use Rattle.agg_model.specs.declared.settings.Settings.{Settings}
+use Rattle.agg_model.specs.Breakers.{limit_of, overhead_of}
+use Rattle.agg_spec.specs.Index.{Index}
+use Rattle.agg_spec.specs.BucketCount.{greatest_count}
+use Rattle.agg_spec.specs.Charges.{Amounts, amount_at, amounts_sum}
+use Rattle.agg_spec.specs.Solo.{columns_held, idle, after_requests}
+use Rattle.agg_spec.specs.Rounds.{Round}
+use Rattle.agg_spec.specs.Rises.{all_rises, RoseBy}
 
 -- totals stop at the greatest number of 64 bits
 abbrev pub total : ℕ → ℕ
@@ -39,52 +36,32 @@ totals_of limits held granted trips = record {
   parent = breaker_stats limits at.Parent held granted trips;
 }
 
-abbrev pub sum_of_amounts : List Amounts → Amounts
-sum_of_amounts [] = no_amounts
-sum_of_amounts (a ∷ rest) = amounts_sum a (sum_of_amounts rest)
+-- one worker that runs one search at a time
+abbrev pub is_solo : Settings → Bool
+is_solo settings = (settings.workers == 1) && (settings.width == 1)
 
--- the statistics where each search ran alone: the columns' charge, and the rises of all runs
-abbrev pub solo_totals : Settings → Index → ℕ → List Request → Totals
-solo_totals settings index held requests =
-    totals_of settings.limits held
-    (amounts_sum (columns_held held) (sum_of_amounts (map (λ r. (solo_run settings index held r).granted) requests)))
-    (sum_of_amounts (map (λ r. trips_of (solo_run settings index held r).refused) requests))
+module _ (settings : Settings) (index : Index) (columns : ℕ) where
+  -- the columns' charge, and what these rounds were granted and refused
+  abbrev pub totals_after : Amounts → Amounts → Totals
+  totals_after granted trips = totals_of settings.limits columns (amounts_sum (columns_held columns) granted) trips
 
--- searches that ran as one wave, and how they ended
-pub record Round : Type 0 where
-  pub requests : List Request
-  pub outcomes : List Outcome
+  -- where one worker runs one search at a time, the totals are those of its charges
+  abbrev pub solo_totals : List Round → Totals
+  solo_totals rounds =
+      let worked = after_requests settings index (idle columns) (flat_map (λ r. r.requests) rounds) in
+      totals_after worked.granted worked.trips
 
-abbrev pub trip_in : Outcome → Amounts
-trip_in (ended.Tripped t) = one_at t.which
-trip_in _ = no_amounts
+  -- else they are totals by which the breakers can have risen
+  pub record AreRises (rounds : List Round) (t : Totals) : Type 0 where
+    pub granted : Amounts
+    pub trips : Amounts
+    pub rose : RoseBy (all_rises index columns rounds) granted trips
+    pub totals : t ≡ totals_after granted trips
 
--- how many exception lines name each breaker
-abbrev pub exceptions : List Round → Amounts
-exceptions rounds = sum_of_amounts (map trip_in (flat_map (λ r. r.outcomes) rounds))
+  abbrev pub AreTotalsBy : Bool → List Round → Totals → Type 0
+  AreTotalsBy true rounds t = t ≡ solo_totals rounds
+  AreTotalsBy false rounds t = AreRises rounds t
 
-module _ (settings : Settings) (index : Index) (held : ℕ) where
-  -- the charges of the bodies of a wave that did not trip
-  abbrev pub granted_bodies : Round → ℕ
-  granted_bodies round =
-      sum (map (λ p. body_charge settings index held p.0 p.1) (zip (body_refusals settings index held 0 round.requests) round.requests))
-
-  abbrev pub sum_over : (List Request → ℕ) → List Round → ℕ
-  sum_over amount rounds = sum (map (λ r. amount r.requests) rounds)
-
-  -- What the statistics may say where searches ran side by side. Limits, overheads, what is held, and all numbers at
-  -- fielddata and inflight requests are exact.
-  pub record IsStatistics (rounds : List Round) (t : Totals) : Type 0 where
-    pub form : t ≡ totals_of settings.limits held
-        (record { request = t.request.granted; fielddata = held; inflight = sum (map granted_bodies rounds); parent = t.parent.granted })
-        (record { request = t.request.tripped; fielddata = (exceptions rounds).fielddata; inflight = (exceptions rounds).inflight; parent = t.parent.tripped })
-    pub request_trips : total (exceptions rounds).request ≤ t.request.tripped
-    pub parent_trips : total (exceptions rounds).parent ≤ t.parent.tripped
-    pub no_trips : exceptions rounds ≡ no_amounts → (t.request.tripped ≡ 0) × (t.parent.tripped ≡ 0)
-    pub request_at_least : exceptions rounds ≡ no_amounts → total (sum_over (least_on_searches settings index) rounds) ≤ t.request.granted
-    pub parent_at_least : exceptions rounds ≡ no_amounts →
-        total (held + sum_over spent_on_bodies rounds + sum_over (least_on_searches settings index) rounds) ≤ t.parent.granted
-    -- where each search has one batch
-    pub request_exactly : exceptions rounds ≡ no_amounts → length index.shards ≤ settings.batch → t.request.granted ≡ total (sum_over (spent_on_searches settings index) rounds)
-    pub parent_exactly : exceptions rounds ≡ no_amounts → length index.shards ≤ settings.batch →
-        t.parent.granted ≡ total (held + sum_over spent_on_bodies rounds + sum_over (spent_on_searches settings index) rounds)
+  -- the totals after these rounds, which ran since the settings came into force
+  abbrev pub AreTotals : List Round → Totals → Type 0
+  AreTotals rounds t = AreTotalsBy (is_solo settings) rounds t

@@ -12,13 +12,13 @@ use Rattle.agg_response.proofs.search_line.response.Goals as goal
 
 pub returns : goal.returns
 returns c =
-    let shown = (shards_member c.args.shards).1 in
+    let shown = (shards_member c.args.shards c.args.failures.now).1 in
     let answers = aggregations c.args.search.now.aggs c.args.answer.now.nodes in
     let behind = hits_member c.args.answer.now.hits ∷ (codes "status", count 200) ∷ (codes "timed_out", boolean false) ∷ (codes "took", count 0) ∷ [] in
     subst (λ ms. IfOk c.finished.result (λ t. t ≡ compact_text (object ms)))
     (ap (λ d. with_members ((codes "hits", d) ∷ (codes "status", count 200) ∷ (codes "timed_out", boolean false) ∷ (codes "took", count 0) ∷ [])
     (members_view c.in_ok-answered.answered.members.entries)) c.in_ok-hits.ensures
     ∙ ap (with_members behind) (c.in_ok-answered.ensures ∙ ap (with_members answers) (c.in_ok-opened.ensures
-    ∙ ap (with_member (codes "_shards") _) c.new.ensures ∙ ap (λ d. with_member (codes "_shards") d no_members) c.in_ok-shards_value.ensures))
+    ∙ ap (with_member (codes "_shards") _) c.new.ensures ∙ ap (λ d. with_member (codes "_shards") d no_members) c.in_ok-told.ensures))
     ∙ sym (with_members-append answers behind (with_member (codes "_shards") shown no_members)))
     c.finished.ensures
