@@ -18,7 +18,7 @@ use Rattle.agg_evaluation.specs.Groups.{under, group}
 use Rattle.agg_evaluation.specs.Trace.{is_global}
 use Rattle.agg_evaluation.specs.Trees.{is_ascending}
 use Rattle.agg_evaluation.specs.Ceiling.{Reached, path_count, counted_from}
-use Rattle.evaluation_laws.proofs.CostLaws.{at_most_once}
+use Rattle.agg_evaluation.proofs.KeyParts.{at_most_once}
 use Rattle.list_laws.proofs.Lists.{append-nil, sum_by-flat_map, sum_by-map}
 use Rattle.list_laws.proofs.Sums.{sum_by-either, sum_by-at_most, sum_by-plus, sum_by-zero, sum_by-times, sum_by-exchange, sum_by-where}
 
