@@ -1,11 +1,16 @@
 -- The folds on a level, as code makes it.
 use Rattle.std.specs.Prelude.{◌≡◌, refl, List, [], ◌∷◌, map}
 use Rattle.std.proofs.Common.{ap}
-use Rattle.agg_model.specs.declared.key.Key.{Key}
+use Rattle.agg_model.specs.declared.key.Key.{Key, out-Key, out-roll-Key}
 use Rattle.agg_model.specs.declared.key.Key.TheOpen.{Key-F}
 use Rattle.agg_model.specs.declared.key.Key.TheVariants as key
 use Rattle.agg_evaluation.specs.Folds.{fold_key, fold_keys}
 use Rattle.agg_evaluation.proofs.Computing.{computing}
+
+-- a key that was made of its parts has these parts
+pub out-Many : (ks : List Key) → out-Key (key.Many ks) ≡ Key-F.Many ks
+unfolding computing
+out-Many ks = out-roll-Key (Key-F.Many ks)
 
 module _ {A : Type 0} (step : Key-F A → A) where
   abbrev parts : Key → List A

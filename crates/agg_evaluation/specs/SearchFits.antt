@@ -8,8 +8,6 @@ use Rattle.agg_model.specs.declared.mapping.FieldKind.TheVariants.{Keyword, Bool
 use Rattle.agg_model.specs.declared.mapping.Mapping.{Mapping}
 use Rattle.agg_model.specs.declared.row.Scalar.{Scalar}
 use Rattle.agg_model.specs.declared.row.Scalar.TheVariants as scalar
-use Rattle.agg_model.specs.declared.key.Key.{Key}
-use Rattle.agg_model.specs.declared.key.Key.TheOpen.{Key-F}
 use Rattle.agg_model.specs.declared.aggregation.Agg.{Agg}
 use Rattle.agg_model.specs.declared.aggregation.Agg.TheOpen.{Agg-F}
 use Rattle.agg_model.specs.declared.aggregation.CompositeSource.{CompositeSource}
@@ -20,10 +18,11 @@ use Rattle.agg_model.specs.declared.aggregation.Order.{Order}
 use Rattle.agg_model.specs.declared.aggregation.OrderBy.{OrderBy}
 use Rattle.agg_model.specs.declared.aggregation.OrderBy.TheVariants as by
 use Rattle.agg_model.specs.declared.aggregation.Search.{Search}
-use Rattle.agg_evaluation.specs.Folds.{fold_agg, fold_key}
+use Rattle.agg_evaluation.specs.Folds.{fold_agg}
 use Rattle.agg_model.specs.Contexts.{encloses}
 use Rattle.agg_model.specs.BoundsOrder.{is_at_most, lies_within}
 use Rattle.agg_model.specs.FieldKinds.{is_whole_kind, fits_below}
+use Rattle.agg_evaluation.specs.CompositeKeys.{is_composite_of}
 use Rattle.agg_evaluation.specs.QueryFits.{field_is, are_probes, is_path_beneath, query_fits}
 
 -- the value of rows without one: of the field's kind, a whole number in 64 bits
@@ -50,6 +49,10 @@ order_fits children o = by_fits children o.by
 abbrev pub orders_fit : List Kind → List Order → Bool
 orders_fit children orders = nat_le 1 (length orders) && (nat_le (length orders) MAX_ORDERS && list_all (order_fits children) orders)
 
+-- an interval above 0 of 63 bits
+abbrev pub is_interval : ℕ → Bool
+is_interval n = nat_le 1 n && nat_lt n (2 ^ 63)
+
 abbrev pub is_whole_field : Mapping → ℕ → Option Scalar → Bool
 is_whole_field m field missing = field_is m (λ k. is_whole_kind k && is_missing k missing) field
 
@@ -60,14 +63,6 @@ interval_fits m field (Some interval) = nat_le 1 interval && field_is m is_whole
 
 abbrev pub source_fits : Mapping → CompositeSource → Bool
 source_fits m s = interval_fits m s.field s.interval
-
--- a key with as many parts as there are sources
-abbrev pub parts_of : Key-F (Option ℕ) → Option ℕ
-parts_of (Key-F.Many parts) = Some (length parts)
-parts_of _ = None
-
-abbrev pub has_parts : ℕ → Key → Bool
-has_parts n k = option_map_or (λ parts. parts == n) (fold_key parts_of k) false
 
 -- a context that encloses another strictly; the root encloses all others
 abbrev pub is_around : Mapping → ℕ → ℕ → Bool
@@ -92,7 +87,7 @@ kind_fits m top context children kind = elim (options_of kind) [
       && (nat_le 1 t.size && (nat_le t.size t.shard_size && (nat_le 1 t.min_doc_count && orders_fit children t.order)))
   | Options.Histogram h ↦
       is_whole_field m h.field h.missing
-      && (nat_le 1 h.interval && (nat_lt h.offset h.interval && (is_at_most h.extended.min h.extended.max && (is_at_most h.hard.min h.hard.max && (lies_within h.extended h.hard && orders_fit children h.order)))))
+      && (is_interval h.interval && (nat_lt h.offset h.interval && (is_at_most h.extended.min h.extended.max && (is_at_most h.hard.min h.hard.max && (lies_within h.extended h.hard && orders_fit children h.order)))))
   | Options.Filters names filters other ↦
       nat_le 1 (length filters) && (nat_le (length filters) MAX_FILTERS && (option_map_or (λ ns. length ns == length filters) names true && list_all (query_fits m context) filters))
   | Options.Filter query ↦ query_fits m context query
@@ -101,7 +96,7 @@ kind_fits m top context children kind = elim (options_of kind) [
   | Options.Nested inner ↦ is_within m context inner
   | Options.ReverseNested outer ↦ is_around m context outer
   | Options.Composite sources size after ↦
-      top && (nat_le 1 (length sources) && (nat_le (length sources) MAX_SOURCES && (list_all (source_fits m) sources && (nat_le 1 size && (nat_le size MAX_PAGE && option_map_or (has_parts (length sources)) after true)))))
+      top && (nat_le 1 (length sources) && (nat_le (length sources) MAX_SOURCES && (list_all (source_fits m) sources && (nat_le 1 size && (nat_le size MAX_PAGE && option_map_or (is_composite_of (length sources)) after true)))))
   | Options.Metric o ↦ metric_fits m kind o
 ]
 

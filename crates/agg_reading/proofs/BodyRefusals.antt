@@ -19,6 +19,7 @@ use Rattle.agg_reading.specs.Orders.{child_named, compared_by, resolved}
 use Rattle.agg_reading.specs.Aggregations.{is_aggregation_name, is_metric, is_top_kind, has_both, kind_member, kind_name, children_name}
 use Rattle.agg_reading.specs.Request.{Aggregated, aggregations_from, aggregations_at, children_of, children_in, is_childless, placed, assembled, counts_after, aggregation_of, aggregation_at, query_or_all, search_in, search_value_at, search_of}
 use Rattle.agg_reading.specs.Refusals.{body_refusals}
+use Rattle.agg_reading.proofs.Steps.{fails_bind}
 use Rattle.agg_reading.proofs.Refusing.{Refusing, value, refused, found, then, either, an_object, names, maybe, not_json, not_memory}
 use Rattle.agg_reading.proofs.QueryRefusals.{a_top_query, a_truth}
 use Rattle.agg_reading.proofs.KindRefusals.{a_kind}
@@ -116,6 +117,11 @@ lacks (Err Memory) f h e = cc
 pub json_lacks : (m : Mapping) (body : List ℕ) → search_of m body ≡ Err NotJson → json_at body ≡ Err NotJson
 unfolding search_of
 json_lacks m body e = lacks (json_at body) (search_value_at m (length body)) (a_search_value m (length body)) e
+
+-- and the search where the bytes do
+pub search_lacks : (m : Mapping) (body : List ℕ) → json_at body ≡ Err NotJson → search_of m body ≡ Err NotJson
+unfolding search_of
+search_lacks m body e = fails_bind NotJson (json_at body) (search_value_at m (length body)) e
 
 -- and memory never
 remembers : (o : Option Data) (f : Data → Reading Search) → ((d : Data) → Refusing body_refusals (f d)) → (or_not_json o >>= f) ≢ Err Memory

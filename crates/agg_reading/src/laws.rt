@@ -48,10 +48,11 @@ pub fn items_are_refused_by_their_own_numbers()
     ensures action { (m : Mapping) (action : Action) (store : Store) → RefusesWith item_refusals (applied m action store) }
 {}
 
-/// A body is never `NotJson` but where its bytes have no reading as JSON. What is read is refused with the numbers of
+/// A body is `NotJson` exactly where its bytes have no reading as JSON. What is read is refused with the numbers of
 /// bodies alone, and no definition lacks memory.
 pub fn bodies_are_refused_by_their_own_numbers()
     ensures json { (m : Mapping) (body : List ℕ) → search_of m body ≡ Err NotJson → json_at body ≡ Err NotJson }
+    ensures no_json { (m : Mapping) (body : List ℕ) → json_at body ≡ Err NotJson → search_of m body ≡ Err NotJson }
     ensures memory { (m : Mapping) (body : List ℕ) → search_of m body ≢ Err Memory }
     ensures numbers { (m : Mapping) (bytes : ℕ) (d : Data) → RefusesWith body_refusals (search_value_at m bytes d) }
 {}

@@ -3,3 +3,5 @@ pub mod Computing
 mod LimitTexts
 mod AcceptedWords
 mod RefusedWords
+pub mod ComputingLines
+mod ChangedSettings

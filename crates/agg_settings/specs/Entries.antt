@@ -1,5 +1,5 @@
 -- Entries `key=value` of the option `-E` (Elasticsearch Reference 8, 'Configuring Elasticsearch', 'Circuit breaker settings').
-use Rattle.std.specs.Prelude.{ℕ, ◌==◌, ◌^◌, List, Option, Some, None, Bool, false, if◌then◌else◌, codes, is_some, unwrap_or, option_and_then, fold}
+use Rattle.std.specs.Prelude.{ℕ, ◌==◌, List, Option, Some, None, Bool, false, if◌then◌else◌, codes, is_some, unwrap_or, option_and_then, fold}
 use Rattle.std.specs.List.{before_first, after_first}
 use Rattle.std.specs.Str.{bytes_eq}
 use Rattle.agg_model.specs.declared.limits.TheConstants.{DEFAULT_HEAP_SIZE, DEFAULT_MAX_BUCKETS, GREATEST_MAX_BUCKETS}

@@ -8,3 +8,6 @@ pub mod Generating
 pub mod Options
 pub mod Settings
 pub mod Ranges
+pub mod SettingsLines
+pub mod Changes
+pub mod ChangeFaults

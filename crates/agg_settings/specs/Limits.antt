@@ -1,5 +1,5 @@
 -- Limits of circuit breakers (Elasticsearch Reference 8, 'Circuit breaker settings').
-use Rattle.std.specs.Prelude.{◌≤◌, ℕ, ◌*◌, ◌/◌, ◌^◌, List, Option, Some, option_map, if◌then◌else◌, codes}
+use Rattle.std.specs.Prelude.{◌≤◌, ℕ, ◌*◌, ◌/◌, List, Option, Some, option_map, if◌then◌else◌, codes}
 use Rattle.std.specs.Str.{bytes_eq}
 use Rattle.agg_model.specs.declared.limits.TheConstants.{MAX_BYTE_SIZE}
 use Rattle.agg_settings.specs.Numbers.{number_in}

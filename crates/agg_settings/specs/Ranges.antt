@@ -1,5 +1,5 @@
 -- What holds of all settings that words give (Elasticsearch Reference 8, 'Circuit breaker settings', 'Search settings').
-use Rattle.std.specs.Prelude.{◌≡◌, ◌≤◌, ◌^◌, true}
+use Rattle.std.specs.Prelude.{◌≡◌, ◌≤◌, true}
 use Rattle.agg_model.specs.declared.limits.TheConstants.{GREATEST_MAX_BUCKETS, MAX_AT_ONCE, MAX_BATCH, MAX_BYTE_SIZE}
 use Rattle.agg_model.specs.declared.breaker.Limits.{Limits}
 use Rattle.agg_model.specs.declared.settings.Settings.{Settings}

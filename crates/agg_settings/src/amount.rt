@@ -108,7 +108,8 @@ pub(crate) fn bytes_in(heap: u64, amount: Amount) -> u64
 /// of `0`, a whole percentage from 0 to 100 with `%`, and a size up to 1pb. A size is digits and one of `b`, `kb`,
 /// `mb`, `gb`, `tb` and `pb`, its letters of either case, in powers of 1,024.
 pub fn byte_size(text: &[u8], heap: u64) -> Option<u64>
-    ensures { result ≡ limit_of heap text.now }
+    ensures value { result ≡ limit_of heap text.now }
+    ensures high { heap ≤ MAX_BYTE_SIZE → IfSome result (λ n. n ≤ MAX_BYTE_SIZE) }
 {
     match amount_of(text) {
         Some(amount) => Some(bytes_in(heap, amount)),

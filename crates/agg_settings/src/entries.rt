@@ -5,26 +5,13 @@ ghost use Rattle.agg_settings.specs.Entries.{key_of, value_of, is_taken, is_entr
 ghost use Rattle.agg_settings.specs.Ranges.{AreLimits};
 
 use crate::amount::{Amount, amount_of, bytes_in, size_from};
+use crate::names::{FIELDDATA, HEAP_SIZE, INFLIGHT, MAX_BUCKETS, REAL_MEMORY, REQUEST, TOTAL};
 use crate::numbers::number_in;
 use crate::values::parts;
 use agg_model::Limits;
 use agg_model::limits::{
     DEFAULT_HEAP_SIZE, DEFAULT_MAX_BUCKETS, GREATEST_MAX_BUCKETS, MAX_BYTE_SIZE,
 };
-
-const HEAP_SIZE: &str = "heap_size";
-
-const MAX_BUCKETS: &str = "search.max_buckets";
-
-const TOTAL: &str = "indices.breaker.total.limit";
-
-const REQUEST: &str = "indices.breaker.request.limit";
-
-const FIELDDATA: &str = "indices.breaker.fielddata.limit";
-
-const INFLIGHT: &str = "network.breaker.inflight_requests.limit";
-
-const REAL_MEMORY: &str = "indices.breaker.total.use_real_memory";
 
 /// The key and the value of an entry.
 pub(crate) fn entry_parts(entry: &str) -> (&str, &str)

@@ -1,7 +1,10 @@
 use crate::amount::byte_size;
+use crate::change_fault::ChangeFault;
 use crate::fault::SettingsFault;
 use crate::settings::settings_of;
+use crate::settings_line::{change, is_settings_line};
 use agg_model::{Generate, Limits, Settings, Text};
+use json_walk::reading;
 use std::alloc::{AllocError, Global};
 use std::test::Fail;
 
@@ -222,4 +225,144 @@ fn a_limit_is_in_bytes_or_a_share_of_the_heap(rt: HostRuntime) {
     assert!(rt; byte_size(b"007%", 1_999) == Some(139));
     assert!(rt; byte_size(b"3Mb", 1_999) == Some(3_145_728));
     assert!(rt; byte_size(b"00", 1_999) == None);
+}
+
+const IN_FORCE: Settings = Settings {
+    workers: 1,
+    batch: 2,
+    width: 1,
+    limits: Limits {
+        request: 1,
+        fielddata: 2,
+        inflight: 3,
+        parent: 4,
+    },
+    heap: 1_073_741_824,
+    max_buckets: 5,
+    scan: false,
+    generate: None,
+};
+
+/// What a settings line makes of `IN_FORCE`, where the words gave `PLAIN`.
+fn changed(alloc: Global, line: &str) -> Result<Result<Settings, ChangeFault>, Fail> {
+    match reading(alloc, line.as_bytes())? {
+        Some(line) if is_settings_line(&line) => Ok(change(alloc, &IN_FORCE, &PLAIN, &line)),
+        _ => Err(Fail::new("no settings line")),
+    }
+}
+
+#[test]
+fn a_settings_line_changes_what_it_names(rt: HostRuntime) -> Result<(), Fail> {
+    let limits = IN_FORCE.limits;
+    for (line, wanted) in [
+        (r#"{"persistent":{}}"#, IN_FORCE),
+        (
+            r#"{"persistent":{"indices.breaker.request.limit":"4866b"}}"#,
+            Settings {
+                limits: Limits {
+                    request: 4_866,
+                    ..limits
+                },
+                ..IN_FORCE
+            },
+        ),
+        (
+            r#"{"transient":{"indices.breaker.fielddata.limit":"18b"}}"#,
+            Settings {
+                limits: Limits {
+                    fielddata: 18,
+                    ..limits
+                },
+                ..IN_FORCE
+            },
+        ),
+        (
+            r#"{"transient":{"indices.breaker.total.limit":"50%","network.breaker.inflight_requests.limit":null}}"#,
+            Settings {
+                limits: Limits {
+                    inflight: 1_073_741_824,
+                    parent: 536_870_912,
+                    ..limits
+                },
+                ..IN_FORCE
+            },
+        ),
+        (
+            r#"{"persistent":{"batched_reduce_size":"0003","search.max_buckets":1000000}}"#,
+            Settings {
+                batch: 3,
+                max_buckets: 1_000_000,
+                ..IN_FORCE
+            },
+        ),
+        (
+            r#"{"persistent":{"batched_reduce_size":null,"search.max_buckets":null}}"#,
+            Settings {
+                batch: 512,
+                max_buckets: 65_536,
+                ..IN_FORCE
+            },
+        ),
+    ] {
+        assert!(rt; changed(rt.alloc(), line)? == Ok(wanted), "{line}");
+    }
+    Ok(())
+}
+
+#[test]
+fn a_settings_line_is_refused_with_its_first_bad_name(rt: HostRuntime) -> Result<(), Fail> {
+    for (line, wanted) in [
+        (r#"{"persistent":5}"#, "persistent"),
+        (r#"{"transient":null}"#, "transient"),
+        (r#"{"persistent":{"x":1}}"#, "x"),
+        (r#"{"persistent":{"heap_size":"1gb"}}"#, "heap_size"),
+        (
+            r#"{"persistent":{"indices.breaker.total.limit":"x","b":1}}"#,
+            "b",
+        ),
+        (
+            r#"{"persistent":{"indices.breaker.total.limit":5}}"#,
+            "indices.breaker.total.limit",
+        ),
+        (
+            r#"{"persistent":{"batched_reduce_size":1}}"#,
+            "batched_reduce_size",
+        ),
+        (
+            r#"{"persistent":{"search.max_buckets":"-1"}}"#,
+            "search.max_buckets",
+        ),
+        (
+            r#"{"persistent":{"search.max_buckets":1.5}}"#,
+            "search.max_buckets",
+        ),
+    ] {
+        let refused = match changed(rt.alloc(), line)? {
+            Err(ChangeFault::Refused { key }) => key.as_str() == wanted,
+            _ => false,
+        };
+        assert!(rt; refused, "{line}");
+    }
+    Ok(())
+}
+
+/// Whether a JSON text is a settings line.
+fn is_line(alloc: Global, text: &str) -> Result<bool, Fail> {
+    match reading(alloc, text.as_bytes())? {
+        Some(value) => Ok(is_settings_line(&value)),
+        None => Err(Fail::new("no JSON")),
+    }
+}
+
+#[test]
+fn a_header_is_no_settings_line(rt: HostRuntime) -> Result<(), Fail> {
+    for line in [
+        "{}",
+        r#"{"persistent":{},"x":1}"#,
+        r#"{"index":"i"}"#,
+        r#"["persistent"]"#,
+    ] {
+        assert!(rt; !is_line(rt.alloc(), line)?, "{line}");
+    }
+    Ok(())
 }

@@ -18,12 +18,3 @@ mod StatusExamples
 mod TermsExamples
 mod WaveExamples
 mod WorkersExamples
-pub mod FallingCounts
-pub mod GroupSums
-pub mod SearchAnswers
-pub mod ShardBounds
-pub mod SumLaws
-pub mod TermsAddUp
-pub mod TermsBounds
-pub mod TermsTotals
-pub mod TermsWithin

@@ -1,8 +1,6 @@
 pub mod CountErrors
 pub mod Filling
 pub mod Final
-pub mod TermsSums
-pub mod TermsErrors
 pub mod BucketCount
 pub mod GapCount
 pub mod RangeCheck

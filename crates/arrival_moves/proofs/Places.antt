@@ -54,12 +54,12 @@ all_next q [] = refl
 all_next q (x ∷ xs) = let a = all_next q xs in let b = before_next x q in let c = sum_by-cons (λ y. one_if (ltb y q)) x xs in let d = sum_by-cons (λ y. one_if (eqb y q)) x xs in let e = sum_by-cons (λ y. one_if (ltb y (suc q))) x xs in omega arith
 
 -- no search is before the first
-none_before : (xs : List ℕ) → before 0 xs ≡ 0
+pub none_before : (xs : List ℕ) → before 0 xs ≡ 0
 none_before [] = refl
 none_before (x ∷ xs) = let a = none_before xs in let c = sum_by-cons (λ y. one_if (ltb y 0)) x xs in let d = lt_none x 0 (omega arith) in omega arith
 
 -- and all are before the number of searches
-all_below : (n : ℕ) (xs : List ℕ) → ((k : ℕ) → k < length xs → get_or xs k 0 < n) → before n xs ≡ length xs
+pub all_below : (n : ℕ) (xs : List ℕ) → ((k : ℕ) → k < length xs → get_or xs k 0 < n) → before n xs ≡ length xs
 all_below n [] h = refl
 all_below n (x ∷ xs) h = let a = all_below n xs (λ k l. h (suc k) (omega arith)) in let c = sum_by-cons (λ y. one_if (ltb y n)) x xs in let z : x < n = h 0 (omega arith) in let d = lt_one x n z in omega arith
 

@@ -40,7 +40,7 @@ module _ {A R : Type 0} (load : A → Label) (outcome : R → Label) (p : Plan) 
   M = Me (Cell A R) Known
 
   -- after one move more the rule holds again
-  pub again : (s t : S) (r : IsReached load outcome p s) (m : Move) (k : ArrivalState) → move p (run p r.0) m ≡ k → IsStateOf load outcome p k t → OutOnce t.homes t.views → IsReached load outcome p t
+  unfoldable pub again : (s t : S) (r : IsReached load outcome p s) (m : Move) (k : ArrivalState) → move p (run p r.0) m ≡ k → IsStateOf load outcome p k t → OutOnce t.homes t.views → IsReached load outcome p t
   again s t r m k e h o = let now : run p (r.0 ++ m ∷ []) ≡ k = fold-append (move p) (opened p) r.0 (m ∷ []) ∙ e in (r.0 ++ m ∷ [], subst (λ z. IsStateOf load outcome p z t) (sym now) h, o)
 
   -- the view of a desk, and of all desks after one changed
@@ -50,7 +50,7 @@ module _ {A R : Type 0} (load : A → Label) (outcome : R → Label) (p : Plan) 
   pub desks_now : (s : S) (k : ArrivalState) (id : ℕ) (w : Known) → IsStateOf load outcome p k s → map (λ (d : Known). d.view) (set s.views id w) ≡ set k.desks id w.view
   desks_now s k id w h = views_set s.views id w ∙ ap (λ vs. set vs id w.view) h.desks
 
-  pub allows_claim : (slots id : ℕ) (me : M) → 1 ≤ me.0.view.left → Allows (IsReached load outcome p) slots id me 0 (λ n. (n + 1) % 2 ^ 64) (Claims load outcome p (step slots 0 1 0 none) me)
+  unfoldable pub allows_claim : (slots id : ℕ) (me : M) → 1 ≤ me.0.view.left → Allows (IsReached load outcome p) slots id me 0 (λ n. (n + 1) % 2 ^ 64) (Claims load outcome p (step slots 0 1 0 none) me)
   allows_claim slots id me some_left s r _ here fits = let k : ArrivalState = run p r.0 in let f = kept_run p good r.0 in let v : View = me.0.view in let n : ℕ = get_or s.words 0 0 in
       let is : n ≡ k.claimed = ap (λ ws. get_or ws 0 0) r.1.words in
       let there : get_elem? k.desks id ≡ some v = desk_there s k id me.0 r.1 here in
@@ -93,7 +93,7 @@ module _ {A R : Type 0} (load : A → Label) (outcome : R → Label) (p : Plan) 
   pub found_counts : (f : Item → ℕ) (is : Item → Bool) (vs : List View) (i : ℕ) (v : View) (x : Item) → get_elem? vs i ≡ some v → find_item is v.hand ≡ some x → f x ≤ in_hands f vs
   found_counts f is vs i v x here found = let a = exchanged_sum f is [] v.hand x found in let b = sum_by_has (in_hand f) vs i v here in omega arith
 
-  pub allows_take : (slots id k : ℕ) (me : M) (x : Item) → find_item (is_claimed k) me.0.view.hand ≡ some x → Allows (IsReached load outcome p) slots id me 0 (λ n. n) (TakesTask load outcome k (step slots 0 0 0 none) me)
+  unfoldable pub allows_take : (slots id k : ℕ) (me : M) (x : Item) → find_item (is_claimed k) me.0.view.hand ≡ some x → Allows (IsReached load outcome p) slots id me 0 (λ n. n) (TakesTask load outcome k (step slots 0 0 0 none) me)
   allows_take slots id k me x found s r _ here fits = let b : ArrivalState = run p r.0 in let f = kept_run p good r.0 in let v : View = me.0.view in
       let there : get_elem? b.desks id ≡ some v = desk_there s b id me.0 r.1 here in
       let is : x ≡ Claimed k = as_claimed k x (found_is (is_claimed k) v.hand x found) in let same : claimed_at k x ≡ claimed_at k (Claimed k) = ap (claimed_at k) is in let one = eq_one k k refl in let many = found_counts (claimed_at k) (is_claimed k) b.desks id v x there found in
@@ -117,7 +117,7 @@ module _ {A R : Type 0} (load : A → Label) (outcome : R → Label) (p : Plan) 
   allows_take_at l slots id k z me x e g found = let Q : Plan × ℕ → Type 0 = λ y. Allows (IsReached load outcome y.0) slots id me 0 (λ n. n) (TakesTask load outcome y.1 (step slots 0 0 0 none) me) in
       subst Q (λ i. (sym e i, sym g i)) (allows_take slots id k me x found)
 
-  pub allows_arrive : (slots id k : ℕ) (me : M) (x : Item) → find_item (is_loaded k) me.0.view.hand ≡ some x → Allows (IsReached load outcome p) slots id me (suc (search_of p k)) (λ n. (n + 1) % 2 ^ 64) (Arrives load outcome p k (step slots (suc (search_of p k)) 1 0 none) me)
+  unfoldable pub allows_arrive : (slots id k : ℕ) (me : M) (x : Item) → find_item (is_loaded k) me.0.view.hand ≡ some x → Allows (IsReached load outcome p) slots id me (suc (search_of p k)) (λ n. (n + 1) % 2 ^ 64) (Arrives load outcome p k (step slots (suc (search_of p k)) 1 0 none) me)
   allows_arrive slots id k me x found s r _ here fits = let b : ArrivalState = run p r.0 in let f = kept_run p good r.0 in let v : View = me.0.view in let q : ℕ = search_of p k in let n : ℕ = get_or s.words (suc q) 0 in let t : ℕ = get_or b.tickets q 0 in
       let there : get_elem? b.desks id ≡ some v = desk_there s b id me.0 r.1 here in
       let go = arrived p good b id k v x f.shape f.words there found in
@@ -146,7 +146,7 @@ module _ {A R : Type 0} (load : A → Label) (outcome : R → Label) (p : Plan) 
       subst Q (λ i. (sym e i, sym g i, sym a i, sym b i)) (allows_arrive slots id k me x found)
 
   -- a slot that is out holds nothing in the state, so it may go back with any value
-  pub allows_give_back : (slots id j : ℕ) (v : View) (c : Cell A R) → Allows (IsReached load outcome p) slots id (now_has_out (knows v) v j, (j, c) ∷ []) 0 (λ n. n) (GivesBack load outcome (step slots 0 0 0 none) (now_has_out (knows v) v j, (j, c) ∷ []))
+  unfoldable pub allows_give_back : (slots id j : ℕ) (v : View) (c : Cell A R) → Allows (IsReached load outcome p) slots id (now_has_out (knows v) v j, (j, c) ∷ []) 0 (λ n. n) (GivesBack load outcome (step slots 0 0 0 none) (now_has_out (knows v) v j, (j, c) ∷ []))
   allows_give_back slots id j v c s r _ here fits = let b : ArrivalState = run p r.0 in let d : Known = now_has_out (knows v) v j in let w : Known = knows v in
       let ts : List (Option (Cell A R)) = set s.homes j (some c) in
       let away : (h : Option (Cell A R)) → get_elem? s.homes j ≡ some h → is_away h ≡ 1 = λ h e. out_away s.homes s.views id j d [] h r.2 here refl e in

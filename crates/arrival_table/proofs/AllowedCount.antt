@@ -29,7 +29,7 @@ module _ {A R : Type 0} (load : A → Label) (outcome : R → Label) (p : Plan) 
   abbrev M : Type 0
   M = Me (Cell A R) Known
 
-  pub allows_count : (slots id q t j : ℕ) (me : M) (x : Item) → find_item (is_put q t) me.0.view.hand ≡ some x → j ≡ p.searches + place_of p q (t / p.batch)
+  unfoldable pub allows_count : (slots id q t j : ℕ) (me : M) (x : Item) → find_item (is_put q t) me.0.view.hand ≡ some x → j ≡ p.searches + place_of p q (t / p.batch)
       → Allows (IsReached load outcome p) slots id me (suc j) (λ n. (n + 1) % 2 ^ 64) (Counts load outcome p q t (step slots (suc j) 1 0 none) me)
   allows_count slots id q t j me x found at s r _ here fits = let b : ArrivalState = run p r.0 in let f = kept_run p good r.0 in let v : View = me.0.view in let d : ℕ = t / p.batch in let c : ℕ = place_of p q d in let n : ℕ = get_or s.words (suc j) 0 in let m : ℕ = get_or b.counts c 0 in
       let there : get_elem? b.desks id ≡ some v = desk_there load outcome p good s b id me.0 r.1 here in

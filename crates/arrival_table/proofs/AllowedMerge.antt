@@ -51,7 +51,7 @@ batch_at_slot q b (Put z) h = absurd (false≢true h)
 batch_at_slot q b (Batch z) h = refl
 batch_at_slot q b (Closed z) h = absurd (false≢true h)
 
-label_is : (s : ArrivalState) (act : Label → ArrivalState) (o : Option Slot) (l : Label) → o ≡ some (holds l) → move_label s act o ≡ act l
+pub label_is : (s : ArrivalState) (act : Label → ArrivalState) (o : Option Slot) (l : Label) → o ≡ some (holds l) → move_label s act o ≡ act l
 unfolding move_label
 label_is s act o l e = ap (move_label s act) e
 
@@ -60,7 +60,7 @@ module _ {A R : Type 0} (load : A → Label) (outcome : R → Label) (p : Plan) 
   M = Me (Cell A R) Known
 
   -- the result of a due ticket is taken
-  pub allows_take_result : (slots id q t : ℕ) (me : M) (x : Item) → find_item (is_batch q (t / p.batch)) me.0.view.hand ≡ some x → is_due t x ≡ true
+  unfoldable pub allows_take_result : (slots id q t : ℕ) (me : M) (x : Item) → find_item (is_batch q (t / p.batch)) me.0.view.hand ≡ some x → is_due t x ≡ true
       → Allows (IsReached load outcome p) slots id me 0 (λ n. n) (TakesResult load outcome p q t (step slots 0 0 0 none) me)
   allows_take_result slots id q t me x found due s r _ here fits = let b : ArrivalState = run p r.0 in let f = kept_run p good r.0 in let v : View = me.0.view in let j : ℕ = place_of p q t in let at : ℕ = task_count p + j in
       let there : get_elem? b.desks id ≡ some v = desk_there load outcome p good s b id me.0 r.1 here in
@@ -86,7 +86,7 @@ module _ {A R : Type 0} (load : A → Label) (outcome : R → Label) (p : Plan) 
       )
 
   -- the desk comes to the slot of its batch, and then the merged result is in it
-  pub allows_reach : (slots id q c : ℕ) (me : M) (x : Item) (l : Label) → find_item (is_batch q c) me.0.view.hand ≡ some x → is_at_slot x ≡ false → may_put_merged l x ≡ true
+  unfoldable pub allows_reach : (slots id q c : ℕ) (me : M) (x : Item) (l : Label) → find_item (is_batch q c) me.0.view.hand ≡ some x → is_at_slot x ≡ false → may_put_merged l x ≡ true
       → Allows (IsReached load outcome p) slots id me 0 (λ n. n) (ReachesBatch load outcome p q c (step slots 0 0 0 none) me)
   allows_reach slots id q c me x l found shut may s r _ here fits = let b : ArrivalState = run p r.0 in let f = kept_run p good r.0 in let v : View = me.0.view in let j : ℕ = place_of p q c in let at : ℕ = task_count p + task_count p + j in
       let there : get_elem? b.desks id ≡ some v = desk_there load outcome p good s b id me.0 r.1 here in
@@ -107,7 +107,7 @@ module _ {A R : Type 0} (load : A → Label) (outcome : R → Label) (p : Plan) 
         (x, found, refl, range),
       )
 
-  pub allows_put_merged : (slots id q c : ℕ) (v : View) (x : Item) (y : R) → task_count p + task_count p + task_count p ≤ slots → find_item (is_batch q c) v.hand ≡ some x → is_at_slot x ≡ true → may_put_merged (outcome y) x ≡ true
+  unfoldable pub allows_put_merged : (slots id q c : ℕ) (v : View) (x : Item) (y : R) → task_count p + task_count p + task_count p ≤ slots → find_item (is_batch q c) v.hand ≡ some x → is_at_slot x ≡ true → may_put_merged (outcome y) x ≡ true
       → let me : M = (now_has_out (knows v) v (batch_slot p q c), (batch_slot p q c, Outcome y) ∷ []) in Allows (IsReached load outcome p) slots id me 0 (λ n. n) (PutsMerged load outcome q c (step slots 0 0 0 none) me)
   allows_put_merged slots id q c v x y wide found open_now may s r len here fits = let b : ArrivalState = run p r.0 in let f = kept_run p good r.0 in let j : ℕ = place_of p q c in let at : ℕ = task_count p + task_count p + j in let l : Label = outcome y in
       let was : Known = now_has_out (knows v) v at in let there : get_elem? b.desks id ≡ some v = desk_there load outcome p good s b id was r.1 here in

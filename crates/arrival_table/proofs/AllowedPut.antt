@@ -33,7 +33,7 @@ use Rattle.arrival_table.proofs.Outs.{out_taken, out_given}
 use Rattle.place_laws.proofs.Places.{there_below}
 
 -- a desk that is not yet at the slot may come to it
-away_may : (q t : ℕ) (v : View) (l : Label) (x : Item) → is_arrived q t x ≡ true → is_at_slot x ≡ false → may_put v q l x ≡ true
+pub away_may : (q t : ℕ) (v : View) (l : Label) (x : Item) → is_arrived q t x ≡ true → is_at_slot x ≡ false → may_put v q l x ≡ true
 away_may q t v l (Claimed j) h e = absurd (false≢true h)
 away_may q t v l (Loaded z) h e = absurd (false≢true h)
 away_may q t v l (Arrived z) h e = or_left (not z.at_slot) _ (ap not e)
@@ -63,7 +63,7 @@ module _ {A R : Type 0} (load : A → Label) (outcome : R → Label) (p : Plan) 
   M = Me (Cell A R) Known
 
   -- the desk comes to the slot, and then the result is in it
-  pub allows_reach : (slots id q t : ℕ) (me : M) (x : Item) (l : Label) → find_item (is_arrived q t) me.0.view.hand ≡ some x → is_at_slot x ≡ false → may_put me.0.view q l x ≡ true
+  unfoldable pub allows_reach : (slots id q t : ℕ) (me : M) (x : Item) (l : Label) → find_item (is_arrived q t) me.0.view.hand ≡ some x → is_at_slot x ≡ false → may_put me.0.view q l x ≡ true
       → Allows (IsReached load outcome p) slots id me 0 (λ n. n) (ReachesResult load outcome p q t (step slots 0 0 0 none) me)
   allows_reach slots id q t me x l found shut may s r _ here fits = let b : ArrivalState = run p r.0 in let f = kept_run p good r.0 in let v : View = me.0.view in let j : ℕ = place_of p q t in let at : ℕ = task_count p + j in
       let there : get_elem? b.desks id ≡ some v = desk_there load outcome p good s b id me.0 r.1 here in
@@ -84,7 +84,7 @@ module _ {A R : Type 0} (load : A → Label) (outcome : R → Label) (p : Plan) 
         (x, found, refl, in_range p good b id q t v x f.shape f.words f.results there found),
       )
 
-  pub allows_put : (slots id q t : ℕ) (v : View) (x : Item) (y : R) → task_count p + task_count p ≤ slots → find_item (is_arrived q t) v.hand ≡ some x → is_at_slot x ≡ true → may_put v q (outcome y) x ≡ true
+  unfoldable pub allows_put : (slots id q t : ℕ) (v : View) (x : Item) (y : R) → task_count p + task_count p ≤ slots → find_item (is_arrived q t) v.hand ≡ some x → is_at_slot x ≡ true → may_put v q (outcome y) x ≡ true
       → let me : M = (now_has_out (knows v) v (result_slot p q t), (result_slot p q t, Outcome y) ∷ []) in Allows (IsReached load outcome p) slots id me 0 (λ n. n) (PutsResult load outcome q t (step slots 0 0 0 none) me)
   allows_put slots id q t v x y wide found open_now may s r len here fits = let b : ArrivalState = run p r.0 in let f = kept_run p good r.0 in let j : ℕ = place_of p q t in let at : ℕ = task_count p + j in let l : Label = outcome y in
       let was : Known = now_has_out (knows v) v at in let there : get_elem? b.desks id ≡ some v = desk_there load outcome p good s b id was r.1 here in

@@ -25,7 +25,7 @@ module _ {A R : Type 0} (load : A → Label) (outcome : R → Label) (p : Plan) 
   abbrev S : Type 0
   S = State (Cell A R) Known
 
-  pub splits : (id k : ℕ) (d : Known) → k ≤ d.view.left → Splits (IsReached load outcome p) id d (now_knows d (after_split d.view k)) (knows (split_off k))
+  unfoldable pub splits : (id k : ℕ) (d : Known) → k ≤ d.view.left → Splits (IsReached load outcome p) id d (now_knows d (after_split d.view k)) (knows (split_off k))
   splits id k d less s r here = let b : ArrivalState = run p r.0 in let v : View = d.view in let there : get_elem? b.desks id ≡ some v = desk_there load outcome p good s b id d r.1 here in
       let left : Known = now_knows d (after_split v k) in let right : Known = knows (split_off k) in
       let t : S = record { words = s.words; homes = s.homes; views = set s.views id left ++ right ∷ [] } in
@@ -47,11 +47,11 @@ module _ {A R : Type 0} (load : A → Label) (outcome : R → Label) (p : Plan) 
   bare xs e = ap is_empty e
 
   -- the move of a join, for two desks that are there
-  joined : (b : ArrivalState) (i j : ℕ) (v w : View) → j ≢ i → get_elem? b.desks i ≡ some v → get_elem? b.desks j ≡ some w → w.hand ≡ [] → move p b (join i j) ≡ record b { desks = set (set b.desks i (after_join v w)) j spent_view }
+  pub joined : (b : ArrivalState) (i j : ℕ) (v w : View) → j ≢ i → get_elem? b.desks i ≡ some v → get_elem? b.desks j ≡ some w → w.hand ≡ [] → move p b (join i j) ≡ record b { desks = set (set b.desks i (after_join v w)) j spent_view }
   joined b i j v w n e d h = move_desk_is b i (λ _. not (eqb i j)) (λ v. move_desk b j (λ w. is_empty w.hand) (λ w. record b { desks = set (set b.desks i (after_join v w)) j spent_view })) v e (apart i j n)
       ∙ move_desk_is b j (λ w. is_empty w.hand) (λ w. record b { desks = set (set b.desks i (after_join v w)) j spent_view }) w d (bare w.hand h)
 
-  pub joins : (id other : ℕ) (d e : Known) → e ≡ knows e.view → e.view.hand ≡ [] → Joins (IsReached load outcome p) id d other e (now_knows d (after_join d.view e.view)) (knows spent_view)
+  unfoldable pub joins : (id other : ℕ) (d e : Known) → e ≡ knows e.view → e.view.hand ≡ [] → Joins (IsReached load outcome p) id d other e (now_knows d (after_join d.view e.view)) (knows spent_view)
   joins id other d e none_out empty s r here apart_from there_set = let b : ArrivalState = run p r.0 in let both : Known = now_knows d (after_join d.view e.view) in let spent : Known = knows spent_view in
       let away : other ≢ id = λ y. apart_from y in
       let other_there : get_elem? s.views other ≡ some e = sym (set_else s.views id other both away) ∙ there_set in

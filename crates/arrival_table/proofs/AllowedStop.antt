@@ -23,7 +23,7 @@ use Rattle.arrival_table.proofs.Allowed.{again, desk_there, desks_now}
 use Rattle.arrival_table.proofs.Lists.{set_word, get_right, set_right}
 use Rattle.arrival_table.proofs.Outs.{out_stays}
 
-or_one : (n : ℕ) → n ≤ 1 → bit_or n 1 ≡ 1
+pub or_one : (n : ℕ) → n ≤ 1 → bit_or n 1 ≡ 1
 or_one zero h = refl
 or_one (suc zero) h = refl
 or_one (suc (suc n)) h = absurd (omega arith)
@@ -36,7 +36,7 @@ module _ {A R : Type 0} (load : A → Label) (outcome : R → Label) (p : Plan) 
   abbrev pub stop_at : ℕ → ℕ
   stop_at q = suc (p.searches + (task_count p + q))
 
-  pub allows_stop : (slots id k : ℕ) (me : M) (x : Item) → find_item (is_loaded k) me.0.view.hand ≡ some x → Allows (IsReached load outcome p) slots id me (stop_at (search_of p k)) (λ n. bit_or n 1) (Stops load outcome k (step slots (stop_at (search_of p k)) 1 0 none) me)
+  unfoldable pub allows_stop : (slots id k : ℕ) (me : M) (x : Item) → find_item (is_loaded k) me.0.view.hand ≡ some x → Allows (IsReached load outcome p) slots id me (stop_at (search_of p k)) (λ n. bit_or n 1) (Stops load outcome k (step slots (stop_at (search_of p k)) 1 0 none) me)
   allows_stop slots id k me x found s r _ here fits = let b : ArrivalState = run p r.0 in let f = kept_run p good r.0 in let v : View = me.0.view in let q : ℕ = search_of p k in let j : ℕ = p.searches + (task_count p + q) in let n : ℕ = get_or s.words (suc j) 0 in
       let there : get_elem? b.desks id ≡ some v = desk_there load outcome p good s b id me.0 r.1 here in
       let start : j ≡ length b.tickets + (task_count p + q) = (let l = f.shape.tickets in omega arith) in let next : task_count p + q ≡ length b.counts + q = (let l = f.shape.counts in omega arith) in
@@ -55,7 +55,7 @@ module _ {A R : Type 0} (load : A → Label) (outcome : R → Label) (p : Plan) 
         refl,
       )
 
-  pub allows_read : (slots id q : ℕ) (me : M) → Allows (IsReached load outcome p) slots id me (stop_at q) (λ n. n) (ReadsStop load outcome q (step slots (stop_at q) 0 0 none) me)
+  unfoldable pub allows_read : (slots id q : ℕ) (me : M) → Allows (IsReached load outcome p) slots id me (stop_at q) (λ n. n) (ReadsStop load outcome q (step slots (stop_at q) 0 0 none) me)
   allows_read slots id q me s r _ here fits = let b : ArrivalState = run p r.0 in let f = kept_run p good r.0 in let v : View = me.0.view in let j : ℕ = p.searches + (task_count p + q) in let n : ℕ = get_or s.words (suc j) 0 in
       let there : get_elem? b.desks id ≡ some v = desk_there load outcome p good s b id me.0 r.1 here in
       let start : j ≡ length b.tickets + (task_count p + q) = (let l = f.shape.tickets in omega arith) in let next : task_count p + q ≡ length b.counts + q = (let l = f.shape.counts in omega arith) in
@@ -75,7 +75,7 @@ module _ {A R : Type 0} (load : A → Label) (outcome : R → Label) (p : Plan) 
         (refl, omega arith),
       )
 
-  pub allows_look : (slots id : ℕ) (me : M) → Allows (IsReached load outcome p) slots id me 0 (λ n. n) (Looks load outcome (step slots 0 0 0 none) me)
+  unfoldable pub allows_look : (slots id : ℕ) (me : M) → Allows (IsReached load outcome p) slots id me 0 (λ n. n) (Looks load outcome (step slots 0 0 0 none) me)
   allows_look slots id me s r _ here fits = let b : ArrivalState = run p r.0 in let f = kept_run p good r.0 in let v : View = me.0.view in
       let there : get_elem? b.desks id ≡ some v = desk_there load outcome p good s b id me.0 r.1 here in
       let has = sum_by_has (λ (u : View). u.left + u.drawn) b.desks id v there in let whole = f.claims.whole in (

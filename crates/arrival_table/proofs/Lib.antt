@@ -1,6 +1,7 @@
 pub mod Lists
 pub mod Outs
 pub mod Desks
+pub mod Filled
 pub mod Starts
 pub mod Guards
 pub mod Allowed
@@ -9,6 +10,7 @@ pub mod AllowedCount
 pub mod AllowedMerge
 pub mod AllowedStop
 pub mod AllowedShare
-pub mod Filled
 pub mod Opened
 pub mod OneItem
+pub mod Closed
+pub mod OneMove

@@ -1,6 +1,5 @@
 -- A word among the words of the table.
 use Rattle.std.proofs.Common.{◌≡◌, ℕ, zero, suc, ◌+◌, ◌<◌, List, [], ◌∷◌, ◌++◌, length, get_or, set, refl, ap, arith}
-use lib.ListN.{get_elem?}
 
 -- a word that is set to what it is
 pub set_word : (ws : List ℕ) (i : ℕ) → set ws i (get_or ws i 0) ≡ ws

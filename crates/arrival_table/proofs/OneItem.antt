@@ -8,7 +8,7 @@ use Rattle.arrival_moves.specs.declared.item.Item.TheVariants.{Claimed, Loaded, 
 use Rattle.arrival_moves.specs.declared.label.Label.{Label}
 use Rattle.arrival_moves.specs.declared.plan.Plan.{Plan}
 use Rattle.arrival_moves.specs.declared.view.View.{View}
-use Rattle.arrival_moves.specs.AfterMove.{after_claim, after_take_task, after_arrive, after_put, after_count, after_take_result, after_put_merged, batch_due, taken_from}
+use Rattle.arrival_moves.specs.AfterMove.{after_claim, after_take_task, after_arrive, after_put, after_count, after_take_result, after_put_merged, after_stop, batch_due, taken_from}
 use Rattle.arrival_moves.specs.Hands.{find_item, exchanged, HasItem}
 use Rattle.arrival_moves.specs.Items.{is_claimed, is_loaded, is_arrived, is_put, is_batch, is_at_slot, is_marked}
 use Rattle.arrival_moves.specs.Labels.{no_label, joined_label}
@@ -48,6 +48,10 @@ loaded_hand k v e = exchanges (is_claimed k) (Claimed k) (same k) v (Loaded (rec
 
 pub loaded_has : (k : ℕ) (failed : Bool) (v : View) → v.hand ≡ Loaded (record { task = k; failed = failed }) ∷ [] → HasItem (is_loaded k) v
 loaded_has k failed v e = has (is_loaded k) (Loaded (record { task = k; failed = failed })) (eq-eqb k k refl) v e
+
+-- a task whose search was stopped is marked failed
+pub marked_hand : (k : ℕ) (v : View) → v.hand ≡ Loaded (record { task = k; failed = false }) ∷ [] → (after_stop v k).hand ≡ Loaded (record { task = k; failed = true }) ∷ []
+marked_hand k v e = exchanges (is_loaded k) (Loaded (record { task = k; failed = false })) (eq-eqb k k refl) v (Loaded (record { task = k; failed = true }) ∷ []) e
 
 -- a ticket gives what `put` asks
 pub arrived_hand : (k q t : ℕ) (failed : Bool) (v : View) → v.hand ≡ Loaded (record { task = k; failed = failed }) ∷ []

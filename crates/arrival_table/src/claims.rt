@@ -23,7 +23,8 @@ impl<A: Labelled, R: Labelled> Arrivals<A, R> {
         requires left { 1 ≤ desk.old.view.left }
         ensures of { IsOf self.now desk.new }
         ensures numbers { (desk.new.view.left + 1 ≡ desk.old.view.left) × (desk.new.view.drawn ≡ desk.old.view.drawn + 1) }
-        ensures some { IfSome result (λ n. (n < task_count self.now.plan) × (desk.old.view.drawn ≤ n) × (desk.new ≡ with_view desk.old (after_claim self.now.plan desk.old.view n))) }
+        ensures some { IfSome result (λ n. (n < task_count self.now.plan) × (desk.old.view.drawn ≤ n)
+            × (desk.new ≡ with_view desk.old (after_claim self.now.plan desk.old.view n))) }
         ensures none { IfNone result ((n : ℕ) × (task_count self.now.plan ≤ n) × (desk.new ≡ with_view desk.old (after_claim self.now.plan desk.old.view n))) }
     {
         let found = self
@@ -45,7 +46,8 @@ impl<A: Labelled, R: Labelled> Arrivals<A, R> {
         requires left { 1 ≤ desk.old.view.left }
         ensures of { IsOf self.now desk.new }
         ensures numbers { (desk.new.view.left + 1 ≡ desk.old.view.left) × (desk.new.view.drawn ≡ desk.old.view.drawn + 1) }
-        ensures some { IfSome result (λ n. (n < task_count self.now.plan) × (desk.old.view.drawn ≤ n) × (desk.new ≡ with_view desk.old (after_claim self.now.plan desk.old.view n))) }
+        ensures some { IfSome result (λ n. (n < task_count self.now.plan) × (desk.old.view.drawn ≤ n)
+            × (desk.new ≡ with_view desk.old (after_claim self.now.plan desk.old.view n))) }
         ensures none { IfNone result ((n : ℕ) × (task_count self.now.plan ≤ n) × (desk.new ≡ with_view desk.old (after_claim self.now.plan desk.old.view n))) }
     {
         self.claim_by::<Brand>(desk)
@@ -90,7 +92,8 @@ impl<A: Labelled, R: Labelled> Arrivals<A, R> {
         requires of { IsOf self.now desk.old }
         requires loaded { HasItem (is_loaded task) desk.old.view }
         ensures ticket { result < tasks_of self.now.plan (search_of self.now.plan task) }
-        ensures desk { desk.new ≡ with_view desk.old (after_arrive desk.old.view task (found_item (is_loaded task) desk.old.view) (search_of self.now.plan task) result) }
+        ensures desk { desk.new ≡ with_view desk.old (after_arrive desk.old.view task
+            (found_item (is_loaded task) desk.old.view) (search_of self.now.plan task) result) }
     {
         let word = 1 + self.places.search_of(task) as usize;
         let ticket = self
@@ -106,7 +109,8 @@ impl<A: Labelled, R: Labelled> Arrivals<A, R> {
         requires of { IsOf self.now desk.old }
         requires loaded { HasItem (is_loaded task) desk.old.view }
         ensures ticket { result < tasks_of self.now.plan (search_of self.now.plan task) }
-        ensures desk { desk.new ≡ with_view desk.old (after_arrive desk.old.view task (found_item (is_loaded task) desk.old.view) (search_of self.now.plan task) result) }
+        ensures desk { desk.new ≡ with_view desk.old (after_arrive desk.old.view task
+            (found_item (is_loaded task) desk.old.view) (search_of self.now.plan task) result) }
     {
         self.arrive_by::<Brand>(desk, task)
     }

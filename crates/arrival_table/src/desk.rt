@@ -23,7 +23,8 @@ impl<A, R> Model for Desk<A, R> {
 
     ghost view = { λ d. record { table = d.seat.table_id; view = d.seat.me.0.view } };
 
-    ghost invariant = { λ d. (d.seat.me ≡ (knows d.seat.me.0.view, [])) × (d.left ≡ d.seat.me.0.view.left) × (d.drawn ≡ d.seat.me.0.view.drawn) × (d.ended ≡ d.seat.me.0.view.ended) × (d.left + d.drawn ≤ 4294967296) };
+    ghost invariant = { λ d. (d.seat.me ≡ (knows d.seat.me.0.view, [])) × (d.left ≡ d.seat.me.0.view.left) × (d.drawn ≡ d.seat.me.0.view.drawn)
+        × (d.ended ≡ d.seat.me.0.view.ended) × (d.left + d.drawn ≤ 4294967296) };
 }
 
 impl<A, R> Drop for Desk<A, R> {

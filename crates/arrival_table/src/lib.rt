@@ -4,6 +4,7 @@
 
 mod cell;
 mod claims;
+mod closing;
 mod desk;
 mod given;
 mod known;

@@ -24,7 +24,8 @@ impl<A: Labelled, R: Labelled> Arrivals<A, R> {
         requires due { IsTrue (contains ticket (due_tickets search (ticket / self.now.plan.batch) desk.old.view)) }
         ensures one { length (R.label result).tasks ≡ 1 }
         ensures search { IsOfSearch self.now.plan search (R.label result) }
-        ensures desk { desk.new ≡ with_view desk.old (after_take_result self.now.plan desk.old.view search ticket (found_item (is_batch search (ticket / self.now.plan.batch)) desk.old.view) (R.label result)) }
+        ensures desk { desk.new ≡ with_view desk.old (after_take_result self.now.plan desk.old.view search ticket
+            (found_item (is_batch search (ticket / self.now.plan.batch)) desk.old.view) (R.label result)) }
     {
         self.table
             .shared
@@ -49,7 +50,8 @@ impl<A: Labelled, R: Labelled> Arrivals<A, R> {
         requires due { IsTrue (contains ticket (due_tickets search (ticket / self.now.plan.batch) desk.old.view)) }
         ensures one { length (R.label result).tasks ≡ 1 }
         ensures search { IsOfSearch self.now.plan search (R.label result) }
-        ensures desk { desk.new ≡ with_view desk.old (after_take_result self.now.plan desk.old.view search ticket (found_item (is_batch search (ticket / self.now.plan.batch)) desk.old.view) (R.label result)) }
+        ensures desk { desk.new ≡ with_view desk.old (after_take_result self.now.plan desk.old.view search ticket
+            (found_item (is_batch search (ticket / self.now.plan.batch)) desk.old.view) (R.label result)) }
     {
         self.take_result_by::<Brand>(desk, search, ticket)
     }

@@ -1,11 +1,10 @@
 // Where the words and slots of each search stand.
-ghost use Rattle.std.specs.Prelude.{◌≡◌, ℕ, ◌+◌, ◌≤◌, ◌<◌, length, nat_lt, IfOk};
-ghost use Rattle.std.specs.List.{sum_by};
+ghost use Rattle.std.specs.Prelude.{◌≡◌, ℕ, ◌+◌, ◌*◌, ◌≤◌, ◌<◌, length, nat_lt, IfOk};
 ghost use mathlib.Core.Option.{some};
 ghost use lib.ListN.{get_elem?};
 ghost use Rattle.arrival_moves.specs.declared.plan.Plan.{Plan as PlanValue};
-ghost use Rattle.arrival_moves.specs.Lists.{one_if};
 ghost use Rattle.arrival_moves.specs.Plans.{task_count, search_of, tasks_of, first_of, place_of, batch_size, IsPlan};
+ghost use Rattle.arrival_table.specs.Opening.{AreCounts};
 
 use arrival_moves::Plan;
 use std::alloc::{AllocError, Global};
@@ -23,21 +22,21 @@ impl Model for Places {
 
     ghost view = { λ s. s.plan };
 
-    ghost invariant = { λ s. IsPlan s.plan × (length s.starts.items ≡ s.plan.searches + 1) × ((q : ℕ) → q ≤ s.plan.searches → get_elem? s.starts.items q ≡ some (first_of s.plan q)) };
+    ghost invariant = { λ s. IsPlan s.plan × (length s.starts.items ≡ s.plan.searches + 1)
+        × ((q : ℕ) → q ≤ s.plan.searches → get_elem? s.starts.items q ≡ some (first_of s.plan q)) };
 }
 
-/// How many of the tasks are of searches before this one.
-fn tasks_before(tasks: &[u32], search: u64) -> u64
-    requires few { length tasks.now ≤ 65536 }
-    ensures { result ≡ sum_by (λ x. one_if (nat_lt x search)) tasks.now }
+/// The number of tasks of each search.
+fn task_counts(alloc: Global, plan: &Plan) -> Result<Vec<u64>, AllocError>
+    requires plan { IsPlan plan.now }
+    ensures { IfOk result (λ counts. AreCounts plan.now counts.items) }
 {
-    let mut count = 0;
-    for task in tasks {
-        if (*task as u64) < search {
-            count += 1;
-        }
+    let mut counts = Vec::new(alloc);
+    counts.resize(plan.searches as usize, 0)?;
+    for search in plan.tasks.as_slice() {
+        counts[*search as usize] += 1;
     }
-    count
+    Ok(counts)
 }
 
 impl Places {
@@ -46,9 +45,13 @@ impl Places {
         requires plan { IsPlan plan }
         ensures { IfOk result (λ s. s ≡ plan) }
     {
+        let counts = task_counts(alloc, &plan)?;
         let mut starts = Vec::new(alloc);
-        for search in 0..plan.searches as u64 + 1 {
-            starts.push(tasks_before(plan.tasks.as_slice(), search))?;
+        let mut start = 0;
+        starts.push(start)?;
+        for count in counts.as_slice() {
+            start += *count;
+            starts.push(start)?;
         }
         Ok(Places { plan, starts })
     }
@@ -121,5 +124,13 @@ impl Places {
         let size = self.plan.batch as u64;
         let rest = self.tasks_of(search).saturating_sub(batch as u64 * size);
         size.min(rest)
+    }
+
+    /// Whether the search has this batch.
+    pub(crate) fn has_batch(&self, search: u32, batch: u32) -> bool
+        requires range { search < self.now.searches }
+        ensures { result ≡ nat_lt (batch * self.now.batch) (tasks_of self.now search) }
+    {
+        (batch as u64) * (self.plan.batch as u64) < self.tasks_of(search)
     }
 }

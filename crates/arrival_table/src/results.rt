@@ -65,8 +65,10 @@ impl<A: Labelled, R: Labelled> Arrivals<A, R> {
         requires range { ticket < tasks_of self.now.plan search }
         requires of { IsOf self.now desk.old }
         requires put { HasItem (is_put search ticket) desk.old.view }
-        ensures last { IfSome result (λ b. (b ≡ ticket / self.now.plan.batch) × (desk.new ≡ with_view desk.old (after_count self.now.plan desk.old.view search ticket (batch_size self.now.plan search b)))) }
-        ensures early { IfNone result ((n : ℕ) × (n ≢ batch_size self.now.plan search (ticket / self.now.plan.batch)) × (desk.new ≡ with_view desk.old (after_count self.now.plan desk.old.view search ticket n))) }
+        ensures last { IfSome result (λ b. (b ≡ ticket / self.now.plan.batch)
+            × (desk.new ≡ with_view desk.old (after_count self.now.plan desk.old.view search ticket (batch_size self.now.plan search b)))) }
+        ensures early { IfNone result ((n : ℕ) × (n ≢ batch_size self.now.plan search (ticket / self.now.plan.batch))
+            × (desk.new ≡ with_view desk.old (after_count self.now.plan desk.old.view search ticket n))) }
     {
         let batch = ticket / self.places.batch();
         let place = self.places.place_of(search, batch);
@@ -88,8 +90,10 @@ impl<A: Labelled, R: Labelled> Arrivals<A, R> {
         requires range { ticket < tasks_of self.now.plan search }
         requires of { IsOf self.now desk.old }
         requires put { HasItem (is_put search ticket) desk.old.view }
-        ensures last { IfSome result (λ b. (b ≡ ticket / self.now.plan.batch) × (desk.new ≡ with_view desk.old (after_count self.now.plan desk.old.view search ticket (batch_size self.now.plan search b)))) }
-        ensures early { IfNone result ((n : ℕ) × (n ≢ batch_size self.now.plan search (ticket / self.now.plan.batch)) × (desk.new ≡ with_view desk.old (after_count self.now.plan desk.old.view search ticket n))) }
+        ensures last { IfSome result (λ b. (b ≡ ticket / self.now.plan.batch)
+            × (desk.new ≡ with_view desk.old (after_count self.now.plan desk.old.view search ticket (batch_size self.now.plan search b)))) }
+        ensures early { IfNone result ((n : ℕ) × (n ≢ batch_size self.now.plan search (ticket / self.now.plan.batch))
+            × (desk.new ≡ with_view desk.old (after_count self.now.plan desk.old.view search ticket n))) }
     {
         self.count_by::<Brand>(desk, search, ticket)
     }

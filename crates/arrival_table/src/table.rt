@@ -36,7 +36,10 @@ impl<A: Labelled, R: Labelled> Model for Arrivals<A, R> {
 
     ghost view = { λ a. record { table = a.table.shared.table_id; plan = a.places } };
 
-    ghost invariant = { λ a. (a.table.shared.key ≡ a.places) × IsPlan a.places × (a.table.shared.table_id.words ≡ 1 + a.places.searches + task_count a.places + a.places.searches) × (a.table.shared.table_id.slots ≡ task_count a.places + task_count a.places + task_count a.places) × (vec_len a.room ≡ 0) × (task_count a.places ≤ vec_capacity a.room) };
+    ghost invariant = { λ a. (a.table.shared.key ≡ a.places) × IsPlan a.places
+        × (a.table.shared.table_id.words ≡ 1 + a.places.searches + task_count a.places + a.places.searches)
+        × (a.table.shared.table_id.slots ≡ task_count a.places + task_count a.places + task_count a.places) × (vec_len a.room ≡ 0)
+        × (task_count a.places ≤ vec_capacity a.room) };
 }
 
 impl<A: Labelled, R: Labelled> Arrivals<A, R> {

@@ -1,13 +1,20 @@
-// Desks that share one table.
-ghost use Rattle.std.specs.Prelude.{◌≡◌, ◌<◌, ◌∷◌, [], IfOk, IfNone};
+// Desks that run the tasks of one table, alone and in two threads, and what a close gives then.
+ghost use Rattle.std.specs.Prelude.{◌≡◌, ◌+◌, ◌*◌, ◌/◌, ◌<◌, ◌≤◌, ℕ, ◌∷◌, [], true, false, IsTrue, IfOk, IfErr, IfSome, IfNone, All, length, slice_index};
+ghost use mathlib.Core.Option.{some};
+ghost use lib.ListN.{get_elem?};
 ghost use Rattle.arrival_moves.specs.declared.item.Item.TheVariants as item;
-ghost use Rattle.arrival_moves.specs.Plans.{task_count, search_of};
+ghost use Rattle.arrival_moves.specs.Closing.{IsAtEnd};
+ghost use Rattle.arrival_moves.specs.Labels.{task_label, no_label};
+ghost use Rattle.arrival_moves.specs.Lists.{numbers_from};
+ghost use Rattle.arrival_moves.specs.Plans.{task_count, search_of, tasks_of, batch_size};
+ghost use Rattle.arrival_table.specs.declared.opening.Task.{Task as TaskValue};
 ghost use Rattle.arrival_table.specs.Models.{IsOf};
 
-use crate::{Arrivals, Desk, Labelled, Task};
+use crate::{Arrivals, Desk, Labelled, Merged, Task};
 use agg_model::List;
 use std::alloc::{AllocError, Global};
 use std::test::Fail;
+use std::thread;
 
 /// A load that has its task's number alone.
 #[derive(Drop)]
@@ -16,66 +23,333 @@ struct Numbered {
 }
 
 impl Labelled for Numbered {
-    ghost use Rattle.arrival_moves.specs.Labels.{task_label};
-
     ghost label = { λ l. task_label l.task };
 }
 
-/// Runs a task that the desk claimed, with nothing else in hand. None where its batch is not complete, and then nothing is
-/// in hand any more.
+/// What one task, or the two of a batch, left behind.
+#[derive(Drop)]
+struct Done {
+    task: u32,
+    other: Option<u32>,
+    failed: bool,
+    skipped: bool,
+}
+
+impl Labelled for Done {
+    ghost use Rattle.std.specs.List.{cons_option};
+
+    ghost label = { λ d. record { tasks = d.task ∷ cons_option d.other []; failed = d.failed; skipped = d.skipped } };
+}
+
+/// A task that was run, and the batch that was complete with it.
+type Run = (u32, Option<u32>);
+
+/// Of a merged result its search, its batch, its tasks, and whether one failed and one was skipped.
+type Row = (u32, u32, u32, Option<u32>, bool, bool);
+
+// Stops the search of a task that fails.
+fn end_task(
+    table: &Arrivals<Numbered, Done>,
+    desk: &mut Desk<Numbered, Done>,
+    task: u32,
+    fails: bool,
+)
+    requires of { IsOf table.now desk.old }
+    requires range { task < task_count table.now.plan }
+    requires loaded { desk.old.view.hand ≡ item.Loaded (record { task = task; failed = false }) ∷ [] }
+    ensures of { IsOf table.now desk.new }
+    ensures loaded { desk.new.view.hand ≡ item.Loaded (record { task = task; failed = fails }) ∷ [] }
+    ensures notes { desk.new.view.stopped ≡ desk.old.view.stopped }
+    ensures claims { (desk.new.view.left ≡ desk.old.view.left) × (desk.new.view.drawn ≡ desk.old.view.drawn) × (desk.new.view.ended ≡ desk.old.view.ended) }
+{
+    if fails {
+        table.stop(desk, task);
+    }
+}
+
+// Runs a task that the desk claimed, with nothing else in hand. Some batch where it is complete with it.
 fn run_task(
-    table: &Arrivals<Numbered, Numbered>,
-    desk: &mut Desk<Numbered, Numbered>,
+    table: &Arrivals<Numbered, Done>,
+    desk: &mut Desk<Numbered, Done>,
     search: u32,
     task: u32,
+    fails: bool,
 ) -> Option<u32>
     requires of { IsOf table.now desk.old }
     requires claimed { desk.old.view.hand ≡ item.Claimed task ∷ [] }
     requires range { task < task_count table.now.plan }
     requires search { search ≡ search_of table.now.plan task }
+    requires searches { search < table.now.plan.searches }
     ensures of { IsOf table.now desk.new }
+    ensures last { IfSome result (λ b. desk.new.view.hand ≡ item.Batch (record {
+      search = search;
+      batch = b;
+      due = numbers_from (b * table.now.plan.batch) (batch_size table.now.plan search b);
+      taken = no_label;
+      at_slot = false;
+    }) ∷ []) }
+    ensures batch { IfSome result (λ b. b * table.now.plan.batch < tasks_of table.now.plan search) }
     ensures early { IfNone result (desk.new.view.hand ≡ []) }
+    ensures claims { (desk.new.view.left ≡ desk.old.view.left) × (desk.new.view.drawn ≡ desk.old.view.drawn) × (desk.new.view.ended ≡ desk.old.view.ended) }
 {
     let load = table.take_task(desk, task);
+    let skipped = table.stopped(desk, search);
+    end_task(table, desk, task, fails);
     let ticket = table.arrive(desk, task);
-    table.put(desk, search, ticket, load);
+    let done = Done {
+        task: load.task,
+        other: None,
+        failed: fails,
+        skipped,
+    };
+    table.put(desk, search, ticket, done);
     table.count(desk, search, ticket)
 }
 
-// Two tasks of the search 0 and one of the search 1.
-fn three_tasks(alloc: Global) -> Result<List<Task<Numbered>>, AllocError>
-    ensures { IfOk result (λ ts. ts ≡ record { search = 0; load = record { task = 0 } } ∷ record { search = 0; load = record { task = 1 } } ∷ record { search = 1; load = record { task = 2 } } ∷ []) }
+// Merges a batch of one or two results, which the desk counted last.
+fn merge(
+    table: &Arrivals<Numbered, Done>,
+    desk: &mut Desk<Numbered, Done>,
+    search: u32,
+    batch: u32,
+    size: u64,
+)
+    requires of { IsOf table.now desk.old }
+    requires two { table.now.plan.batch ≡ 2 }
+    requires range { (batch < 65536) × (1 ≤ size) × (size ≤ 2) }
+    requires batch { desk.old.view.hand ≡ item.Batch (record {
+      search = search;
+      batch = batch;
+      due = numbers_from (batch * 2) size;
+      taken = no_label;
+      at_slot = false;
+    }) ∷ [] }
+    ensures of { IsOf table.now desk.new }
+    ensures empty { desk.new.view.hand ≡ [] }
+    ensures claims { (desk.new.view.left ≡ desk.old.view.left) × (desk.new.view.drawn ≡ desk.old.view.drawn) × (desk.new.view.ended ≡ desk.old.view.ended) }
+{
+    let first = table.take_result(desk, search, batch * 2);
+    if size == 1 {
+        table.put_merged(desk, search, batch, first);
+        return;
+    }
+    let second = table.take_result(desk, search, batch * 2 + 1);
+    let both = Done {
+        task: first.task,
+        other: Some(second.task),
+        failed: first.failed || second.failed,
+        skipped: first.skipped || second.skipped,
+    };
+    table.put_merged(desk, search, batch, both);
+}
+
+// Runs tasks until there is none more, and merges the batches that it completes. The task of the number `failing` fails.
+fn work(
+    table: &Arrivals<Numbered, Done>,
+    desk: &mut Desk<Numbered, Done>,
+    failing: u32,
+    runs: &mut Vec<Run>,
+) -> Result<(), AllocError>
+    requires of { IsOf table.now desk.old }
+    requires two { table.now.plan.batch ≡ 2 }
+    requires few { task_count table.now.plan ≤ 65536 }
+    requires claims { (desk.old.view.drawn ≤ task_count table.now.plan) × (task_count table.now.plan + 1 ≤ desk.old.view.left + desk.old.view.drawn) }
+    requires empty { desk.old.view.hand ≡ [] }
+    ensures of { IsOf table.now desk.new }
+    ensures claims { desk.new.view.left + desk.new.view.drawn ≡ desk.old.view.left + desk.old.view.drawn }
+    ensures ended { IfOk result (λ _. IsTrue desk.new.view.ended) }
+    ensures empty { IfOk result (λ _. desk.new.view.hand ≡ []) }
+{
+    while let Some(task) = table.claim(desk) {
+        let search = table.places.search_of(task);
+        let last = run_task(table, desk, search, task, task == failing);
+        runs.push((task, last))?;
+        if let Some(batch) = last {
+            merge(
+                table,
+                desk,
+                search,
+                batch,
+                table.places.batch_size(search, batch),
+            );
+        }
+    }
+    Ok(())
+}
+
+// The same by a thread of its own.
+fn work_apart(
+    alloc: Global,
+    table: &Arrivals<Numbered, Done>,
+    mut desk: Desk<Numbered, Done>,
+) -> (Desk<Numbered, Done>, Result<Vec<Run>, AllocError>)
+    requires of { IsOf table.now desk }
+    requires two { table.now.plan.batch ≡ 2 }
+    requires few { task_count table.now.plan ≤ 65536 }
+    requires claims { (desk.view.drawn ≤ task_count table.now.plan) × (task_count table.now.plan + 1 ≤ desk.view.left + desk.view.drawn) }
+    requires empty { desk.view.hand ≡ [] }
+    ensures of { IsOf table.now result.0 }
+    ensures claims { result.0.view.left + result.0.view.drawn ≡ desk.view.left + desk.view.drawn }
+    ensures ended { IfOk result.1 (λ _. IsTrue result.0.view.ended) }
+    ensures empty { IfOk result.1 (λ _. result.0.view.hand ≡ []) }
+{
+    let mut runs = Vec::new(alloc);
+    match work(table, &mut desk, NO_TASK, &mut runs) {
+        Ok(()) => (desk, Ok(runs)),
+        Err(failed) => (desk, Err(failed)),
+    }
+}
+
+/// No task has this number.
+const NO_TASK: u32 = u32::MAX;
+
+// The tasks of searches, each with its load.
+fn tasks_of(alloc: Global, searches: &[u32]) -> Result<List<Task<Numbered>>, AllocError>
+    requires few { length searches.now ≤ 65536 }
+    ensures { IfOk result (λ ts. (length ts ≡ length searches.now)
+        × ((k : ℕ) (t : TaskValue Numbered) → get_elem? ts k ≡ some t → (t.search ≡ slice_index searches.now k) × (t.load.task ≡ k))) }
 {
     let mut tasks = List::new(alloc);
-    tasks.push(Task {
-        search: 0,
-        load: Numbered { task: 0 },
-    })?;
-    tasks.push(Task {
-        search: 0,
-        load: Numbered { task: 1 },
-    })?;
-    tasks.push(Task {
-        search: 1,
-        load: Numbered { task: 2 },
-    })?;
+    for place in 0..searches.len() {
+        let load = Numbered { task: place as u32 };
+        tasks.push(Task {
+            search: searches[place],
+            load,
+        })?;
+    }
     Ok(tasks)
 }
 
+fn rows_of(alloc: Global, merged: &[Merged<Done>]) -> Result<Vec<Row>, AllocError> {
+    let mut rows = Vec::new(alloc);
+    for one in merged {
+        let done = &one.result;
+        rows.push((
+            one.search,
+            one.batch,
+            done.task,
+            done.other,
+            done.failed,
+            done.skipped,
+        ))?;
+    }
+    Ok(rows)
+}
+
+// What one desk makes of the tasks in batches of 2.
+fn alone(
+    alloc: Global,
+    searches: &[u32],
+    count: u32,
+    failing: u32,
+) -> Result<(Vec<Run>, Vec<Row>), AllocError>
+    requires few { length searches.now ≤ 65536 }
+    requires searches { All (λ q. q < count) searches.now }
+{
+    let tasks = tasks_of(alloc, searches)?;
+    let Ok((table, mut desk)) = Arrivals::<Numbered, Done>::open(alloc, tasks, count, 2) else {
+        return Err(AllocError);
+    };
+    let mut runs = Vec::new(alloc);
+    work(&table, &mut desk, failing, &mut runs)?;
+    let merged = table.close(desk);
+    let rows = rows_of(alloc, merged.as_slice())?;
+    Ok((runs, rows))
+}
+
 #[test]
-fn claims_go_to_the_desks_in_turn(rt: HostRuntime) -> Result<(), Fail> {
-    let tasks = three_tasks(rt.alloc())?;
-    let Ok((table, mut desk)) = Arrivals::<Numbered, Numbered>::open(rt.alloc(), tasks, 2, 2) else {
+fn one_desk_merges_every_batch(rt: HostRuntime) -> Result<(), Fail> {
+    let (runs, rows) = alone(rt.alloc(), &[0, 0, 0], 1, NO_TASK)?;
+    assert!(rt; runs.as_slice() == [(0, None), (1, Some(0)), (2, Some(1))].as_slice());
+    let whole = [
+        (0, 0, 0, Some(1), false, false),
+        (0, 1, 2, None, false, false),
+    ];
+    assert!(rt; rows.as_slice() == whole.as_slice());
+
+    // Of four searches the last has no task.
+    let (runs, rows) = alone(rt.alloc(), &[1, 0, 1, 2, 1], 4, NO_TASK)?;
+    let complete = [
+        (0, None),
+        (1, Some(0)),
+        (2, Some(0)),
+        (3, Some(0)),
+        (4, Some(1)),
+    ];
+    assert!(rt; runs.as_slice() == complete.as_slice());
+    let whole = [
+        (0, 0, 1, None, false, false),
+        (1, 0, 0, Some(2), false, false),
+        (1, 1, 4, None, false, false),
+        (2, 0, 3, None, false, false),
+    ];
+    assert!(rt; rows.as_slice() == whole.as_slice());
+
+    // The first task fails, so the others of its search are skipped.
+    let (_, rows) = alone(rt.alloc(), &[0, 0, 1, 0], 2, 0)?;
+    let stopped = [
+        (0, 0, 0, Some(1), true, true),
+        (0, 1, 3, None, false, true),
+        (1, 0, 2, None, false, false),
+    ];
+    assert!(rt; rows.as_slice() == stopped.as_slice());
+
+    let (runs, rows) = alone(rt.alloc(), &[], 0, NO_TASK)?;
+    assert!(rt; runs.is_empty() && rows.is_empty());
+    Ok(())
+}
+
+#[test]
+fn two_threads_share_the_tasks(rt: HostRuntime) -> Result<(), Fail> {
+    let searches = [0, 1, 1, 0, 2, 1, 0, 1, 1, 2, 1, 0, 1, 1, 2, 0, 1, 1, 2, 1];
+    let tasks = tasks_of(rt.alloc(), searches.as_slice())?;
+    let Ok((table, mut a)) = Arrivals::<Numbered, Done>::open(rt.alloc(), tasks, 3, 2) else {
         return Err(Fail::from(AllocError));
     };
-    let mut other = table.split(&mut desk, 2);
-    assert_eq!(rt; (desk.left(), other.left()), (4294967294, 2));
-    assert_eq!(rt; table.claim(&mut desk), Some(0));
-    assert_eq!(rt; table.claim(&mut other), Some(1));
-    assert_eq!(rt; table.claim(&mut desk), Some(2));
-    assert_eq!(rt; table.claim(&mut other), None);
-    assert_eq!(rt; (desk.drawn(), desk.ended()), (2, false));
-    assert_eq!(rt; (other.drawn(), other.ended()), (2, true));
-    assert!(rt; !table.stopped(&mut desk, 1));
+    let b = table.split(&mut a, 21);
+    let (one, two) = (rt.alloc(), rt.alloc());
+    let ((mut a, first), (b, second)) = thread::join(
+        &rt,
+        || work_apart(one, &table, a),
+        || work_apart(two, &table, b),
+    );
+    let (Ok(first), Ok(second)) = (first, second) else {
+        return Err(Fail::from(AllocError));
+    };
+    table.join(&mut a, b);
+    assert_eq!(rt; a.drawn(), 22);
+    assert_eq!(rt; first.len() + second.len(), 20);
+
+    let merged = table.close(a);
+    let rows = rows_of(rt.alloc(), merged.as_slice())?;
+    let mut batches = Vec::new(rt.alloc());
+    let mut tasks = Vec::new(rt.alloc());
+    for (search, batch, task, other, failed, skipped) in rows {
+        batches.push((search, batch))?;
+        tasks.push(task)?;
+        if let Some(other) = other {
+            tasks.push(other)?;
+        }
+        assert!(rt; !failed && !skipped);
+    }
+    let all = [
+        (0, 0),
+        (0, 1),
+        (0, 2),
+        (1, 0),
+        (1, 1),
+        (1, 2),
+        (1, 3),
+        (1, 4),
+        (1, 5),
+        (2, 0),
+        (2, 1),
+    ];
+    assert!(rt; batches.as_slice() == all.as_slice());
+    tasks.sort_unstable();
+    for (place, task) in tasks.iter().enumerate() {
+        assert_eq!(rt; *task as usize, place);
+    }
+    assert_eq!(rt; tasks.len(), 20);
     Ok(())
 }

@@ -38,8 +38,7 @@ use Rattle.agg_spec.specs.Filling.{frequent}
 use Rattle.agg_spec.specs.CountErrors.{precision_of, count_error}
 use Rattle.agg_spec.specs.BucketCount.{total_buckets, counter, count_each}
 use Rattle.agg_spec.specs.RangeCheck.{key_in_range, check_bucket, check_each, checker, first_path, out_of_range, unless}
-use Rattle.agg_spec.proofs.SumLaws.{sum_by-sorted}
-use Rattle.agg_spec.proofs.TermsBounds.{each-filter, each-take, each-sorted, each-map, each-mapped}
+use Rattle.list_laws.proofs.Each.{sum_by-sorted, each-filter, each-take, each-sorted, each-map, each-mapped}
 use Rattle.terms_agg.specs.Trim.{trimmed}
 use Rattle.terms_agg.proofs.TrimLaws.{trimmed-Terms}
 use Rattle.keyword_documents.specs.SmallForm.{keyword_field}

@@ -42,7 +42,7 @@ use Rattle.agg_spec.specs.CountErrors.{precision_of, count_error}
 use Rattle.agg_spec.specs.Filling.{frequent, filled, filled_keys, bucket_at}
 use Rattle.agg_spec.specs.Final.{Finisher, finisher, finisher_of, finish_at, finish_each, finish_bucket, empty_bucket, buckets_answer, metric_answer, no_metric, final}
 use Rattle.agg_spec.specs.GapCount.{Plan, plan, plan_of, plan_at, plan_each, below_empty, filled_count, planned_buckets}
-use Rattle.agg_spec.proofs.SumLaws.{sum_by-sorted}
+use Rattle.list_laws.proofs.Each.{sum_by-sorted}
 use Rattle.bucket_order.proofs.SameOrder.{list_all-sorted}
 use Rattle.agg_evaluation.specs.Finishable.{is_finishable, is_finishable_at, is_histogram_key, fits_at, can_finish}
 use Rattle.agg_evaluation.specs.Conditions.{has_interval, has_intervals}

@@ -1,5 +1,5 @@
 -- Composites that are read.
-use Rattle.std.specs.Prelude.{◌≡◌, refl, ℕ, ◌+◌, ◌<◌, ◌≤◌, ◌==◌, List, [], ◌∷◌, ◌++◌, map, length, Option, Some, None, Result, Ok, Err, Bool, true, false, ◌&&◌, cond, nat_le, IfOk, IfSome, option_map, codes, unwrap_or, is_some}
+use Rattle.std.specs.Prelude.{◌≡◌, refl, ℕ, ◌+◌, ◌<◌, ◌≤◌, List, [], ◌∷◌, ◌++◌, map, length, Option, Some, None, Result, Ok, Err, Bool, true, false, ◌&&◌, cond, nat_le, IfOk, IfSome, option_map, codes, unwrap_or, is_some}
 use Rattle.std.specs.List.{list_all}
 use Rattle.std.specs.Option.{option_map_or}
 use Rattle.std.proofs.Common.{◌∙◌, ap, subst, arith, length-append}
@@ -24,8 +24,7 @@ use Rattle.agg_reading.specs.Composite.{Source, source_named, terms_source_at, h
 use Rattle.agg_reading.specs.After.{part_at, source_of, part_of, parts_from, names_of, has_names, After, after_at, source_names, after_rule, distinct_from, after_key, composite_in, composite_at}
 use Rattle.agg_model.specs.declared.key.Key.{Key}
 use Rattle.agg_model.specs.declared.key.Key.TheVariants as key
-use Rattle.agg_evaluation.proofs.FoldLaws.{fold_key-Many}
-use Rattle.agg_evaluation.specs.Folds.{fold_key}
+use Rattle.agg_evaluation.proofs.FoldLaws.{out-Many}
 use Rattle.std.specs.Prelude.{find, flat_map, option_to_list, ◌||◌, ◌⊎◌}
 use Rattle.std.specs.List.{list_any}
 use Rattle.std.specs.Str.{bytes_eq}
@@ -35,7 +34,8 @@ use Rattle.std.proofs.lemmas.Slice.Eq.{bytes_eq-Decides}
 use Rattle.agg_reading.specs.Json.{is_among}
 use Rattle.agg_reading.proofs.Steps.{then_ok, next_ok, if_ok}
 use Rattle.agg_reading.proofs.IndexLineLaws.{optional_of-ok}
-use Rattle.agg_evaluation.specs.SearchFits.{source_fits, parts_of, has_parts}
+use Rattle.agg_evaluation.specs.SearchFits.{source_fits}
+use Rattle.agg_evaluation.specs.CompositeKeys.{has_parts, is_composite_of}
 use Rattle.fitting_laws.proofs.Queries.{IsFieldOf, field_in-is, of_field}
 use Rattle.fitting_laws.proofs.KindReads.{weaken, Between, whole_at-ok, IsWholeField, whole_field_in-is, KindRead}
 
@@ -225,12 +225,10 @@ parts_length parts (n ∷ ns) h =
     let rest = parts_length parts ns hs.1 in
     omega (arith, all, one, rest)
 
-key_has : (n : ℕ) (ks : List Key) → length ks ≡ n → has_parts n (key.Many ks) ≡ true
-key_has n ks e =
-    let l = length-map ks (fold_key parts_of) in
-    ap (λ (o : Option ℕ). option_map_or (λ parts. parts == n) o false) (fold_key-Many parts_of ks) ∙ grind (arith, nat_tests, l, e)
+key_has : (n : ℕ) (ks : List Key) → length ks ≡ n → is_composite_of n (key.Many ks) ≡ true
+key_has n ks e = ap (has_parts n) (out-Many ks) ∙ grind (arith, nat_tests, e)
 
-after_parts : (sources : List Source) (o : Option After) → IfSome o (AfterHas sources) → option_map_or (λ a. has_names (source_names sources) a.1) o true ≡ true → option_map_or (has_parts (length sources)) (option_map (after_key sources) o) true ≡ true
+after_parts : (sources : List Source) (o : Option After) → IfSome o (AfterHas sources) → option_map_or (λ a. has_names (source_names sources) a.1) o true ≡ true → option_map_or (is_composite_of (length sources)) (option_map (after_key sources) o) true ≡ true
 unfolding after_key has_names
 after_parts sources None h e = refl
 after_parts sources (Some a) h e =
@@ -266,7 +264,7 @@ module _ (m : Mapping) (context : ℕ) where
       record {
         ready = λ children os e g.
             and_from _ _ (le-leb 1 _ some) (and_from _ _ (le-leb _ 16 few) (and_from _ _ (source_map m sources ∙ fit.2) (and_from _ _ (le-leb 1 (unwrap_or size 10) page.0) (and_from _ _ (le-leb (unwrap_or size 10) 65536 page.1)
-            (ap (λ (n : ℕ). option_map_or (has_parts n) (option_map (after_key sources) after) true) number ∙ after_parts sources after h named)))));
+            (ap (λ (n : ℕ). option_map_or (is_composite_of n) (option_map (after_key sources) after) true) number ∙ after_parts sources after h named)))));
         metric = λ os. refl;
         top = λ os. refl;
         within_is = λ os. refl;

@@ -1,5 +1,5 @@
 -- What follows for a search that is made for a mapping.
-use Rattle.std.specs.Prelude.{◌≡◌, refl, ℕ, List, [], ◌∷◌, map, Bool, true, false, not, ◌&&◌, ◌||◌, nat_le, nat_lt}
+use Rattle.std.specs.Prelude.{◌≡◌, refl, ℕ, ◌^◌, List, [], ◌∷◌, map, Bool, true, false, not, ◌&&◌, ◌||◌, nat_le, nat_lt}
 use Rattle.std.specs.List.{list_all}
 use Rattle.std.proofs.Common.{arith}
 use Rattle.std.proofs.lemmas.Bool.{false≢true, and_parts, and_from}
@@ -13,14 +13,14 @@ use Rattle.agg_evaluation.specs.Folds.{fold_aggs}
 use Rattle.agg_evaluation.specs.Placement.{has_globals_at_top, is_placed, is_placed_at}
 use Rattle.agg_evaluation.specs.Trace.{is_global}
 use Rattle.agg_evaluation.specs.QueryFits.{query_fits}
-use Rattle.agg_evaluation.specs.SearchFits.{kind_fits, Made, made_at, is_made, is_metric, no_children, handed, agg_fits, search_fits, is_whole_field, orders_fit}
+use Rattle.agg_evaluation.specs.SearchFits.{kind_fits, Made, made_at, is_made, is_metric, no_children, handed, agg_fits, search_fits, is_whole_field, is_interval, orders_fit}
 use Rattle.agg_evaluation.specs.Conditions.{has_interval, has_intervals}
 use Rattle.agg_model.specs.BoundsOrder.{is_at_most, lies_within}
 
 interval_of : (m : Mapping) (top : Bool) (context : ℕ) (children : List Kind) (k : Kind) → kind_fits m top context children k ≡ true → has_interval k ≡ true
 interval_of m top context children (kind.Histogram field interval offset least extended hard keyed order missing) h =
-    let first = and_parts (is_whole_field m field missing) (nat_le 1 interval && (nat_lt offset interval && (is_at_most extended.min extended.max && (is_at_most hard.min hard.max && (lies_within extended hard && orders_fit children order))))) h in
-    let low = (and_parts (nat_le 1 interval) (nat_lt offset interval && (is_at_most extended.min extended.max && (is_at_most hard.min hard.max && (lies_within extended hard && orders_fit children order)))) first.1).0 in
+    let first = and_parts (is_whole_field m field missing) (is_interval interval && (nat_lt offset interval && (is_at_most extended.min extended.max && (is_at_most hard.min hard.max && (lies_within extended hard && orders_fit children order))))) h in
+    let low = (and_parts (nat_le 1 interval) (nat_lt interval (2 ^ 63)) (and_parts (is_interval interval) (nat_lt offset interval && (is_at_most extended.min extended.max && (is_at_most hard.min hard.max && (lies_within extended hard && orders_fit children order)))) first.1).0).0 in
     grind (arith, nat_tests, low)
 interval_of m top context children (kind.Terms a b c d n f g h i) e = refl
 interval_of m top context children (kind.Filters a b c) e = refl

@@ -37,7 +37,7 @@ use Rattle.agg_reading.specs.Aggregations as aggregations
 use Rattle.agg_reading.proofs.Steps.{then_ok, next_ok, if_ok}
 use Rattle.agg_reading.proofs.IndexLineLaws.{optional_of-ok}
 use Rattle.agg_evaluation.specs.QueryFits.{field_is, are_probes}
-use Rattle.agg_evaluation.specs.SearchFits.{is_stored, is_missing, order_fits, orders_fit, is_whole_field, kind_fits, is_metric, is_top, handed}
+use Rattle.agg_evaluation.specs.SearchFits.{is_stored, is_missing, order_fits, orders_fit, is_whole_field, is_interval, kind_fits, is_metric, is_top, handed}
 use Rattle.fitting_laws.proofs.Queries.{IsFieldOf, Asked, AllAsked, field_in-is, of_field, value_asked, values_asked}
 
 -- parts
@@ -299,6 +299,9 @@ unfolding histogram_rules
 rules_ok at interval offset extended hard =
     if_ok (λ _. Rules interval offset extended hard) (nat_lt offset interval) _ _ (λ below. if_ok (λ _. Rules interval offset extended hard) (lies_within extended hard) _ _ (λ lies. (below, lies)) (λ e. tt)) (λ e. tt)
 
+interval_is : (n : ℕ) → Between 1 9223372036854775807 n → is_interval n ≡ true
+interval_is n h = let low = h.0 in let high = h.1 in and_from _ _ (le-leb 1 n h.0) (let e : nat_lt n (2 ^ 63) ≡ true = grind (arith, nat_tests, high) in e)
+
 histogram_in-read : (m : Mapping) (context : ℕ) (f : ℕ × Field) (at : List ℕ) (ms : Members) → IsWholeField m f → IfOk (histogram_in f at ms) (PairRead m context name.Histogram)
 unfolding histogram_in with_order
 histogram_in-read m context f at ms there =
@@ -310,7 +313,7 @@ histogram_in-read m context f at ms there =
     record {
       ready = λ children os e h.
           and_from _ _ (of_field m (λ k. is_whole_kind k && is_missing k counts.1) f there.0 (and_from _ _ there.1 c.0))
-          (and_from _ _ (le-leb 1 interval i.0) (and_from _ _ rules.0 (and_from _ _ r.0 (and_from _ _ r.1 (and_from _ _ rules.1 (fit_orders children os (length counts.3) c.1 e h))))));
+          (and_from _ _ (interval_is interval i) (and_from _ _ rules.0 (and_from _ _ r.0 (and_from _ _ r.1 (and_from _ _ rules.1 (fit_orders children os (length counts.3) c.1 e h))))));
       metric = λ os. refl;
       top = λ os. refl;
       within_is = λ os. refl;

@@ -1,12 +1,12 @@
 -- The numbers of metrics: a count is at most the weight of the rows, and a sum of values of 64 bits at most so many times 2^63.
-use Rattle.std.specs.Prelude.{◌≡◌, refl, ℕ, suc, ◌+◌, ◌*◌, ◌^◌, ◌==◌, ◌≤◌, Bool, true, false, cond, ◌&&◌, List, [], ◌∷◌, ◌++◌, map, filter_map, flat_map, find, length, sum_by, slice_get, Option, Some, None, option_map, unwrap_or, nat_le, ℤ}
+use Rattle.std.specs.Prelude.{◌≡◌, refl, ℕ, ◌+◌, ◌*◌, ◌^◌, ◌==◌, ◌≤◌, Bool, true, false, cond, ◌&&◌, List, [], ◌∷◌, filter_map, flat_map, find, length, sum_by, slice_get, Option, Some, None, option_map, unwrap_or, nat_le}
 use Rattle.std.specs.List.{list_all}
 use Rattle.std.specs.Option.{option_map_or}
-use Rattle.std.proofs.Common.{sym, ◌∙◌, ap, subst, arith, length-append}
+use Rattle.std.proofs.Common.{◌∙◌, ap, arith}
 use Rattle.std.proofs.lemmas.Bool.{false≢true, and_parts, and_from}
 use Rattle.std.proofs.lemmas.List.Folds.{list_all-append}
 use Rattle.std.proofs.lemmas.List.Sums.{sum_by-cons}
-use Rattle.agg_model.specs.FieldKinds.{fits_below, fits_kind}
+use Rattle.agg_model.specs.FieldKinds.{fits_below}
 use Rattle.agg_model.specs.declared.mapping.Field.{Field}
 use Rattle.agg_model.specs.declared.mapping.FieldKind.{FieldKind}
 use Rattle.agg_model.specs.declared.mapping.FieldKind.TheVariants.{Long, Integer, Short, Byte, Keyword, Boolean}
@@ -93,32 +93,35 @@ module _ (m : Mapping) where
       or_64 (v ∷ vs) e = e
 
 -- one where a test fails
-abbrev missing_one : Bool → ℕ
+abbrev pub missing_one : Bool → ℕ
 missing_one true = 0
 missing_one false = 1
 
+module _ {A : Type 0} (p : A → Bool) where
+  -- a list fails nowhere
+  pub no_miss : (xs : List A) → list_all p xs ≡ true → sum_by (λ (x : A). missing_one (p x)) xs ≡ 0
+  no_miss [] h = refl
+  no_miss (x ∷ xs) h =
+      let parts = and_parts (p x) (list_all p xs) h in
+      let here : missing_one (p x) ≡ 0 = ap missing_one parts.0 in
+      let cons = sum_by-cons (λ (x : A). missing_one (p x)) x xs in
+      let rest = no_miss xs parts.1 in
+      omega (arith, here, cons, rest)
+
+  -- and a list that fails nowhere passes
+  pub none_left : (xs : List A) → sum_by (λ (x : A). missing_one (p x)) xs ≤ 0 → list_all p xs ≡ true
+  none_left [] h = refl
+  none_left (x ∷ xs) h =
+      let cons = sum_by-cons (λ (x : A). missing_one (p x)) x xs in
+      and_from _ _ (zero_is (p x) (omega (arith, cons, h))) (none_left xs (omega (arith, cons, h)))
+    where
+      zero_is : (b : Bool) → missing_one b ≤ 0 → b ≡ true
+      zero_is true h = refl
+      zero_is false h = absurd (omega (arith, h))
+
 -- what holds of each row of a shard holds of counted ones
 pub counted_hold : (p : PlacedRow → Bool) (all : List PlacedRow) (context : ℕ) (rows : List PlacedRow) → list_all p all ≡ true → IsCounted all context rows → list_all p rows ≡ true
-counted_hold p all context rows h counted = none_left rows (let less = counted.within (λ r. missing_one (p r)) in let none = no_miss all h in omega (arith, less, none))
-  where
-    no_miss : (rows : List PlacedRow) → list_all p rows ≡ true → sum_by (λ (r : PlacedRow). missing_one (p r)) rows ≡ 0
-    no_miss [] h = refl
-    no_miss (r ∷ rows) h =
-        let parts = and_parts (p r) (list_all p rows) h in
-        let here : missing_one (p r) ≡ 0 = ap missing_one parts.0 in
-        let cons = sum_by-cons (λ (r : PlacedRow). missing_one (p r)) r rows in
-        let rest = no_miss rows parts.1 in
-        omega (arith, here, cons, rest)
-
-    none_left : (rows : List PlacedRow) → sum_by (λ (r : PlacedRow). missing_one (p r)) rows ≤ 0 → list_all p rows ≡ true
-    none_left [] h = refl
-    none_left (r ∷ rows) h =
-        let cons = sum_by-cons (λ (r : PlacedRow). missing_one (p r)) r rows in
-        and_from _ _ (zero_is (p r) (omega (arith, cons, h))) (none_left rows (omega (arith, cons, h)))
-      where
-        zero_is : (b : Bool) → missing_one b ≤ 0 → b ≡ true
-        zero_is true h = refl
-        zero_is false h = absurd (omega (arith, h))
+counted_hold p all context rows h counted = none_left p rows (let less = counted.within (λ r. missing_one (p r)) in let none = no_miss p all h in omega (arith, less, none))
 
 -- the size of the sum of values
 sum_64 : (vs : List Scalar) → all_64 vs ≡ true → size (int_sum (filter_map integer_of vs)) ≤ length vs * 2 ^ 63

@@ -1,7 +1,7 @@
 -- A tree whose greatest number is below 2^32, and whose greatest sum is below 2^127, has numbers that fit.
-use Rattle.std.specs.Prelude.{◌≡◌, refl, ℕ, ◌^◌, ◌<◌, ◌≤◌, max, Bool, true, false, ◌&&◌, T, List, [], ◌∷◌, map, nat_lt}
+use Rattle.std.specs.Prelude.{◌≡◌, refl, ℕ, ◌^◌, ◌<◌, Bool, T, List, [], ◌∷◌, map, nat_lt}
 use Rattle.std.specs.List.{list_all}
-use Rattle.std.proofs.Common.{sym, ◌∙◌, ap, subst, arith}
+use Rattle.std.proofs.Common.{sym, subst, arith}
 use Rattle.std.proofs.lemmas.Bool.Decides.{nat_tests}
 use Rattle.agg_model.specs.declared.aggregation.Agg.{Agg, Agg', Row_of-Agg, end_of-Agg, more_of-Agg}
 use Rattle.agg_model.specs.declared.aggregation.Kind.{Kind}
@@ -9,16 +9,15 @@ use Rattle.agg_model.specs.declared.partial.Bucket.{Bucket}
 use Rattle.agg_model.specs.declared.partial.Metric.{Metric}
 use Rattle.agg_model.specs.declared.partial.Node.{Node, out-Node}
 use Rattle.agg_model.specs.declared.partial.Node.TheOpen.{Node-F}
-use Rattle.agg_model.specs.declared.partial.Node.TheVariants.{Keyed, Fixed, Number}
 use Rattle.agg_evaluation.specs.Folds.{fold_aggs}
 use Rattle.agg_evaluation.specs.Orders.{bucket_key}
 use Rattle.agg_evaluation.specs.Shard.{fixed_keys}
-use Rattle.agg_evaluation.specs.Trees.{is_ascending, are_same_keys, pass_each, have_children, is_tree_at, is_tree_of, fits_u64, fits_i128, bucket_fits, node_fits_at, node_fits}
+use Rattle.agg_evaluation.specs.Trees.{is_ascending, are_same_keys, pass_each, have_children, is_tree_at, is_tree_of, fits_u64, bucket_fits, node_fits_at, node_fits}
 use Rattle.agg_evaluation.specs.Whole.{parts, parts_at, shape_of, Shape, by_key, from_start, a_number}
 use Rattle.agg_evaluation.proofs.NodeFolds.{fold_bucket, fold_node-Fixed, fold_node-Keyed, fold_node-Number}
 use Rattle.agg_evaluation.proofs.NodeForms.{made-Keyed, made-Fixed, made-Number}
 use Rattle.list_laws.proofs.Booleans.{and_left, and_right, both, holds}
-use Rattle.fitting_laws.proofs.Reach.{most, most_each, returned, bucket_reach, parts_reach, reach}
+use Rattle.fitting_laws.proofs.Reach.{most, most_each, bucket_reach, parts_reach, reach}
 use Rattle.fitting_laws.proofs.Sizes.{size, size_in_i128}
 
 -- the numbers of metrics that are bounded

@@ -14,17 +14,18 @@ use Rattle.agg_evaluation.specs.Folds.{fold_agg}
 use Rattle.agg_spec.specs.Pages.{kind_after, agg_after, search_after}
 use Rattle.fitting_laws.specs.Pages.{takes, search_takes}
 use Rattle.agg_evaluation.specs.QueryFits.{query_fits}
-use Rattle.agg_evaluation.specs.SearchFits.{kind_fits, source_fits, has_parts, Made, made_at, is_made, is_metric, no_children, handed, agg_fits, search_fits}
+use Rattle.agg_evaluation.specs.CompositeKeys.{is_composite_of}
+use Rattle.agg_evaluation.specs.SearchFits.{kind_fits, source_fits, Made, made_at, is_made, is_metric, no_children, handed, agg_fits, search_fits}
 use Rattle.agg_evaluation.proofs.AggFolds.{fold_agg-roll, fold_agg-level}
 
 composite_after : (m : Mapping) (top : Bool) (context : ℕ) (children : List Kind) (k : Kind) (key : Key) → takes key k ≡ true → kind_fits m top context children k ≡ true → kind_fits m top context children (kind_after key k) ≡ true
 composite_after m top context children (kind.Composite sources size after) key t h =
-    let a = and_parts top (nat_le 1 (length sources) && (nat_le (length sources) 16 && (list_all (source_fits m) sources && (nat_le 1 size && (nat_le size 65536 && option_map_or (has_parts (length sources)) after true))))) h in
-    let b = and_parts (nat_le 1 (length sources)) (nat_le (length sources) 16 && (list_all (source_fits m) sources && (nat_le 1 size && (nat_le size 65536 && option_map_or (has_parts (length sources)) after true)))) a.1 in
-    let c = and_parts (nat_le (length sources) 16) (list_all (source_fits m) sources && (nat_le 1 size && (nat_le size 65536 && option_map_or (has_parts (length sources)) after true))) b.1 in
-    let d = and_parts (list_all (source_fits m) sources) (nat_le 1 size && (nat_le size 65536 && option_map_or (has_parts (length sources)) after true)) c.1 in
-    let e = and_parts (nat_le 1 size) (nat_le size 65536 && option_map_or (has_parts (length sources)) after true) d.1 in
-    let f = and_parts (nat_le size 65536) (option_map_or (has_parts (length sources)) after true) e.1 in
+    let a = and_parts top (nat_le 1 (length sources) && (nat_le (length sources) 16 && (list_all (source_fits m) sources && (nat_le 1 size && (nat_le size 65536 && option_map_or (is_composite_of (length sources)) after true))))) h in
+    let b = and_parts (nat_le 1 (length sources)) (nat_le (length sources) 16 && (list_all (source_fits m) sources && (nat_le 1 size && (nat_le size 65536 && option_map_or (is_composite_of (length sources)) after true)))) a.1 in
+    let c = and_parts (nat_le (length sources) 16) (list_all (source_fits m) sources && (nat_le 1 size && (nat_le size 65536 && option_map_or (is_composite_of (length sources)) after true))) b.1 in
+    let d = and_parts (list_all (source_fits m) sources) (nat_le 1 size && (nat_le size 65536 && option_map_or (is_composite_of (length sources)) after true)) c.1 in
+    let e = and_parts (nat_le 1 size) (nat_le size 65536 && option_map_or (is_composite_of (length sources)) after true) d.1 in
+    let f = and_parts (nat_le size 65536) (option_map_or (is_composite_of (length sources)) after true) e.1 in
     and_from _ _ a.0 (and_from _ _ b.0 (and_from _ _ c.0 (and_from _ _ d.0 (and_from _ _ e.0 (and_from _ _ f.0 t)))))
 composite_after m top context children (kind.Terms a b c d n f g h i) key t e = e
 composite_after m top context children (kind.Histogram a b c d n f g h i) key t e = e

@@ -1,5 +1,5 @@
 -- The greatest number of a tree: what bounds it bounds each count, each error and each metric's number.
-use Rattle.std.specs.Prelude.{◌≡◌, refl, ℕ, ◌+◌, ◌≤◌, max, Bool, true, false, cond, T, List, [], ◌∷◌, map, sum_by, nat_le}
+use Rattle.std.specs.Prelude.{ℕ, ◌+◌, ◌≤◌, max, cond, T, List, [], ◌∷◌, map, sum_by, nat_le}
 use Rattle.std.specs.List.{list_all}
 use Rattle.std.proofs.Common.{arith}
 use Rattle.std.proofs.lemmas.Bool.Decides.{nat_tests}

@@ -1,5 +1,5 @@
 -- No number of a shard's answer is above the weight of the shard, where a metric's number is not.
-use Rattle.std.specs.Prelude.{◌≡◌, refl, ℕ, zero, suc, ◌+◌, ◌-◌, ◌==◌, ◌≤◌, max, Bool, true, false, cond, T, List, [], ◌∷◌, map, flat_map, take, sum_by, length, slice_get, ◌&&◌, nat_le, if◌then◌else◌, Option, None, Some, unwrap_or}
+use Rattle.std.specs.Prelude.{◌≡◌, refl, ℕ, ◌+◌, ◌-◌, ◌==◌, ◌≤◌, max, Bool, true, false, cond, T, List, [], ◌∷◌, map, flat_map, take, sum_by, length, slice_get, ◌&&◌, nat_le, if◌then◌else◌, Option, None, Some, unwrap_or}
 use Rattle.std.specs.List.{list_all, last_or}
 use Rattle.std.specs.Option.{option_map_or}
 use Rattle.std.proofs.Common.{sym, ◌∙◌, ap, subst, arith}
@@ -30,7 +30,7 @@ use Rattle.agg_evaluation.specs.Rows.{PlacedRow, roots}
 use Rattle.agg_evaluation.specs.RowsWeight.{rows_weight}
 use Rattle.agg_evaluation.specs.QueryFits.{field_is, are_probes}
 use Rattle.agg_evaluation.specs.SearchFits.{kind_fits, Made, made_at, handed, agg_fits, is_missing, is_whole_field, orders_fit}
-use Rattle.agg_evaluation.specs.Shard.{Collector, fixed_keys, is_terms, page, with_covered, metric_of, bucket_of, trimmed_node, node_of, collector_of, collected_node}
+use Rattle.agg_evaluation.specs.Shard.{Collector, fixed_keys, is_terms, page, with_covered, metric_of, bucket_of, node_of, collector_of, collected_node}
 use Rattle.agg_evaluation.specs.Whole.{Parts, parts, parts_at}
 use Rattle.list_laws.specs.Sorting.{sorted}
 use Rattle.agg_evaluation.proofs.AddUpLaws.{terms-add_up}
@@ -41,8 +41,16 @@ use Rattle.list_laws.proofs.Occurrences.{all-sorted, all-take, all-map}
 use Rattle.list_laws.proofs.Sums.{sum_by-sorted, sum_by-take}
 use Rattle.fitting_laws.proofs.Counting.{under_counted, filter_counted, key_counts_light, distinct_length}
 use Rattle.fitting_laws.proofs.Follows.{made_parts}
-use Rattle.fitting_laws.proofs.Hits.{length_is, counted_light}
-use Rattle.fitting_laws.proofs.Reach.{most, most_each, most_within, most_map, max_within, returned, bucket_reach, parts_reach, reach}
+use Rattle.fitting_laws.proofs.Hits.{counted_light}
+use Rattle.fitting_laws.proofs.Reach.{most_each, most_within, most_map, max_within, returned, bucket_reach, parts_reach, reach}
+
+-- a field of whole numbers is one with the value of rows without one
+pub whole_field : (m : Mapping) (field : ℕ) (missing : Option Scalar) → is_whole_field m field missing ≡ true → field_is m (λ k. is_missing k missing) field ≡ true
+whole_field m field missing h =
+    elim (slice_get m.fields field) as (λ o. option_map_or (λ (f : Field). is_whole_kind f.kind && is_missing f.kind missing) o false ≡ true → option_map_or (λ (f : Field). is_missing f.kind missing) o false ≡ true) [
+      | None ↦ λ e. e
+      | Some f ↦ λ e. (and_parts (is_whole_kind f.kind) (is_missing f.kind missing) e).1
+    ] h
 
 -- A bound on the numbers: the shard weighs no more.
 module _ (number : Metric → ℕ) (bound : ℕ) (all : List PlacedRow) (heavy : rows_weight all ≤ bound) where
@@ -169,13 +177,6 @@ module _ (number : Metric → ℕ) (bound : ℕ) (all : List PlacedRow) (heavy :
   -- numbers of metrics over fields of the mapping
   module _ (m : Mapping) (numbers : (field : ℕ) (missing : Option Scalar) → field_is m (λ k. is_missing k missing) field ≡ true → (context : ℕ) (rows : List PlacedRow) → IsCounted all context rows
       → number (metric_of (flat_map (values_or field missing) rows)) ≤ bound) where
-    whole_field : (field : ℕ) (missing : Option Scalar) → is_whole_field m field missing ≡ true → field_is m (λ k. is_missing k missing) field ≡ true
-    whole_field field missing h =
-        elim (slice_get m.fields field) as (λ o. option_map_or (λ (f : Field). is_whole_kind f.kind && is_missing f.kind missing) o false ≡ true → option_map_or (λ (f : Field). is_missing f.kind missing) o false ≡ true) [
-          | None ↦ λ e. e
-          | Some f ↦ λ e. (and_parts (is_whole_kind f.kind) (is_missing f.kind missing) e).1
-        ] h
-
     node_within : (context : ℕ) (cs : List Collector) (fs : List (Node → ℕ)) → EachCollects context cs fs → (top : Bool) (outer : ℕ) (children : List Kind) (k : Kind) → kind_fits m top outer children k ≡ true
         → (rows : List PlacedRow) → IsCounted all context rows → parts_reach number fs k (parts (node_of true all (roots all) cs k rows)) ≤ bound
     node_within context cs fs laws top outer children (kind.Terms field size shard_size least order include exclude missing show) h rows counted =
@@ -191,10 +192,10 @@ module _ (number : Metric → ℕ) (bound : ℕ) (all : List PlacedRow) (heavy :
     node_within context cs fs laws top outer children (kind.Composite sources size after) h rows counted =
         let k = kind.Composite sources size after in
         plain context cs fs laws rows counted k (page sources size after (all_keys all k rows)) refl
-    node_within context cs fs laws top outer children (kind.Sum field missing) h rows counted = measured context cs fs laws rows counted (kind.Sum field missing) _ refl (numbers field missing (whole_field field missing h) context rows counted)
-    node_within context cs fs laws top outer children (kind.Min field missing) h rows counted = measured context cs fs laws rows counted (kind.Min field missing) _ refl (numbers field missing (whole_field field missing h) context rows counted)
-    node_within context cs fs laws top outer children (kind.Max field missing) h rows counted = measured context cs fs laws rows counted (kind.Max field missing) _ refl (numbers field missing (whole_field field missing h) context rows counted)
-    node_within context cs fs laws top outer children (kind.Avg field missing) h rows counted = measured context cs fs laws rows counted (kind.Avg field missing) _ refl (numbers field missing (whole_field field missing h) context rows counted)
+    node_within context cs fs laws top outer children (kind.Sum field missing) h rows counted = measured context cs fs laws rows counted (kind.Sum field missing) _ refl (numbers field missing (whole_field m field missing h) context rows counted)
+    node_within context cs fs laws top outer children (kind.Min field missing) h rows counted = measured context cs fs laws rows counted (kind.Min field missing) _ refl (numbers field missing (whole_field m field missing h) context rows counted)
+    node_within context cs fs laws top outer children (kind.Max field missing) h rows counted = measured context cs fs laws rows counted (kind.Max field missing) _ refl (numbers field missing (whole_field m field missing h) context rows counted)
+    node_within context cs fs laws top outer children (kind.Avg field missing) h rows counted = measured context cs fs laws rows counted (kind.Avg field missing) _ refl (numbers field missing (whole_field m field missing h) context rows counted)
     node_within context cs fs laws top outer children (kind.ValueCount field missing) h rows counted = measured context cs fs laws rows counted (kind.ValueCount field missing) _ refl (numbers field missing h context rows counted)
     node_within context cs fs laws top outer children (kind.Filters a b c) h rows counted = started context cs fs laws rows counted (kind.Filters a b c) (fixed_keys (kind.Filters a b c)) refl
     node_within context cs fs laws top outer children (kind.Filter a) h rows counted = started context cs fs laws rows counted (kind.Filter a) (fixed_keys (kind.Filter a)) refl

@@ -1,5 +1,5 @@
 -- No number of a whole is above the sum of the greatest numbers of its trees.
-use Rattle.std.specs.Prelude.{◌≡◌, refl, ℕ, zero, suc, ◌+◌, ◌≤◌, max, Bool, true, false, cond, ◌||◌, T, List, [], ◌∷◌, ◌++◌, map, flat_map, sum_by, drop, Some, slice_get}
+use Rattle.std.specs.Prelude.{◌≡◌, refl, ℕ, zero, suc, ◌+◌, ◌≤◌, max, Bool, true, false, cond, T, List, [], ◌∷◌, ◌++◌, map, flat_map, sum_by, drop, Some, slice_get}
 use Rattle.std.specs.List.{list_all, enumerate_from, cons_option}
 use Rattle.std.proofs.Common.{sym, ◌∙◌, ap, subst, arith}
 use Rattle.std.proofs.lemmas.List.Sums.{sum_by-cons, sum_by-append}
@@ -8,11 +8,10 @@ use Rattle.agg_model.specs.declared.partial.Bucket.{Bucket}
 use Rattle.agg_model.specs.declared.partial.Metric.{Metric}
 use Rattle.agg_model.specs.declared.partial.Node.{Node, out-Node}
 use Rattle.agg_model.specs.declared.partial.Node.TheOpen.{Node-F}
-use Rattle.agg_model.specs.declared.partial.Node.TheVariants.{Keyed, Fixed, Number}
 use Rattle.agg_model.specs.declared.aggregation.Agg.{Agg, Agg', Row_of-Agg, end_of-Agg, more_of-Agg}
 use Rattle.agg_model.specs.declared.aggregation.Kind.{Kind}
 use Rattle.agg_evaluation.specs.Folds.{fold_aggs}
-use Rattle.agg_evaluation.specs.KeyOrder.{key_eq, has_key}
+use Rattle.agg_evaluation.specs.KeyOrder.{key_eq}
 use Rattle.agg_evaluation.specs.Keys.{distinct_keys}
 use Rattle.agg_evaluation.specs.Orders.{bucket_key, bucket_count}
 use Rattle.agg_evaluation.specs.Shard.{fixed_keys, is_terms}
@@ -21,7 +20,7 @@ use Rattle.agg_evaluation.specs.Whole.{Parts, parts, parts_at, children_at, whol
 use Rattle.std.specs.FinMap.{slice_cmp-IsAntisymmetric}
 use Rattle.agg_evaluation.proofs.KeyExact.{exact_keys}
 use Rattle.agg_evaluation.proofs.KeyLists.{key_eq-exact, is_below, below-absent, ascending-distinct_keys}
-use Rattle.agg_evaluation.proofs.KeyParts.{part, parts-at_most, with_key-all}
+use Rattle.agg_evaluation.proofs.KeyParts.{parts-at_most, with_key-all}
 use Rattle.agg_evaluation.proofs.NodeForms.{out-Keyed, out-Fixed, out-Number}
 use Rattle.agg_evaluation.proofs.UnionLaws.{ascending-fixed_keys, without_key}
 use Rattle.agg_evaluation.proofs.WholeLaws.{Union, tree_buckets, with_key}
@@ -29,7 +28,7 @@ use Rattle.list_laws.proofs.Booleans.{and_left, and_right, both, holds}
 use Rattle.list_laws.proofs.Lists.{filter-append, sum_by-flat_map, sum_by-map}
 use Rattle.list_laws.proofs.Orders.{equal_is}
 use Rattle.list_laws.proofs.Sums.{sum_by-at_most}
-use Rattle.fitting_laws.proofs.Reach.{most, most_each, most_map, max_within, returned, bucket_reach, parts_reach, reach}
+use Rattle.fitting_laws.proofs.Reach.{most, most_each, most_map, returned, bucket_reach, parts_reach, reach}
 
 -- what the parts of a tree say
 pub record Level (ts : List (Node → Bool)) (p : Parts) : Type 0 where
@@ -82,15 +81,24 @@ module _ (f : Bucket → ℕ) (q : Key) where
         | false ↦ λ e. let rest = once bs (and_right _ _ h) in omega (arith, rest)
       ] refl
 
-  pub once_each : (ts : List (Node → Bool)) (g : Node → ℕ) → ((x : Node) → most f (parts x).buckets ≤ g x) → (xs : List Node) → AreLevels ts xs → sum_by f (with_key q (tree_buckets xs)) ≤ sum_by g xs
-  once_each ts g below [] h = omega arith
-  once_each ts g below (x ∷ xs) h =
+  -- trees whose buckets are each at most what the tree is
+  abbrev pub AreBelow : (Node → ℕ) → List Node → Type 0
+  AreBelow g [] = Unit {0}
+  AreBelow g (x ∷ xs) = (most f (parts x).buckets ≤ g x) × AreBelow g xs
+
+  pub all_below : (g : Node → ℕ) → ((x : Node) → most f (parts x).buckets ≤ g x) → (xs : List Node) → AreBelow g xs
+  all_below g below [] = tt
+  all_below g below (x ∷ xs) = (below x, all_below g below xs)
+
+  pub once_each : (ts : List (Node → Bool)) (g : Node → ℕ) (xs : List Node) → AreBelow g xs → AreLevels ts xs → sum_by f (with_key q (tree_buckets xs)) ≤ sum_by g xs
+  once_each ts g [] below h = omega arith
+  once_each ts g (x ∷ xs) below h =
       let split = ap (sum_by f) (filter-append (λ b. key_eq q (bucket_key b)) (parts x).buckets (tree_buckets xs)) in
       let added = sum_by-append f (with_key q (parts x).buckets) (with_key q (tree_buckets xs)) in
       let first = once (parts x).buckets h.0.up in
-      let bound = below x in
+      let bound = below.0 in
       let cons = sum_by-cons g x xs in
-      let rest = once_each ts g below xs h.1 in
+      let rest = once_each ts g xs below.1 h.1 in
       omega (arith, split, added, first, bound, cons, rest)
 
 -- the first of the rest of a list of children
@@ -104,13 +112,13 @@ heads t ts f fs (suc m) [] h = absurd h
 heads t ts f fs (suc m) (n ∷ ns) h = heads t ts f fs m ns h
 
 -- the m-th children of buckets, and what is behind them
-record Column (t : Node → Bool) (ts : List (Node → Bool)) (f : Node → ℕ) (fs : List (Node → ℕ)) (m : ℕ) (bs : List Bucket) : Type 0 where
-  pass : T (list_all t (children_at bs m))
-  rest : T (list_all (λ b. pass_each ts (drop (suc m) b.children)) bs)
+pub record Column (t : Node → Bool) (ts : List (Node → Bool)) (f : Node → ℕ) (fs : List (Node → ℕ)) (m : ℕ) (bs : List Bucket) : Type 0 where
+  pub pass : T (list_all t (children_at bs m))
+  pub rest : T (list_all (λ b. pass_each ts (drop (suc m) b.children)) bs)
   here : sum_by f (children_at bs m) ≤ sum_by (λ b. most_each (f ∷ fs) (drop m b.children)) bs
   behind : sum_by (λ b. most_each fs (drop (suc m) b.children)) bs ≤ sum_by (λ b. most_each (f ∷ fs) (drop m b.children)) bs
 
-column : (t : Node → Bool) (ts : List (Node → Bool)) (f : Node → ℕ) (fs : List (Node → ℕ)) (m : ℕ) (bs : List Bucket) → T (list_all (λ b. pass_each (t ∷ ts) (drop m b.children)) bs) → Column t ts f fs m bs
+pub column : (t : Node → Bool) (ts : List (Node → Bool)) (f : Node → ℕ) (fs : List (Node → ℕ)) (m : ℕ) (bs : List Bucket) → T (list_all (λ b. pass_each (t ∷ ts) (drop m b.children)) bs) → Column t ts f fs m bs
 column t ts f fs m [] h = record { pass = tt; rest = tt; here = omega arith; behind = omega arith }
 column t ts f fs m (b ∷ bs) h =
     let first = heads t ts f fs m b.children (and_left _ _ h) in
@@ -178,7 +186,7 @@ module _ (number : Metric → ℕ) (adds_up : AddsUp number) (ws : List Union) (
     buckets_add : (xs : List Node) → AreLevels ts xs → (ks : List Key) → most (bucket_reach fs) (map (whole_bucket ws (tree_buckets xs)) ks) ≤ sum_by own xs
     buckets_add xs h ks = most_map (bucket_reach fs) (sum_by own xs) (whole_bucket ws (tree_buckets xs)) ks (λ q.
         let one = bucket_adds (tree_buckets xs) q (all_children ts xs h) in
-        let apart = once_each (bucket_reach fs) q ts own (λ x. omega arith) xs h in
+        let apart = once_each (bucket_reach fs) q ts own xs (all_below (bucket_reach fs) q own (λ x. omega arith) xs) h in
         omega (arith, one, apart))
 
     returned_add : (xs : List Node) (ks : List Key) → T (is_ascending ks) → (b : Bool)

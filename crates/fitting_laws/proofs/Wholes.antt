@@ -1,7 +1,7 @@
 -- The whole of the answers of some shards of an index has numbers that fit.
-use Rattle.std.specs.Prelude.{◌≡◌, refl, ℕ, zero, suc, ◌+◌, ◌*◌, ◌^◌, ◌<◌, ◌≤◌, Bool, true, T, List, [], ◌∷◌, map, filter_map, sum_by, length, slice_get, Option, Some, None}
+use Rattle.std.specs.Prelude.{◌≡◌, refl, ℕ, zero, suc, ◌+◌, ◌*◌, ◌^◌, ◌<◌, ◌≤◌, Bool, true, T, List, [], ◌∷◌, map, filter_map, sum_by, slice_get, Some}
 use Rattle.std.specs.List.{list_all, enumerate_from}
-use Rattle.std.proofs.Common.{sym, ◌∙◌, ap, subst, arith}
+use Rattle.std.proofs.Common.{sym, ap, subst, arith}
 use Rattle.std.proofs.lemmas.Bool.{and_parts, and_from}
 use Rattle.std.proofs.lemmas.Bool.Decides.{nat_tests}
 use Rattle.std.proofs.lemmas.List.Sums.{sum_by-cons}
@@ -9,25 +9,23 @@ use Rattle.agg_model.specs.Contexts.{parents_before}
 use Rattle.agg_model.specs.declared.aggregation.Agg.{Agg}
 use Rattle.agg_model.specs.declared.aggregation.Search.{Search}
 use Rattle.agg_model.specs.declared.mapping.Mapping.{Mapping}
-use Rattle.agg_model.specs.declared.partial.Metric.{Metric}
 use Rattle.agg_model.specs.declared.partial.Node.{Node}
 use Rattle.agg_model.specs.declared.partial.Partial.{Partial}
 use Rattle.agg_model.specs.declared.row.Document.{Document}
 use Rattle.agg_reading.specs.Store.{weight}
-use Rattle.agg_evaluation.specs.Counted.{IsApart, IsCounted}
+use Rattle.agg_evaluation.specs.Counted.{IsCounted}
 use Rattle.agg_evaluation.specs.DocumentFits.{all_fit}
 use Rattle.agg_evaluation.specs.Matching.{matches, matched_roots}
-use Rattle.agg_evaluation.specs.PlacedFits.{rows_placed}
 use Rattle.agg_evaluation.specs.QueryFits.{query_fits}
 use Rattle.agg_evaluation.specs.Rows.{PlacedRow, roots, rows_of_documents}
 use Rattle.agg_evaluation.specs.RowsWeight.{rows_weight}
 use Rattle.agg_evaluation.specs.SearchFits.{agg_fits, search_fits}
 use Rattle.agg_evaluation.specs.Shard.{shard_node, shard_answer}
 use Rattle.agg_evaluation.specs.Trees.{is_tree_of, node_fits, numbers_fit, fits_u64}
-use Rattle.agg_evaluation.specs.Whole.{whole_node, whole, metric_sum}
+use Rattle.agg_evaluation.specs.Whole.{whole_node, whole}
 use Rattle.agg_evaluation.proofs.AloneLaws.{whole_node-is_tree}
 use Rattle.agg_evaluation.proofs.TreeLaws.{collected-is_tree}
-use Rattle.list_laws.proofs.Booleans.{and_left, and_right, both, true_is}
+use Rattle.list_laws.proofs.Booleans.{both, true_is}
 use Rattle.list_laws.proofs.Lists.{filter_map-there}
 use Rattle.list_laws.proofs.Occurrences.{all-map}
 use Rattle.list_laws.proofs.Options.{none_some, some_same}
@@ -62,7 +60,7 @@ slice_get_mapped f [] j x e = none_some x e
 slice_get_mapped f (y ∷ xs) zero x e = ap (λ z. Some (f z)) (some_same y x e)
 slice_get_mapped f (y ∷ xs) (suc j) x e = slice_get_mapped f xs j x e
 
-all_at : {A : Type 0} (p : A → Bool) (xs : List A) (j : ℕ) (x : A) → list_all p xs ≡ true → slice_get xs j ≡ Some x → p x ≡ true
+pub all_at : {A : Type 0} (p : A → Bool) (xs : List A) (j : ℕ) (x : A) → list_all p xs ≡ true → slice_get xs j ≡ Some x → p x ≡ true
 all_at p [] j x h e = none_some x e
 all_at p (y ∷ xs) zero x h e = subst (λ z. p z ≡ true) (some_same y x e) (and_parts (p y) (list_all p xs) h).0
 all_at p (y ∷ xs) (suc j) x h e = all_at p xs j x (and_parts (p y) (list_all p xs) h).1 e

@@ -6,11 +6,11 @@ use Rattle.agg_model.specs.declared.aggregation.Kind.{Kind}
 use Rattle.agg_model.specs.declared.aggregation.Kind.TheVariants as kind
 use Rattle.agg_model.specs.declared.aggregation.Search.{Search}
 use Rattle.agg_model.specs.declared.key.Key.{Key}
-use Rattle.agg_evaluation.specs.SearchFits.{has_parts}
+use Rattle.agg_evaluation.specs.CompositeKeys.{is_composite_of}
 
 -- a composite's key has a part for each source
 abbrev pub takes : Key → Kind → Bool
-takes key (kind.Composite sources size after) = has_parts (length sources) key
+takes key (kind.Composite sources size after) = is_composite_of (length sources) key
 takes key _ = true
 
 abbrev pub search_takes : Key → Search → Bool

@@ -9,7 +9,7 @@ use Rattle.std.specs.declared.cmp.Ordering.{Ordering}
 use Rattle.std.specs.declared.cmp.Ordering.TheVariants.{Less}
 use Rattle.std.proofs.Common.{sym, ◌∙◌, ap, subst, arith, length-append}
 use Rattle.agg_model.specs.declared.aggregation.CompositeSource.{CompositeSource}
-use Rattle.agg_model.specs.declared.key.Key.{Key, out-Key, out-roll-Key}
+use Rattle.agg_model.specs.declared.key.Key.{Key, out-Key}
 use Rattle.agg_model.specs.declared.key.Key.TheOpen.{Key-F}
 use Rattle.agg_model.specs.declared.key.Key.TheVariants.{Many}
 use Rattle.agg_evaluation.specs.Ceiling.{combination_count}
@@ -19,7 +19,7 @@ use Rattle.agg_evaluation.specs.Keys.{combinations, composite_keys, distinct_key
 use Rattle.agg_evaluation.specs.Rows.{PlacedRow}
 use Rattle.agg_evaluation.specs.Trees.{is_ascending}
 use Rattle.agg_evaluation.proofs.Computing.{computing}
-use Rattle.agg_evaluation.proofs.FoldLaws.{fold_key-Many}
+use Rattle.agg_evaluation.proofs.FoldLaws.{fold_key-Many, out-Many}
 use Rattle.agg_evaluation.proofs.KeyCompare.{key_cmp_total}
 use Rattle.agg_evaluation.proofs.KeyLists.{is_below, ascending-distinct_keys, ascending-filter, distinct_keys-ascending}
 use Rattle.list_laws.proofs.Booleans.{and_left, and_right, both}
@@ -27,11 +27,6 @@ use Rattle.list_laws.proofs.Orders.{less_is}
 use Rattle.list_laws.proofs.Lists.{map-append}
 use Rattle.agg_evaluation.specs.CompositeKeys.{has_parts, is_composite_of}
 use Rattle.evaluation_laws.proofs.KeyBounds.{Each, each-flat_map, each-map, each-all, each-then}
-
--- a key that was made of its parts has these parts
-pub out-Many : (ks : List Key) → out-Key (Many ks) ≡ Key-F.Many ks
-unfolding computing
-out-Many ks = out-roll-Key (Key-F.Many ks)
 
 -- keys of parts compare part by part
 many-cmp : (js ks : List Key) → key_cmp (Many js) (Many ks) ≡ slice_cmp key_cmp js ks

@@ -74,7 +74,7 @@ made-Many n k e = by (out-Key k) refl
 
 module _ (sources : List CompositeSource) where
   -- on keys with a part for each source the exact order is the stated one
-  same-order : (j k : Key) → is_composite_of (length sources) j ≡ true → is_composite_of (length sources) k ≡ true → exact_cmp sources j k ≡ composite_cmp sources j k
+  pub same-order : (j k : Key) → is_composite_of (length sources) j ≡ true → is_composite_of (length sources) k ≡ true → exact_cmp sources j k ≡ composite_cmp sources j k
   same-order j k e f =
       settled (any_parts_cmp sources (key_parts j) (key_parts k)) (λ h.
       let made_j = made-Many (length sources) j e in

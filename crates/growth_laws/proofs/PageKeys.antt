@@ -50,7 +50,7 @@ module _ (R : Key → Key → Ordering) (t : IsTotalOrder R) (exact : (j k : Key
       (λ (i : Has R t q ks). ap (λ b. key_eq q k || b) (has-found q ks i) ∙ or-true (key_eq q k)) h
 
   -- in an ascending list no key stands twice
-  distinct-ascending : (ks : List Key) → T (is_ascending ks) → Distinct R t exact ks
+  pub distinct-ascending : (ks : List Key) → T (is_ascending ks) → Distinct R t exact ks
   distinct-ascending [] up = tt
   distinct-ascending (k ∷ ks) up =
       (λ h. subst T (sym (has-found k ks h) ∙ below-absent k ks (and_left _ _ up)) tt, distinct-ascending ks (and_right _ _ up))
@@ -61,7 +61,7 @@ distinct-other R S t u e f [] d = tt
 distinct-other R S t u e f (x ∷ xs) d = (λ h. d.0 (has-other S R u t x xs h), distinct-other R S t u e f xs d.1)
 
 -- a test that holds of all keys
-all-has : (R : Key → Key → Ordering) (t : IsTotalOrder R) (p : Key → Bool) (ks : List Key) → T (list_all p ks) → (q : Key) → Has R t q ks → p q ≡ true
+pub all-has : (R : Key → Key → Ordering) (t : IsTotalOrder R) (p : Key → Bool) (ks : List Key) → T (list_all p ks) → (q : Key) → Has R t q ks → p q ≡ true
 all-has R t p [] h q i = absurd i
 all-has R t p (k ∷ ks) h q i = ⊎_elim (λ (e : q ≡ k). ap p e ∙ true_is _ (and_left _ _ h)) (λ (j : Has R t q ks). all-has R t p ks (and_right _ _ h) q j) i
 

@@ -6,3 +6,4 @@ pub mod Sums
 pub mod Occurrences
 pub mod Permutations
 pub mod StableSort
+pub mod Each

@@ -1,22 +1,22 @@
-use Rattle.std.proofs.Common.{rules, ◌≡◌, ℕ, ◌+◌, ◌<◌, length, [], ◌∷◌, ◌++◌, List, ap, ◌∙◌, refl, arith, zero, suc}
-use mathlib.Core.Option.{some}
-use lib.ListN.{get_elem?}
+use Rattle.std.proofs.Common.{rules, ◌≡◌, ◌+◌, ◌<◌, ◌≤◌, ℕ, [], ◌∷◌, ◌++◌, length, get_or, refl, sym, subst, ◌∙◌, ap, arith}
+use Rattle.arrival_moves.specs.declared.plan.Plan.{Plan}
 use Rattle.arrival_moves.specs.Plans.{first_of}
+use Rattle.arrival_table.specs.Opening.{AreCounts}
+use Rattle.arrival_table.proofs.Starts.{AreStarts, starts_one, starts_more, first_start, start_counted, start_within}
 use Rattle.arrival_table.proofs.places.Places.of.Goals as goal
 
--- one number more, where all before are those of a function
-pushed : (f : ℕ → ℕ) (xs : List ℕ) (n y : ℕ) → length xs ≡ n → ((q : ℕ) → q < n → get_elem? xs q ≡ some (f q)) → y ≡ f n → (length (xs ++ y ∷ []) ≡ n + 1) × ((q : ℕ) → q < n + 1 → get_elem? (xs ++ y ∷ []) q ≡ some (f q))
-pushed f [] n y e h is = let z : n ≡ 0 = omega arith in (omega arith, (λ q l. only q (omega arith) z))
-  where
-    only : (q : ℕ) → q ≡ 0 → n ≡ 0 → get_elem? (y ∷ []) q ≡ some (f q)
-    only zero a b = ap some (is ∙ ap f b)
-    only (suc q) a b = absurd (omega arith)
-pushed f (x ∷ xs) n y e h is = let r = pushed (λ q. f (suc q)) xs (length xs) y refl (λ q l. h (suc q) (omega arith)) (is ∙ ap f (let s : n ≡ suc (length xs) = omega arith in s)) in let l = r.0 in (omega arith, all (h 0 (omega arith)) r.1)
-  where
-    all : some x ≡ some (f 0) → ((q : ℕ) → q < length xs + 1 → get_elem? (xs ++ y ∷ []) q ≡ some (f (suc q))) → (q : ℕ) → q < n + 1 → get_elem? (x ∷ (xs ++ y ∷ [])) q ≡ some (f q)
-    all a b zero l = a
-    all a b (suc q) l = b q (omega arith)
+pub loop-count-init : goal.loop-count-init
+loop-count-init c = let is : c.push.new.self.items ≡ 0 ∷ [] = search rules in (subst (AreStarts c.args.plan 1) (sym is) (starts_one c.args.plan), sym (first_start c.args.plan))
 
-pub loop-search-preserved : goal.loop-search-preserved
-loop-search-preserved c = let i = c.loop-search.invariant in let is : c.push.new.self.items ≡ c.loop-search.starts.items ++ c.tasks_before.result ∷ [] = search rules in let y : c.tasks_before.result ≡ first_of c.args.plan c.loop-search.search = search rules in
-    let r = pushed (first_of c.args.plan) c.loop-search.starts.items c.loop-search.search c.tasks_before.result i.0 i.1 y in (ap length is ∙ r.0, (λ q l. ap (λ xs. get_elem? xs q) is ∙ r.1 q l))
+pub overflow_add-start : goal.overflow_add-start
+overflow_add-start c = let p : Plan = c.args.plan in let q : ℕ = c.loop-count.count-index in let i = c.loop-count.invariant in let n : ℕ = get_or c.as_slice-count-items.result.now q 0 in
+    let counts : AreCounts p c.as_slice-count-items.result.now = search rules in let low : q < length c.as_slice-count-items.result.now = search rules in
+    let a = start_counted p q n c.as_slice-count-items.result.now counts low refl in let b = start_within p (q + 1) in let few = c.requires.plan.few in let at = i.1 in
+    let small : c.loop-count.start + n ≤ 65536 = omega arith in search rules
+
+pub loop-count-preserved : goal.loop-count-preserved
+loop-count-preserved c = let p : Plan = c.args.plan in let q : ℕ = c.loop-count.count-index in let i = c.loop-count.invariant in let n : ℕ = get_or c.as_slice-count-items.result.now q 0 in
+    let counts : AreCounts p c.as_slice-count-items.result.now = search rules in let low : q < length c.as_slice-count-items.result.now = search rules in
+    let next : c.loop-count.start + n ≡ first_of p (q + 1) = ap (λ k. k + n) i.1 ∙ start_counted p q n c.as_slice-count-items.result.now counts low refl in
+    let is : c.push-in-loop-count.new.self.items ≡ c.loop-count.starts.items ++ (c.loop-count.start + n) ∷ [] = search rules in
+    (subst (AreStarts p (q + 1 + 1)) (sym is) (starts_more p (q + 1) (c.loop-count.start + n) c.loop-count.starts.items next i.0), next)

@@ -1,5 +1,0 @@
-use Rattle.agg_spec.proofs.SearchAnswers.{answer_of-at}
-use Rattle.agg_spec.proofs.laws.a_search_answers_the_rows_that_match.Goals as goal
-
-pub returns : goal.returns
-returns c = answer_of-at

@@ -1,0 +1,20 @@
+pub mod NextPages
+mod Examples
+pub mod ScanLaws
+pub mod ScanPages
+pub mod FirstKeys
+pub mod AtPaths
+pub mod Finished
+pub mod Descent
+pub mod Steps
+pub mod Returned
+pub mod WholeGroups
+pub mod Nothing
+pub mod FallingCounts
+pub mod GroupSums
+pub mod ShardBounds
+pub mod SumLaws
+pub mod TermsAddUp
+pub mod TermsBounds
+pub mod TermsTotals
+pub mod TermsWithin

@@ -1,0 +1,4 @@
+pub mod CompositeGroups
+pub mod Paths
+pub mod TermsErrors
+pub mod TermsSums

@@ -1,0 +1,23 @@
+-- What the error of a returned term says of its true count ('Terms aggregation', `doc_count_error_upper_bound`).
+use Rattle.std.specs.Prelude.{◌≡◌, ◌≤◌, ◌<◌, ◌+◌, ℕ, pos, true, List, [], ◌∷◌, Some}
+use Rattle.agg_model.specs.declared.key.Key.{Key}
+use Rattle.agg_model.specs.declared.answer.BucketAnswer.{BucketAnswer, out-BucketAnswer}
+use Rattle.agg_model.specs.declared.aggregation.Order.{Order}
+use Rattle.agg_model.specs.declared.aggregation.OrderBy.TheVariants.{Count}
+use Rattle.agg_model.specs.declared.aggregation.Kind.{Kind}
+use Rattle.agg_model.specs.Options.{Options, options_of}
+
+abbrev pub BeginsByCount : List Order → Type 0
+BeginsByCount [] = ⊥
+BeginsByCount (o ∷ later) = o ≡ record { by = Count; descending = true }
+
+-- terms whose first order is by descending count, of which a shard returns at least one
+abbrev pub IsTermsByCount : Kind → Type 0
+IsTermsByCount k = elim (options_of k) [ Options.Terms t ↦ (0 < t.shard_size) × BeginsByCount t.order | _ ↦ ⊥ ]
+
+-- the true count of a returned bucket lies between its count and that plus its error
+pub record IsWithinError (true_count : Key → ℕ) (b : BucketAnswer) : Type 0 where
+  pub error : ℕ
+  pub given : (out-BucketAnswer b).error ≡ Some (pos error)
+  pub at_least : (out-BucketAnswer b).count ≤ true_count (out-BucketAnswer b).key
+  pub at_most : true_count (out-BucketAnswer b).key ≤ (out-BucketAnswer b).count + error

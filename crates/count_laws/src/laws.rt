@@ -1,0 +1,82 @@
+//! Laws of the definitions. Each function has a law as its contract, over all values of the definitions, and does nothing.
+ghost use Rattle.std.specs.Prelude.{◌≡◌, ◌+◌, ◌++◌, ◌∷◌, [], ℕ, IsTrue, List, Some, slice_get, sum_by, take};
+ghost use Rattle.std.specs.List.{AllByRecursion};
+ghost use Rattle.agg_model.specs.declared.answer.NodeAnswer.{NodeAnswer, out-NodeAnswer};
+ghost use Rattle.agg_model.specs.declared.aggregation.Agg.{Agg, out-Agg};
+ghost use Rattle.agg_model.specs.declared.aggregation.Order.{Order};
+ghost use Rattle.agg_model.specs.declared.aggregation.Search.{Search};
+ghost use Rattle.agg_model.specs.declared.mapping.Mapping.{Mapping};
+ghost use Rattle.agg_model.specs.declared.partial.Node.{Node};
+ghost use Rattle.agg_evaluation.specs.Orders.{bucket_count};
+ghost use Rattle.agg_evaluation.specs.Rows.{PlacedRow};
+ghost use Rattle.agg_evaluation.specs.SearchFits.{search_fits};
+ghost use Rattle.agg_evaluation.specs.TrueCounts.{BucketPath, aggs_at, kind_of, true_count, true_key_count};
+ghost use Rattle.agg_evaluation.specs.Whole.{Parts};
+ghost use Rattle.agg_evaluation.specs.Whole.{parts as node_parts};
+ghost use Rattle.agg_spec.specs.Final.{Finisher, finisher, terms_answer};
+ghost use Rattle.count_laws.specs.CompositeGroups.{answered_groups, composite_groups, page_size};
+ghost use Rattle.count_laws.specs.Paths.{
+  answer_of_shards,
+  answered_by_shard,
+  is_uncut,
+  nodes_at,
+  whole_of_shards,
+};
+ghost use Rattle.count_laws.specs.TermsErrors.{IsTermsByCount, IsWithinError};
+ghost use Rattle.count_laws.specs.TermsSums.{
+  below_minimum_count,
+  minimum_of_terms,
+  other_count,
+  returned_count,
+  whole_of_rows,
+};
+
+/// An answer to terms loses no count: what it returns, what it gives as other and what is below the minimum count add
+/// up to what the shards returned and what they cut.
+pub fn terms_lose_no_count()
+    ensures { (name : List ℕ) (children : List Finisher) (size min_doc_count : ℕ) (order : List Order) (parts : Parts) →
+        returned_count (terms_answer name children size min_doc_count order parts)
+        + other_count (terms_answer name children size min_doc_count order parts)
+        + below_minimum_count min_doc_count parts.buckets
+        ≡ parts.cut + sum_by bucket_count parts.buckets }
+{}
+
+/// Along a path of returned buckets on which no terms were cut, each node of the whole is the whole of the answers to the
+/// rows that each shard has at the end of the path.
+pub fn an_uncut_path_reaches_the_whole_of_its_rows()
+    ensures { (m : Mapping) (request : Search) (shards : List (List PlacedRow)) (path : BucketPath) (place : ℕ) (agg : Agg) →
+        IsTrue (search_fits m request) → IsTrue (is_uncut request.aggs (whole_of_shards request shards).nodes path) →
+        slice_get (aggs_at request.aggs path) place ≡ Some agg →
+        slice_get (nodes_at (whole_of_shards request shards).nodes path) place ≡ Some (whole_of_rows agg (answered_by_shard request path shards)) }
+{}
+
+/// An answer to terms at the end of such a path has all keys of all shards: what it returns, what it gives as other and
+/// what is below the minimum count add up to them, whatever the order and whatever the shards cut there.
+pub fn terms_count_all_keys()
+    ensures { (m : Mapping) (request : Search) (shards : List (List PlacedRow)) (path : BucketPath) (place : ℕ) (agg : Agg) (node : Node)
+        (min_doc_count : ℕ) → IsTrue (search_fits m request) → IsTrue (is_uncut request.aggs (whole_of_shards request shards).nodes path) →
+        slice_get (aggs_at request.aggs path) place ≡ Some agg →
+        minimum_of_terms (out-Agg agg).kind ≡ Some min_doc_count →
+        slice_get (nodes_at (whole_of_shards request shards).nodes path) place ≡ Some node →
+        returned_count ((finisher agg).finish node) + other_count ((finisher agg).finish node) + below_minimum_count min_doc_count (node_parts node).buckets
+        ≡ true_key_count shards request path place }
+{}
+
+/// By descending count each term that is returned at the end of such a path is within its error: its true count lies
+/// between its count and that plus its error, whatever the shards cut there.
+pub fn returned_terms_are_within_their_error()
+    ensures { (m : Mapping) (request : Search) (shards : List (List PlacedRow)) (path : BucketPath) (place : ℕ) (agg : Agg) (node : Node) →
+        IsTrue (search_fits m request) →
+        IsTrue (is_uncut request.aggs (whole_of_shards request shards).nodes path) →
+        slice_get (aggs_at request.aggs path) place ≡ Some agg → IsTermsByCount (out-Agg agg).kind →
+        slice_get (nodes_at (whole_of_shards request shards).nodes path) place ≡ Some node →
+        AllByRecursion (IsWithinError (λ key. true_count shards request (path ++ (place, key) ∷ []))) (out-NodeAnswer ((finisher agg).finish node)).buckets }
+{}
+
+/// A page of a composite has the first groups of all that come after its key, in the order of the sources, each with its
+/// true count.
+pub fn a_page_has_the_first_groups()
+    ensures { (m : Mapping) (request : Search) (shards : List (List PlacedRow)) (agg : Agg) (size : ℕ) (page : NodeAnswer) →
+        IsTrue (search_fits m request) → slice_get request.aggs 0 ≡ Some agg → page_size (kind_of agg) ≡ Some size →
+        slice_get (answer_of_shards request shards).nodes 0 ≡ Some page → answered_groups page ≡ take size (composite_groups shards request) }
+{}

@@ -1,5 +1,0 @@
-use Rattle.fitting_laws.proofs.Hits.{hits_fit}
-use Rattle.fitting_laws.proofs.laws.hits_of_shards_fit.Goals as goal
-
-pub returns : goal.returns
-returns c = hits_fit

@@ -1,5 +1,0 @@
-use Rattle.agg_evaluation.proofs.RowsFit.{rows_fit_placed}
-use Rattle.fitting_laws.proofs.laws.rows_of_fitting_documents_fit.Goals as goal
-
-pub returns : goal.returns
-returns c = rows_fit_placed
