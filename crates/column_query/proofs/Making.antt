@@ -1,5 +1,6 @@
 -- A query that is made for a shard's mapping looks at fields of the shard.
 use Rattle.std.proofs.Common.{◌≡◌, ℕ, true, Bool, List, length, map, sym, ◌∙◌, ap, subst}
+use Rattle.std.proofs.Math.Bool.{Bool-set}
 use Rattle.std.proofs.Math.Logic.{∥∥₁_elim}
 use Rattle.std.proofs.lemmas.List.{length-map}
 use Rattle.agg_model.specs.declared.mapping.Field.{Field}
@@ -24,7 +25,7 @@ module _ (shard : Columns) (query : Query) where
 
   pub looks-for : (context : ℕ) → IsMadeFor shard context query → Looks
   looks-for context made =
-      ∥∥₁_elim made (hlevel) (λ found. ∥∥₁_elim found.1.0 (hlevel) (λ of. from_documents found.0 context found.1.1 of.0 of.1))
+      ∥∥₁_elim made (Bool-set _ _) (λ found. ∥∥₁_elim found.1.0 (Bool-set _ _) (λ of. from_documents found.0 context found.1.1 of.0 of.1))
 
   pub looks-made : IsMade shard query → Looks
-  looks-made made = ∥∥₁_elim made (hlevel) (λ found. looks-for found.0 found.1)
+  looks-made made = ∥∥₁_elim made (Bool-set _ _) (λ found. looks-for found.0 found.1)

@@ -58,11 +58,7 @@ fn said(alloc: Global, shard: &Shard, query: &Prepared) -> Result<Bits, AllocErr
 
 /// For each document of the shard, in the order of its roots, whether the query matches it, which looks at fields of the
 /// shard.
-pub(crate) fn matched_roots(
-    alloc: Global,
-    shard: &Shard,
-    query: &Query,
-) -> Result<Bits, AllocError>
+pub(crate) fn matched_roots(alloc: Global, shard: &Shard, query: &Query) -> Result<Bits, AllocError>
     requires { looks_below (length shard.now.kinds) query.now ≡ true }
     ensures { IfOk result (λ bits. bits ≡ map (matches shard.now.rows query.now) (roots shard.now.rows)) }
 {

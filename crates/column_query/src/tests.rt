@@ -173,7 +173,8 @@ fn example(alloc: Global) -> Result<Shard, AllocError>
 {
     let documents = documents(alloc)?;
     let mapping = mapping(alloc)?;
-    Shard::build(alloc, &documents, &mapping)
+    let shard = Shard::build(alloc, &documents, &mapping)?;
+    Ok(shard)
 }
 
 // Whether the query matches just those of the three documents that are wanted.

@@ -1,5 +1,5 @@
 -- The example's documents are such as its mapping gives.
-use Rattle.std.proofs.Common.{◌≡◌, refl, ◌<◌, ◌≤◌, ◌+◌, ◌∙◌, List, length, sym, ap, subst, arith, true}
+use Rattle.std.proofs.Common.{◌≡◌, refl, ◌<◌, ◌≤◌, ◌+◌, ◌∙◌, List, length, map, sym, ap, subst, arith, true}
 use Rattle.std.specs.Prelude.{IsTrue}
 use Rattle.agg_model.specs.declared.limits.TheConstants.{MAX_PATHS, WEIGHT_LIMIT}
 use Rattle.agg_model.specs.declared.mapping.Mapping.{Mapping}
@@ -9,6 +9,8 @@ use Rattle.agg_evaluation.specs.DocumentFits.{all_fit}
 use Rattle.agg_evaluation.specs.Rows.{rows_of_documents}
 use Rattle.agg_evaluation.specs.RowsWeight.{rows_weight}
 use Rattle.agg_evaluation.proofs.Computing.{computing}
+use Rattle.shard_columns.specs.Built.{columns_from}
+use Rattle.shard_columns.specs.Columns.{Columns}
 use Rattle.column_query.specs.Example.{example_mapping, example_documents}
 use Rattle.column_query.proofs.tests.example.Goals as goal
 
@@ -22,7 +24,21 @@ unfolding computing
 weight-is = refl
 
 pub returns-clause-built : goal.returns-clause-built
-returns-clause-built c = ?built
+returns-clause-built c =
+    ∣ (
+      example_documents,
+      record {
+        few = omega arith;
+        paths = refl;
+        fit = documents-fit;
+        light = omega (arith, weight-is);
+        columns_are = c.in_ok-shard.ensures ∙ (λ i. columns_from (c.in_ok-mapping.ensures i) (c.in_ok-documents.ensures i));
+      },
+    ) ∣₁
+
+pub returns-clause-kinds : goal.returns-clause-kinds
+returns-clause-kinds c =
+    ap (λ (s : Columns). length s.kinds) c.in_ok-shard.ensures ∙ ap (λ (m : Mapping). length (map (λ f. f.kind) m.fields)) c.in_ok-mapping.ensures
 
 pub build-requires-clause-few : goal.build-requires-clause-few
 build-requires-clause-few c = subst (λ (m : Mapping). length m.fields + length m.nested ≤ MAX_PATHS) (sym c.in_ok-mapping.ensures) (omega arith)
