@@ -1,10 +1,11 @@
 //! Laws of the definitions. Each function has a law as its contract, over all values of the definitions, and does nothing.
-ghost use Rattle.std.specs.Prelude.{◌≡◌, ◌+◌, ◌++◌, ◌∷◌, [], ℕ, IsTrue, List, Some, slice_get, sum_by, take};
+ghost use Rattle.std.specs.Prelude.{◌≡◌, ◌+◌, ◌++◌, ◌∷◌, [], ℕ, IsTrue, List, Some, drop, slice_get, sum_by, take};
 ghost use Rattle.std.specs.List.{AllByRecursion};
 ghost use Rattle.agg_model.specs.declared.answer.NodeAnswer.{NodeAnswer, out-NodeAnswer};
 ghost use Rattle.agg_model.specs.declared.aggregation.Agg.{Agg, out-Agg};
 ghost use Rattle.agg_model.specs.declared.aggregation.Order.{Order};
 ghost use Rattle.agg_model.specs.declared.aggregation.Search.{Search};
+ghost use Rattle.agg_model.specs.declared.key.Key.{Key};
 ghost use Rattle.agg_model.specs.declared.mapping.Mapping.{Mapping};
 ghost use Rattle.agg_model.specs.declared.partial.Node.{Node};
 ghost use Rattle.agg_evaluation.specs.Orders.{bucket_count};
@@ -14,6 +15,7 @@ ghost use Rattle.agg_evaluation.specs.TrueCounts.{BucketPath, aggs_at, kind_of, 
 ghost use Rattle.agg_evaluation.specs.Whole.{Parts};
 ghost use Rattle.agg_evaluation.specs.Whole.{parts as node_parts};
 ghost use Rattle.agg_spec.specs.Final.{Finisher, finisher, terms_answer};
+ghost use Rattle.agg_spec.specs.Pages.{last_key, search_after};
 ghost use Rattle.count_laws.specs.CompositeGroups.{answered_groups, composite_groups, page_size};
 ghost use Rattle.count_laws.specs.Paths.{
   answer_of_shards,
@@ -79,4 +81,13 @@ pub fn a_page_has_the_first_groups()
     ensures { (m : Mapping) (request : Search) (shards : List (List PlacedRow)) (agg : Agg) (size : ℕ) (page : NodeAnswer) →
         IsTrue (search_fits m request) → slice_get request.aggs 0 ≡ Some agg → page_size (kind_of agg) ≡ Some size →
         slice_get (answer_of_shards request shards).nodes 0 ≡ Some page → answered_groups page ≡ take size (composite_groups shards request) }
+{}
+
+/// Behind the last key of such a page stand the groups that the page left: the next search has them, where the composite
+/// is the only aggregation at the top.
+pub fn the_next_page_goes_on()
+    ensures { (m : Mapping) (request : Search) (shards : List (List PlacedRow)) (agg : Agg) (size : ℕ) (key : Key) →
+        IsTrue (search_fits m request) → request.aggs ≡ agg ∷ [] → page_size (kind_of agg) ≡ Some size →
+        last_key (answer_of_shards request shards).nodes ≡ Some key →
+        composite_groups shards (search_after request key) ≡ drop size (composite_groups shards request) }
 {}
