@@ -133,7 +133,7 @@ size-positive m kinds sources size after h =
     and_left (nat_le 1 size) ended (and_right (list_all (source_fits m) sources) paged fit)
 
 -- the last key of an answer's first node
-last_key-at : (nodes : List NodeAnswer) (page : NodeAnswer) → slice_get nodes 0 ≡ Some page → last_key nodes ≡ option_map (λ b. (out-BucketAnswer b).key) (last_or None (out-NodeAnswer page).buckets)
+pub last_key-at : (nodes : List NodeAnswer) (page : NodeAnswer) → slice_get nodes 0 ≡ Some page → last_key nodes ≡ option_map (λ b. (out-BucketAnswer b).key) (last_or None (out-NodeAnswer page).buckets)
 last_key-at [] page e = absurd (none_some page e)
 last_key-at (n ∷ ns) page e = ap (λ p. option_map (λ b. (out-BucketAnswer b).key) (last_or None (out-NodeAnswer p).buckets)) (some-same e)
 
@@ -203,3 +203,25 @@ next-groups m request shards a size l fit alone e last =
     ∙ sym (last_key-at (answer_of_shards request shards).nodes page (answer-first request shards 0 a at)) ∙ last in
     next-of m request shards a size l alone made e last_is
     ∙ ap (λ o. drop size (option_map_or (λ a. map (λ q. (q, true_count shards request ((0, q) ∷ []))) (keys_after shards request (kind_of a))) o [])) (sym at)
+
+-- the size of a page that is made for a mapping
+size-of : (m : Mapping) (a : Agg) (size : ℕ) → T (agg_fits m true 0 a) → page_size (kind_of a) ≡ Some size → T (nat_le 1 size)
+size-of m (Agg' name (kind.Composite sources page after) n children) size fit e =
+    let k = kind.Composite sources page after in
+    subst (λ s. T (nat_le 1 s)) (some-same e) (size-positive m (map (λ c. c.kind) (fold_aggs (made_at m) children)) sources page after (made-kind m [] k (fold_aggs (made_at m) children) true 0 fit))
+size-of m (Agg' name (kind.Terms field size shard_size min_doc_count order include exclude missing show_error) n children) s fit e = absurd (none_some s e)
+size-of m (Agg' name (kind.Histogram field interval offset min_doc_count extended hard keyed orders missing) n children) s fit e = absurd (none_some s e)
+size-of m (Agg' name (kind.Filters names filters other) n children) s fit e = absurd (none_some s e)
+size-of m (Agg' name (kind.Filter query) n children) s fit e = absurd (none_some s e)
+size-of m (Agg' name (kind.Missing field) n children) s fit e = absurd (none_some s e)
+size-of m (Agg' name kind.Global n children) s fit e = absurd (none_some s e)
+size-of m (Agg' name (kind.Nested context) n children) s fit e = absurd (none_some s e)
+size-of m (Agg' name (kind.ReverseNested context) n children) s fit e = absurd (none_some s e)
+size-of m (Agg' name (kind.Sum field missing) n children) s fit e = absurd (none_some s e)
+size-of m (Agg' name (kind.Min field missing) n children) s fit e = absurd (none_some s e)
+size-of m (Agg' name (kind.Max field missing) n children) s fit e = absurd (none_some s e)
+size-of m (Agg' name (kind.Avg field missing) n children) s fit e = absurd (none_some s e)
+size-of m (Agg' name (kind.ValueCount field missing) n children) s fit e = absurd (none_some s e)
+
+pub positive-size : (m : Mapping) (request : Search) (a : Agg) (size : ℕ) → T (search_fits m request) → slice_get request.aggs 0 ≡ Some a → page_size (kind_of a) ≡ Some size → T (nat_le 1 size)
+positive-size m request a size fit at e = size-of m a size (fit-at m true 0 request.aggs 0 a (and_right (query_fits m 0 request.query) (list_all (agg_fits m true 0) request.aggs) fit) at) e

@@ -1,5 +1,5 @@
 //! Laws of the definitions. Each function has a law as its contract, over all values of the definitions, and does nothing.
-ghost use Rattle.std.specs.Prelude.{◌≡◌, ◌+◌, ◌++◌, ◌∷◌, [], ℕ, IsTrue, List, Some, drop, slice_get, sum_by, take};
+ghost use Rattle.std.specs.Prelude.{◌≡◌, ◌+◌, ◌++◌, ◌∷◌, [], ℕ, IsTrue, List, Some, drop, flat_map, slice_get, sum_by, take};
 ghost use Rattle.std.specs.List.{AllByRecursion};
 ghost use Rattle.agg_model.specs.declared.answer.NodeAnswer.{NodeAnswer, out-NodeAnswer};
 ghost use Rattle.agg_model.specs.declared.aggregation.Agg.{Agg, out-Agg};
@@ -24,6 +24,7 @@ ghost use Rattle.count_laws.specs.Paths.{
   nodes_at,
   whole_of_shards,
 };
+ghost use Rattle.count_laws.specs.Scans.{IsScan, page_groups};
 ghost use Rattle.count_laws.specs.TermsErrors.{IsTermsByCount, IsWithinError};
 ghost use Rattle.count_laws.specs.TermsSums.{
   below_minimum_count,
@@ -90,4 +91,13 @@ pub fn the_next_page_goes_on()
         IsTrue (search_fits m request) → request.aggs ≡ agg ∷ [] → page_size (kind_of agg) ≡ Some size →
         last_key (answer_of_shards request shards).nodes ≡ Some key →
         composite_groups shards (search_after request key) ≡ drop size (composite_groups shards request) }
+{}
+
+/// The pages of a scan, one after another, have all groups that come after the body's key, each once, in the order of the
+/// sources and with its true count, where the composite is the only aggregation at the top.
+pub fn pages_have_all_groups()
+    ensures { (m : Mapping) (shards : List (List PlacedRow)) (request : Search) (pages : List Search) (agg : Agg) (size : ℕ) →
+        AllByRecursion (λ page. IsTrue (search_fits m page)) pages → IsScan shards (Some request) pages →
+        request.aggs ≡ agg ∷ [] → page_size (kind_of agg) ≡ Some size →
+        flat_map (page_groups shards) pages ≡ composite_groups shards request }
 {}
