@@ -1,26 +1,24 @@
 -- The pages of a scan, one after another, have all groups.
-use Rattle.std.specs.Prelude.{◌≡◌, refl, ⊤, ℕ, zero, suc, nat_le, true, T, List, [], ◌∷◌, ◌++◌, map, flat_map, take, drop, Option, Some, None, option_map, slice_get}
+use Rattle.std.specs.Prelude.{◌≡◌, refl, ℕ, zero, suc, nat_le, T, List, [], ◌∷◌, ◌++◌, map, flat_map, take, drop, Option, Some, None, option_map, slice_get}
 use Rattle.std.specs.List.{AllByRecursion, last_or}
 use Rattle.std.specs.Option.{option_map_or}
 use Rattle.std.proofs.Common.{sym, ◌∙◌, ap, subst}
 use Rattle.agg_model.specs.declared.mapping.Mapping.{Mapping}
 use Rattle.agg_model.specs.declared.key.Key.{Key}
-use Rattle.agg_model.specs.declared.answer.BucketAnswer.{BucketAnswer, out-BucketAnswer}
+use Rattle.agg_model.specs.declared.answer.BucketAnswer.{out-BucketAnswer}
 use Rattle.agg_model.specs.declared.answer.NodeAnswer.{NodeAnswer, out-NodeAnswer}
 use Rattle.agg_model.specs.declared.aggregation.Agg.{Agg, Agg'}
 use Rattle.agg_model.specs.declared.aggregation.Search.{Search}
 use Rattle.agg_model.specs.declared.aggregation.Kind.TheVariants as kind
 use Rattle.agg_evaluation.specs.Matching.{matched_roots}
-use Rattle.agg_evaluation.specs.QueryFits.{query_fits}
 use Rattle.agg_evaluation.specs.Rows.{PlacedRow}
-use Rattle.agg_evaluation.specs.SearchFits.{agg_fits, search_fits}
+use Rattle.agg_evaluation.specs.SearchFits.{search_fits}
 use Rattle.agg_evaluation.specs.TrueCounts.{kind_of}
 use Rattle.agg_evaluation.proofs.Computing.{computing}
-use Rattle.list_laws.proofs.Lists.{append-nil}
 use Rattle.list_laws.proofs.Options.{none_some}
 use Rattle.agg_spec.specs.Final.{finisher}
 use Rattle.agg_spec.specs.Pages.{agg_after, last_key, search_after}
-use Rattle.count_laws.specs.CompositeGroups.{Group, answered_groups, composite_groups, group_answer, page_size}
+use Rattle.count_laws.specs.CompositeGroups.{answered_groups, composite_groups, group_answer, page_size}
 use Rattle.count_laws.specs.Paths.{answer_of_shards}
 use Rattle.count_laws.specs.Scans.{IsScan, page_groups}
 use Rattle.count_laws.specs.TermsSums.{whole_of_rows}
