@@ -10,6 +10,8 @@ use Rattle.agg_evaluation.specs.Whole.{parts}
 use Rattle.agg_evaluation.proofs.Computing.{computing}
 use Rattle.evaluation_laws.proofs.Samples.{numbers, words, flat, document, by_count, agg, search_of, source}
 use Rattle.count_laws.specs.CompositeGroups.{answered_groups, composite_groups}
+use Rattle.agg_spec.specs.Pages.{search_after}
+use Rattle.count_laws.specs.Scans.{page_groups}
 use Rattle.count_laws.specs.Paths.{answer_of_shards, is_uncut, whole_of_shards}
 
 -- what unfolds in an answer, beside the rest
@@ -70,3 +72,15 @@ a_cut_stops_the_path = refl
 no_cut_in_the_second_shard : is_uncut one_term.aggs (whole_of_shards one_term (only_y ∷ [])).nodes ((0, key.Word (codes "y")) ∷ (0, key.Whole (pos 5)) ∷ []) ≡ true
 unfolding answering
 no_cut_in_the_second_shard = refl
+
+-- the page behind x, and the page behind y, which is the last
+abbrev second_page : Search
+second_page = search_after pages_of_one (key.Many (key.Word (codes "x") ∷ []))
+
+abbrev last_page : Search
+last_page = search_after second_page (key.Many (key.Word (codes "y") ∷ []))
+
+three_pages : map (page_groups shards) (pages_of_one ∷ second_page ∷ last_page ∷ [])
+    ≡ ((key.Many (key.Word (codes "x") ∷ []), 1) ∷ []) ∷ ((key.Many (key.Word (codes "y") ∷ []), 2) ∷ []) ∷ [] ∷ []
+unfolding answering
+three_pages = refl

@@ -1,3 +1,4 @@
+pub mod AllPages
 pub mod NextPages
 mod Examples
 pub mod ScanLaws

@@ -1,22 +1,21 @@
 -- Behind the last key of a page stand the groups that the page left.
-use Rattle.std.specs.Prelude.{◌≡◌, refl, ◌⊎◌, ℕ, zero, suc, Bool, true, false, cond, T, List, [], ◌∷◌, map, filter, take, drop, length, Option, Some, None, option_map}
-use Rattle.std.specs.List.{last_or, list_all}
+use Rattle.std.specs.Prelude.{◌≡◌, refl, ◌⊎◌, ℕ, zero, suc, Bool, true, false, cond, List, [], ◌∷◌, filter, take, drop, length, Option, Some, None}
+use Rattle.std.specs.List.{last_or}
 use Rattle.std.specs.Option.{option_map_or}
 use Rattle.std.specs.declared.cmp.Ordering.{Ordering}
 use Rattle.std.specs.declared.cmp.Ordering.TheVariants.{Less, Equal, Greater}
 use Rattle.std.specs.Ordering.{is_gt, ordering_reverse}
 use Rattle.std.specs.Cmp.{IsTotalOrder, tied_itself}
-use Rattle.std.proofs.Common.{sym, ◌∙◌, ap, subst, inl, inr, ⊎_elim}
+use Rattle.std.proofs.Common.{sym, ◌∙◌, ap, inl, inr, ⊎_elim}
 use Rattle.std.proofs.lemmas.Bool.{cases_Bool, true≢false}
 use Rattle.agg_model.specs.declared.aggregation.CompositeSource.{CompositeSource}
 use Rattle.agg_model.specs.declared.key.Key.{Key}
 use Rattle.agg_evaluation.specs.CompositeKeys.{is_composite_of}
-use Rattle.agg_evaluation.specs.KeyOrder.{has_key}
 use Rattle.agg_evaluation.specs.Orders.{composite_cmp}
 use Rattle.list_laws.specs.Sorting.{ascending, sorted}
 use Rattle.list_laws.proofs.Options.{none_some}
 use Rattle.growth_laws.proofs.CompositeOrder.{beyond, exact_cmp, exact_cmp_exact, exact_cmp_total, same-order}
-use Rattle.growth_laws.proofs.Ordered.{ascends-ascending, ascends-filter, has-ascending, has-filter, has-take}
+use Rattle.growth_laws.proofs.Ordered.{ascends-ascending, ascends-filter, has-ascending, has-filter}
 use Rattle.growth_laws.proofs.PageKeys.{AreKeys, all-has}
 use Rattle.growth_laws.proofs.Pages.{Ascends, Has}
 use Rattle.count_laws.proofs.AtPaths.{some-same}

@@ -1,31 +1,49 @@
 -- The pages of a search whose first aggregation is a composite.
-use Rattle.std.specs.Prelude.{◌≡◌, ℕ, zero, suc, true, T, List, [], ◌∷◌, map, take, Some, slice_get}
-use Rattle.std.specs.List.{list_all}
+use Rattle.std.specs.Prelude.{◌≡◌, refl, ℕ, zero, suc, ◌==◌, ◌&&◌, nat_le, Bool, true, false, T, List, [], ◌∷◌, map, filter, take, drop, length, sum_by, Option, Some, None, option_map, slice_get}
+use Rattle.std.specs.List.{last_or, list_all}
 use Rattle.std.specs.Option.{option_map_or}
-use Rattle.std.proofs.Common.{sym, ◌∙◌, ap}
+use Rattle.std.proofs.Common.{sym, ◌∙◌, ap, subst}
+use Rattle.agg_model.specs.declared.limits.TheConstants.{MAX_PAGE, MAX_SOURCES}
 use Rattle.agg_model.specs.declared.mapping.Mapping.{Mapping}
+use Rattle.agg_model.specs.declared.key.Key.{Key, out-Key, roll-Key, roll-out-Key}
+use Rattle.agg_model.specs.declared.key.Key.TheOpen.{Key-F}
 use Rattle.agg_model.specs.declared.key.Key.TheVariants as key
+use Rattle.agg_model.specs.declared.aggregation.CompositeSource.{CompositeSource}
+use Rattle.agg_model.specs.declared.aggregation.Kind.{Kind}
+use Rattle.agg_model.specs.declared.answer.BucketAnswer.{out-BucketAnswer}
+use Rattle.agg_evaluation.specs.CompositeKeys.{is_composite_of}
+use Rattle.agg_evaluation.proofs.Computing.{computing}
+use Rattle.agg_evaluation.proofs.FoldLaws.{fold_key-Many}
+use Rattle.std.proofs.lemmas.List.{length-map}
+use Rattle.agg_spec.specs.Pages.{agg_after, last_key, search_after}
+use Rattle.std.proofs.lemmas.Bool.{true≢false}
 use Rattle.agg_model.specs.declared.partial.Node.{Node}
-use Rattle.agg_model.specs.declared.answer.NodeAnswer.{NodeAnswer}
+use Rattle.agg_model.specs.declared.answer.NodeAnswer.{NodeAnswer, out-NodeAnswer}
 use Rattle.agg_model.specs.declared.aggregation.Agg.{Agg, Agg'}
 use Rattle.agg_model.specs.declared.aggregation.Search.{Search}
 use Rattle.agg_model.specs.declared.aggregation.Kind.TheVariants as kind
-use Rattle.agg_evaluation.specs.Folds.{fold_aggs}
+use Rattle.agg_evaluation.specs.Folds.{fold_aggs, fold_key}
 use Rattle.agg_evaluation.specs.Matching.{matched_roots}
 use Rattle.agg_evaluation.specs.QueryFits.{query_fits}
 use Rattle.agg_evaluation.specs.Rows.{PlacedRow}
-use Rattle.agg_evaluation.specs.SearchFits.{agg_fits, made_at, search_fits}
+use Rattle.agg_evaluation.specs.SearchFits.{agg_fits, has_parts, kind_fits, made_at, parts_of, search_fits, source_fits}
 use Rattle.agg_evaluation.specs.TrueCounts.{kind_of, true_count}
-use Rattle.list_laws.proofs.Booleans.{and_right}
+use Rattle.list_laws.proofs.Booleans.{and_left, and_right, true_is}
 use Rattle.list_laws.proofs.Options.{none_some}
 use Rattle.agg_spec.specs.Final.{finisher, finish_each}
-use Rattle.count_laws.specs.CompositeGroups.{answered_groups, composite_groups, keys_after, page_size}
+use Rattle.count_laws.specs.CompositeGroups.{Group, answered_groups, composite_groups, group_answer, keys_after, matched_keys, page_size}
 use Rattle.count_laws.specs.Paths.{answer_of_shards, whole_of_shards}
 use Rattle.count_laws.specs.TermsSums.{whole_of_rows}
 use Rattle.count_laws.proofs.AtPaths.{rows-one_more, some-same}
 use Rattle.count_laws.proofs.Descent.{answer-at-top, fit-at}
-use Rattle.count_laws.proofs.Nothing.{made-children}
-use Rattle.count_laws.proofs.ScanPages.{page-groups}
+use Rattle.count_laws.proofs.Nothing.{made-children, made-kind}
+use Rattle.count_laws.proofs.ScanPages.{are-every, page-groups}
+use Rattle.count_laws.proofs.Finished.{take-mapped}
+use Rattle.count_laws.proofs.NextPages.{keys-behind}
+use Rattle.growth_laws.proofs.CompositeOrder.{beyond}
+use Rattle.list_laws.specs.Sorting.{sorted}
+use Rattle.list_laws.proofs.Lists.{map-map}
+use Rattle.agg_evaluation.specs.Orders.{composite_cmp}
 
 finished-at : (aggs : List Agg) (ns : List Node) (j : ℕ) (a : Agg) (n : Node) → slice_get aggs j ≡ Some a → slice_get ns j ≡ Some n → slice_get (finish_each (map finisher aggs) ns) j ≡ Some ((finisher a).finish n)
 finished-at [] ns j a n at node = absurd (none_some a at)
@@ -70,3 +88,140 @@ page-first m request shards a size page fit at e answered =
     ap answered_groups (some-same (sym answered ∙ answer-first request shards 0 a at))
     ∙ first-of m request shards a size at (fit-at m true 0 request.aggs 0 a (and_right (query_fits m 0 request.query) (list_all (agg_fits m true 0) request.aggs) fit) at) e
     ∙ ap (λ o. take size (option_map_or (λ a. map (λ q. (q, true_count shards request ((0, q) ∷ []))) (keys_after shards request (kind_of a))) o [])) (sym at)
+
+-- a key with a part for each source, in either word
+parts-same : (n : ℕ) (k : Key) → has_parts n k ≡ true → is_composite_of n k ≡ true
+unfolding computing
+parts-same n k e = by (out-Key k) refl
+  where
+    rolled : (o : Key-F Key) → out-Key k ≡ o → has_parts n (roll-Key o) ≡ true
+    rolled o f = ap (has_parts n) (ap roll-Key (sym f) ∙ roll-out-Key k) ∙ e
+
+    by : (o : Key-F Key) → out-Key k ≡ o → is_composite_of n k ≡ true
+    by Key-F.Null f = absurd (true≢false (sym (rolled Key-F.Null f)))
+    by (Key-F.Whole m) f = absurd (true≢false (sym (rolled (Key-F.Whole m) f)))
+    by (Key-F.Flag b) f = absurd (true≢false (sym (rolled (Key-F.Flag b) f)))
+    by (Key-F.Word w) f = absurd (true≢false (sym (rolled (Key-F.Word w) f)))
+    by (Key-F.Fixed m) f = absurd (true≢false (sym (rolled (Key-F.Fixed m) f)))
+    by (Key-F.Many ks) f =
+        ap (Rattle.agg_evaluation.specs.CompositeKeys.has_parts n) f
+        ∙ ap (λ (l : ℕ). l == n) (sym (length-map ks (fold_key parts_of)))
+        ∙ sym (ap (λ o. option_map_or (λ parts. parts == n) o false) (fold_key-Many parts_of ks)) ∙ rolled (Key-F.Many ks) f
+
+-- the `after` of a composite that is made for a mapping
+after-composite : (m : Mapping) (kinds : List Kind) (sources : List CompositeSource) (size : ℕ) (after : Option Key) → T (kind_fits m true 0 kinds (kind.Composite sources size after)) → option_map_or (is_composite_of (length sources)) after true ≡ true
+after-composite m kinds sources size None h = refl
+after-composite m kinds sources size (Some k) h =
+    let n = length sources in
+    let paged : Bool = nat_le 1 size && (nat_le size MAX_PAGE && has_parts n k) in
+    let sourced : Bool = list_all (source_fits m) sources && paged in
+    let most = and_right (nat_le 1 n) (nat_le n MAX_SOURCES && sourced) h in
+    let fit = and_right (nat_le n MAX_SOURCES) sourced most in
+    let page_fit = and_right (list_all (source_fits m) sources) paged fit in
+    let parts = and_right (nat_le size MAX_PAGE) (has_parts n k) (and_right (nat_le 1 size) (nat_le size MAX_PAGE && has_parts n k) page_fit) in
+    parts-same n k (true_is _ parts)
+
+-- and a page of it has a group at least
+size-positive : (m : Mapping) (kinds : List Kind) (sources : List CompositeSource) (size : ℕ) (after : Option Key) → T (kind_fits m true 0 kinds (kind.Composite sources size after)) → T (nat_le 1 size)
+size-positive m kinds sources size after h =
+    let n = length sources in
+    let ended : Bool = nat_le size MAX_PAGE && option_map_or (has_parts n) after true in
+    let paged : Bool = nat_le 1 size && ended in
+    let sourced : Bool = list_all (source_fits m) sources && paged in
+    let most = and_right (nat_le 1 n) (nat_le n MAX_SOURCES && sourced) h in
+    let fit = and_right (nat_le n MAX_SOURCES) sourced most in
+    and_left (nat_le 1 size) ended (and_right (list_all (source_fits m) sources) paged fit)
+
+-- the last key of an answer's first node
+pub last_key-at : (nodes : List NodeAnswer) (page : NodeAnswer) → slice_get nodes 0 ≡ Some page → last_key nodes ≡ option_map (λ b. (out-BucketAnswer b).key) (last_or None (out-NodeAnswer page).buckets)
+last_key-at [] page e = absurd (none_some page e)
+last_key-at (n ∷ ns) page e = ap (λ p. option_map (λ b. (out-BucketAnswer b).key) (last_or None (out-NodeAnswer p).buckets)) (some-same e)
+
+last-mapped : {A B : Type 0} (f : A → B) (o : Option A) (xs : List A) → option_map f (last_or o xs) ≡ last_or (option_map f o) (map f xs)
+last-mapped f o [] = refl
+last-mapped f o (x ∷ xs) = last-mapped f (Some x) xs
+
+map-same : (ks : List Key) → map (λ k. k) ks ≡ ks
+map-same [] = refl
+map-same (k ∷ ks) = ap (λ js. k ∷ js) (map-same ks)
+
+-- The next page of a search whose first aggregation is a composite: its groups are those that the page left.
+next-of : (m : Mapping) (request : Search) (shards : List (List PlacedRow)) (a : Agg) (size : ℕ) (l : Key) → request.aggs ≡ a ∷ [] → T (agg_fits m true 0 a) → page_size (kind_of a) ≡ Some size
+    → last_or None (take size (keys_after shards request (kind_of a))) ≡ Some l → composite_groups shards (search_after request l) ≡ drop size (map (λ q. (q, true_count shards request ((0, q) ∷ []))) (keys_after shards request (kind_of a)))
+unfolding computing
+next-of m request shards (Agg' name (kind.Composite sources page after) n children) size l alone fit e last =
+    let k = kind.Composite sources page after in
+    let a = Agg' name k n children in
+    let next = search_after request l in
+    let every = matched_keys shards request k in
+    let at : slice_get request.aggs 0 ≡ Some a = ap (λ aggs. slice_get aggs 0) alone in
+    let at_next : slice_get next.aggs 0 ≡ Some (agg_after l a) = ap (λ aggs. slice_get (map (agg_after l) aggs) 0) alone in
+    let sized : page ≡ size = some-same e in
+    let same_count : (q : Key) → true_count shards next ((0, q) ∷ []) ≡ true_count shards request ((0, q) ∷ []) =
+    (λ q i. sum_by (λ all. length ((rows-one_more all [] next.aggs (matched_roots all next.query) 0 q (agg_after l a) at_next
+    ∙ sym (rows-one_more all [] request.aggs (matched_roots all request.query) 0 q a at)) i)) shards) in
+    let composite = after-composite m (map (λ c. c.kind) (fold_aggs (made_at m) children)) sources page after (made-kind m [] k (fold_aggs (made_at m) children) true 0 fit) in
+    let last_key : last_or None (take page (filter (beyond sources after) (sorted (composite_cmp sources) every))) ≡ Some l = ap (λ s. last_or None (take s (keys_after shards request k))) sized ∙ last in
+    ap (λ o. option_map_or (λ b. map (λ q. (q, true_count shards next ((0, q) ∷ []))) (keys_after shards next (kind_of b))) o []) at_next
+    ∙ (λ i. map (λ q. (q, same_count q i)) (filter (beyond sources (Some l)) (sorted (composite_cmp sources) every)))
+    ∙ ap (map (λ q. (q, true_count shards request ((0, q) ∷ [])))) (keys-behind sources page after composite every l (are-every m 0 name children request shards sources page after (made-children m [] k (fold_aggs (made_at m) children) true 0 fit) key.Null) last_key)
+    ∙ ap (λ s. map (λ q. (q, true_count shards request ((0, q) ∷ []))) (drop s (filter (beyond sources after) (sorted (composite_cmp sources) every)))) sized
+    ∙ drop-mapped (λ q. (q, true_count shards request ((0, q) ∷ []))) size (filter (beyond sources after) (sorted (composite_cmp sources) every))
+  where
+    drop-mapped : {A B : Type 0} (f : A → B) (n : ℕ) (xs : List A) → map f (drop n xs) ≡ drop n (map f xs)
+    drop-mapped f zero xs = refl
+    drop-mapped f (suc n) [] = refl
+    drop-mapped f (suc n) (x ∷ xs) = drop-mapped f n xs
+next-of m request shards (Agg' name (kind.Terms field size shard_size min_doc_count order include exclude missing show_error) n children) s l alone fit e last = absurd (none_some s e)
+next-of m request shards (Agg' name (kind.Histogram field interval offset min_doc_count extended hard keyed orders missing) n children) s l alone fit e last = absurd (none_some s e)
+next-of m request shards (Agg' name (kind.Filters names filters other) n children) s l alone fit e last = absurd (none_some s e)
+next-of m request shards (Agg' name (kind.Filter query) n children) s l alone fit e last = absurd (none_some s e)
+next-of m request shards (Agg' name (kind.Missing field) n children) s l alone fit e last = absurd (none_some s e)
+next-of m request shards (Agg' name kind.Global n children) s l alone fit e last = absurd (none_some s e)
+next-of m request shards (Agg' name (kind.Nested context) n children) s l alone fit e last = absurd (none_some s e)
+next-of m request shards (Agg' name (kind.ReverseNested context) n children) s l alone fit e last = absurd (none_some s e)
+next-of m request shards (Agg' name (kind.Sum field missing) n children) s l alone fit e last = absurd (none_some s e)
+next-of m request shards (Agg' name (kind.Min field missing) n children) s l alone fit e last = absurd (none_some s e)
+next-of m request shards (Agg' name (kind.Max field missing) n children) s l alone fit e last = absurd (none_some s e)
+next-of m request shards (Agg' name (kind.Avg field missing) n children) s l alone fit e last = absurd (none_some s e)
+next-of m request shards (Agg' name (kind.ValueCount field missing) n children) s l alone fit e last = absurd (none_some s e)
+
+pub next-groups : (m : Mapping) (request : Search) (shards : List (List PlacedRow)) (a : Agg) (size : ℕ) (l : Key) → T (search_fits m request) → request.aggs ≡ a ∷ [] → page_size (kind_of a) ≡ Some size
+    → last_key (answer_of_shards request shards).nodes ≡ Some l → composite_groups shards (search_after request l) ≡ drop size (composite_groups shards request)
+next-groups m request shards a size l fit alone e last =
+    let at : slice_get request.aggs 0 ≡ Some a = ap (λ aggs. slice_get aggs 0) alone in
+    let page = (finisher a).finish (whole_of_rows a (map (λ all. (all, matched_roots all request.query)) shards)) in
+    let made = fit-at m true 0 request.aggs 0 a (and_right (query_fits m 0 request.query) (list_all (agg_fits m true 0) request.aggs) fit) at in
+    let group_at : Key → Group = (λ q. (q, true_count shards request ((0, q) ∷ []))) in
+    let key_in : Group → Key = (λ g. g.0) in
+    let keys = keys_after shards request (kind_of a) in
+    let first : map key_in (answered_groups page) ≡ take size keys =
+    ap (map key_in) (first-of m request shards a size at made e) ∙ take-mapped key_in size (map group_at keys) ∙ ap (take size) (map-map key_in group_at keys ∙ map-same keys) in
+    let last_is : last_or None (take size keys) ≡ Some l =
+    ap (last_or None) (sym (sym (map-map key_in group_answer (out-NodeAnswer page).buckets) ∙ first))
+    ∙ sym (last-mapped (λ b. (out-BucketAnswer b).key) None (out-NodeAnswer page).buckets)
+    ∙ sym (last_key-at (answer_of_shards request shards).nodes page (answer-first request shards 0 a at)) ∙ last in
+    next-of m request shards a size l alone made e last_is
+    ∙ ap (λ o. drop size (option_map_or (λ a. map (λ q. (q, true_count shards request ((0, q) ∷ []))) (keys_after shards request (kind_of a))) o [])) (sym at)
+
+-- the size of a page that is made for a mapping
+size-of : (m : Mapping) (a : Agg) (size : ℕ) → T (agg_fits m true 0 a) → page_size (kind_of a) ≡ Some size → T (nat_le 1 size)
+size-of m (Agg' name (kind.Composite sources page after) n children) size fit e =
+    let k = kind.Composite sources page after in
+    subst (λ s. T (nat_le 1 s)) (some-same e) (size-positive m (map (λ c. c.kind) (fold_aggs (made_at m) children)) sources page after (made-kind m [] k (fold_aggs (made_at m) children) true 0 fit))
+size-of m (Agg' name (kind.Terms field size shard_size min_doc_count order include exclude missing show_error) n children) s fit e = absurd (none_some s e)
+size-of m (Agg' name (kind.Histogram field interval offset min_doc_count extended hard keyed orders missing) n children) s fit e = absurd (none_some s e)
+size-of m (Agg' name (kind.Filters names filters other) n children) s fit e = absurd (none_some s e)
+size-of m (Agg' name (kind.Filter query) n children) s fit e = absurd (none_some s e)
+size-of m (Agg' name (kind.Missing field) n children) s fit e = absurd (none_some s e)
+size-of m (Agg' name kind.Global n children) s fit e = absurd (none_some s e)
+size-of m (Agg' name (kind.Nested context) n children) s fit e = absurd (none_some s e)
+size-of m (Agg' name (kind.ReverseNested context) n children) s fit e = absurd (none_some s e)
+size-of m (Agg' name (kind.Sum field missing) n children) s fit e = absurd (none_some s e)
+size-of m (Agg' name (kind.Min field missing) n children) s fit e = absurd (none_some s e)
+size-of m (Agg' name (kind.Max field missing) n children) s fit e = absurd (none_some s e)
+size-of m (Agg' name (kind.Avg field missing) n children) s fit e = absurd (none_some s e)
+size-of m (Agg' name (kind.ValueCount field missing) n children) s fit e = absurd (none_some s e)
+
+pub positive-size : (m : Mapping) (request : Search) (a : Agg) (size : ℕ) → T (search_fits m request) → slice_get request.aggs 0 ≡ Some a → page_size (kind_of a) ≡ Some size → T (nat_le 1 size)
+positive-size m request a size fit at e = size-of m a size (fit-at m true 0 request.aggs 0 a (and_right (query_fits m 0 request.query) (list_all (agg_fits m true 0) request.aggs) fit) at) e

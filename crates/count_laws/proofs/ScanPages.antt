@@ -109,7 +109,7 @@ module _ (m : Mapping) (context : ℕ) (name : List ℕ) {n : _} (children : Row
   in-every : (j : Key) → has_key j every ≡ has_key j (flat_map all_of ss)
   in-every j = has_key-distinct_keys j (flat_map (λ all. all_keys all k (matched_roots all request.query)) shards) ∙ ap (has_key j) (sym (flat_map-map (λ all. (all, matched_roots all request.query)) all_of shards))
 
-  are-every : AreKeys sources size after every
+  pub are-every : AreKeys sources size after every
   are-every = record {
     up = ascending-distinct_keys (flat_map (λ all. all_keys all k (matched_roots all request.query)) shards);
     composite = all-keep (is_composite_of (length sources)) every (λ j e.

@@ -1,3 +1,4 @@
+pub mod Scans
 pub mod CompositeGroups
 pub mod Paths
 pub mod TermsErrors

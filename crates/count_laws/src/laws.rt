@@ -1,10 +1,11 @@
 //! Laws of the definitions. Each function has a law as its contract, over all values of the definitions, and does nothing.
-ghost use Rattle.std.specs.Prelude.{◌≡◌, ◌+◌, ◌++◌, ◌∷◌, [], ℕ, IsTrue, List, Some, slice_get, sum_by, take};
+ghost use Rattle.std.specs.Prelude.{◌≡◌, ◌+◌, ◌++◌, ◌∷◌, [], ℕ, IsTrue, List, Some, drop, flat_map, slice_get, sum_by, take};
 ghost use Rattle.std.specs.List.{AllByRecursion};
 ghost use Rattle.agg_model.specs.declared.answer.NodeAnswer.{NodeAnswer, out-NodeAnswer};
 ghost use Rattle.agg_model.specs.declared.aggregation.Agg.{Agg, out-Agg};
 ghost use Rattle.agg_model.specs.declared.aggregation.Order.{Order};
 ghost use Rattle.agg_model.specs.declared.aggregation.Search.{Search};
+ghost use Rattle.agg_model.specs.declared.key.Key.{Key};
 ghost use Rattle.agg_model.specs.declared.mapping.Mapping.{Mapping};
 ghost use Rattle.agg_model.specs.declared.partial.Node.{Node};
 ghost use Rattle.agg_evaluation.specs.Orders.{bucket_count};
@@ -14,6 +15,7 @@ ghost use Rattle.agg_evaluation.specs.TrueCounts.{BucketPath, aggs_at, kind_of, 
 ghost use Rattle.agg_evaluation.specs.Whole.{Parts};
 ghost use Rattle.agg_evaluation.specs.Whole.{parts as node_parts};
 ghost use Rattle.agg_spec.specs.Final.{Finisher, finisher, terms_answer};
+ghost use Rattle.agg_spec.specs.Pages.{last_key, search_after};
 ghost use Rattle.count_laws.specs.CompositeGroups.{answered_groups, composite_groups, page_size};
 ghost use Rattle.count_laws.specs.Paths.{
   answer_of_shards,
@@ -22,6 +24,7 @@ ghost use Rattle.count_laws.specs.Paths.{
   nodes_at,
   whole_of_shards,
 };
+ghost use Rattle.count_laws.specs.Scans.{IsScan, page_groups};
 ghost use Rattle.count_laws.specs.TermsErrors.{IsTermsByCount, IsWithinError};
 ghost use Rattle.count_laws.specs.TermsSums.{
   below_minimum_count,
@@ -79,4 +82,22 @@ pub fn a_page_has_the_first_groups()
     ensures { (m : Mapping) (request : Search) (shards : List (List PlacedRow)) (agg : Agg) (size : ℕ) (page : NodeAnswer) →
         IsTrue (search_fits m request) → slice_get request.aggs 0 ≡ Some agg → page_size (kind_of agg) ≡ Some size →
         slice_get (answer_of_shards request shards).nodes 0 ≡ Some page → answered_groups page ≡ take size (composite_groups shards request) }
+{}
+
+/// Behind the last key of such a page stand the groups that the page left: the next search has them, where the composite
+/// is the only aggregation at the top.
+pub fn the_next_page_goes_on()
+    ensures { (m : Mapping) (request : Search) (shards : List (List PlacedRow)) (agg : Agg) (size : ℕ) (key : Key) →
+        IsTrue (search_fits m request) → request.aggs ≡ agg ∷ [] → page_size (kind_of agg) ≡ Some size →
+        last_key (answer_of_shards request shards).nodes ≡ Some key →
+        composite_groups shards (search_after request key) ≡ drop size (composite_groups shards request) }
+{}
+
+/// The pages of a scan, one after another, have all groups that come after the body's key, each once, in the order of the
+/// sources and with its true count, where the composite is the only aggregation at the top.
+pub fn pages_have_all_groups()
+    ensures { (m : Mapping) (shards : List (List PlacedRow)) (request : Search) (pages : List Search) (agg : Agg) (size : ℕ) →
+        AllByRecursion (λ page. IsTrue (search_fits m page)) pages → IsScan shards (Some request) pages →
+        request.aggs ≡ agg ∷ [] → page_size (kind_of agg) ≡ Some size →
+        flat_map (page_groups shards) pages ≡ composite_groups shards request }
 {}
