@@ -26,7 +26,7 @@ use Rattle.agg_evaluation.specs.Folds.{fold_aggs, fold_key}
 use Rattle.agg_evaluation.specs.Matching.{matched_roots}
 use Rattle.agg_evaluation.specs.QueryFits.{query_fits}
 use Rattle.agg_evaluation.specs.Rows.{PlacedRow}
-use Rattle.agg_evaluation.specs.SearchFits.{agg_fits, has_parts, kind_fits, made_at, parts_of, search_fits, source_fits}
+use Rattle.agg_evaluation.specs.SearchFits.{agg_fits, kind_fits, made_at, search_fits, source_fits}
 use Rattle.agg_evaluation.specs.TrueCounts.{kind_of, true_count}
 use Rattle.list_laws.proofs.Booleans.{and_left, and_right, true_is}
 use Rattle.list_laws.proofs.Options.{none_some}
@@ -89,43 +89,24 @@ page-first m request shards a size page fit at e answered =
     ∙ first-of m request shards a size at (fit-at m true 0 request.aggs 0 a (and_right (query_fits m 0 request.query) (list_all (agg_fits m true 0) request.aggs) fit) at) e
     ∙ ap (λ o. take size (option_map_or (λ a. map (λ q. (q, true_count shards request ((0, q) ∷ []))) (keys_after shards request (kind_of a))) o [])) (sym at)
 
--- a key with a part for each source, in either word
-parts-same : (n : ℕ) (k : Key) → has_parts n k ≡ true → is_composite_of n k ≡ true
-unfolding computing
-parts-same n k e = by (out-Key k) refl
-  where
-    rolled : (o : Key-F Key) → out-Key k ≡ o → has_parts n (roll-Key o) ≡ true
-    rolled o f = ap (has_parts n) (ap roll-Key (sym f) ∙ roll-out-Key k) ∙ e
-
-    by : (o : Key-F Key) → out-Key k ≡ o → is_composite_of n k ≡ true
-    by Key-F.Null f = absurd (true≢false (sym (rolled Key-F.Null f)))
-    by (Key-F.Whole m) f = absurd (true≢false (sym (rolled (Key-F.Whole m) f)))
-    by (Key-F.Flag b) f = absurd (true≢false (sym (rolled (Key-F.Flag b) f)))
-    by (Key-F.Word w) f = absurd (true≢false (sym (rolled (Key-F.Word w) f)))
-    by (Key-F.Fixed m) f = absurd (true≢false (sym (rolled (Key-F.Fixed m) f)))
-    by (Key-F.Many ks) f =
-        ap (Rattle.agg_evaluation.specs.CompositeKeys.has_parts n) f
-        ∙ ap (λ (l : ℕ). l == n) (sym (length-map ks (fold_key parts_of)))
-        ∙ sym (ap (λ o. option_map_or (λ parts. parts == n) o false) (fold_key-Many parts_of ks)) ∙ rolled (Key-F.Many ks) f
-
 -- the `after` of a composite that is made for a mapping
 after-composite : (m : Mapping) (kinds : List Kind) (sources : List CompositeSource) (size : ℕ) (after : Option Key) → T (kind_fits m true 0 kinds (kind.Composite sources size after)) → option_map_or (is_composite_of (length sources)) after true ≡ true
 after-composite m kinds sources size None h = refl
 after-composite m kinds sources size (Some k) h =
     let n = length sources in
-    let paged : Bool = nat_le 1 size && (nat_le size MAX_PAGE && has_parts n k) in
+    let paged : Bool = nat_le 1 size && (nat_le size MAX_PAGE && is_composite_of n k) in
     let sourced : Bool = list_all (source_fits m) sources && paged in
     let most = and_right (nat_le 1 n) (nat_le n MAX_SOURCES && sourced) h in
     let fit = and_right (nat_le n MAX_SOURCES) sourced most in
     let page_fit = and_right (list_all (source_fits m) sources) paged fit in
-    let parts = and_right (nat_le size MAX_PAGE) (has_parts n k) (and_right (nat_le 1 size) (nat_le size MAX_PAGE && has_parts n k) page_fit) in
-    parts-same n k (true_is _ parts)
+    let parts = and_right (nat_le size MAX_PAGE) (is_composite_of n k) (and_right (nat_le 1 size) (nat_le size MAX_PAGE && is_composite_of n k) page_fit) in
+    true_is _ parts
 
 -- and a page of it has a group at least
 size-positive : (m : Mapping) (kinds : List Kind) (sources : List CompositeSource) (size : ℕ) (after : Option Key) → T (kind_fits m true 0 kinds (kind.Composite sources size after)) → T (nat_le 1 size)
 size-positive m kinds sources size after h =
     let n = length sources in
-    let ended : Bool = nat_le size MAX_PAGE && option_map_or (has_parts n) after true in
+    let ended : Bool = nat_le size MAX_PAGE && option_map_or (is_composite_of n) after true in
     let paged : Bool = nat_le 1 size && ended in
     let sourced : Bool = list_all (source_fits m) sources && paged in
     let most = and_right (nat_le 1 n) (nat_le n MAX_SOURCES && sourced) h in

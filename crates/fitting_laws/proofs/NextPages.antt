@@ -25,10 +25,11 @@ use Rattle.agg_evaluation.specs.SearchFits.{search_fits}
 use Rattle.agg_evaluation.specs.Shard.{Collector, page, bucket_of, node_of, collector_of, shard_node, shard_answer}
 use Rattle.agg_evaluation.specs.Whole.{Parts, parts, parts_at, whole_bucket, whole_by, whole_node, whole, shape_of, by_key}
 use Rattle.agg_spec.specs.Final.{final, Finisher, finish_at, finish_bucket, finisher_of, finisher}
-use Rattle.agg_spec.specs.Index.{Index}
+use Rattle.agg_spec.specs.Index.{Index, rows_in}
 use Rattle.agg_spec.specs.Outcome.{answer_of}
 use Rattle.agg_spec.specs.Pages.{is_composite, is_paged, last_key, next_search, search_after}
 use Rattle.list_laws.specs.Sorting.{sorted}
+use Rattle.list_laws.proofs.Lists.{map-map}
 use Rattle.agg_evaluation.proofs.AggFolds.{fold_agg-level}
 use Rattle.agg_evaluation.proofs.NodeForms.{out-Keyed}
 use Rattle.agg_evaluation.proofs.WholeLaws.{Union, tree_buckets}
@@ -168,11 +169,14 @@ paged_takes s (a ∷ []) e shards =
     single None h = h
     single (Some key) h = both _ _ h tt
 
--- the next page of any index
-pub next_fits : (index : Index) (s : Search) → search_fits index.mapping s ≡ true → IfSome (next_search index (is_paged s.aggs) s) (λ next. search_fits index.mapping next ≡ true)
-next_fits index s h =
-    elim (is_paged s.aggs) as (λ b. is_paged s.aggs ≡ b → IfSome (next_search index b s) (λ next. search_fits index.mapping next ≡ true)) [
-      | true ↦ λ e. behind (last_key (answer_of index s).nodes) (paged_takes s s.aggs e index.shards)
+-- the next page of any shards of an index
+pub next_fits : (index : Index) (shards : List ℕ) (s : Search) → search_fits index.mapping s ≡ true
+    → IfSome (next_search index shards (is_paged s.aggs) s) (λ next. search_fits index.mapping next ≡ true)
+next_fits index shards s h =
+    elim (is_paged s.aggs) as (λ b. is_paged s.aggs ≡ b → IfSome (next_search index shards b s) (λ next. search_fits index.mapping next ≡ true)) [
+      | true ↦ λ e. behind (last_key (answer_of index s shards).nodes)
+          (subst (λ (ps : List Partial). IfSome (last_key (final s (whole s ps)).nodes) (λ key. T (search_takes key s))) (map-map (shard_answer s) (rows_in index) shards)
+          (paged_takes s s.aggs e (map (rows_in index) shards)))
       | false ↦ λ e. tt
     ] refl
   where

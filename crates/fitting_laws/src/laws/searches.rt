@@ -36,10 +36,10 @@ pub fn made_searches_have_their_parts()
 {}
 
 /// The next page of a search that is made for a mapping is one as well: behind each key with a part for each source, and
-/// so behind the last key of the answer of any index.
+/// so behind the last key of what any shards of an index answer.
 pub fn next_pages_fit()
     ensures behind { (m : Mapping) (s : Search) (key : Key) → IsTrue (search_takes key s) →
         IsTrue (search_fits m s) → IsTrue (search_fits m (search_after s key)) }
-    ensures next { (index : Index) (s : Search) → IsTrue (search_fits index.mapping s) →
-        IfSome (next_search index (is_paged s.aggs) s) (λ next. IsTrue (search_fits index.mapping next)) }
+    ensures next { (index : Index) (shards : List ℕ) (s : Search) → IsTrue (search_fits index.mapping s) →
+        IfSome (next_search index shards (is_paged s.aggs) s) (λ next. IsTrue (search_fits index.mapping next)) }
 {}
