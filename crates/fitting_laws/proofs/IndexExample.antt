@@ -25,10 +25,10 @@ row place context id field values = record { place = place; context = context; i
 
 -- the third document is refused, since 128 is no byte
 its_rows_by_shard : rows_of_script ≡ Ok (
-  (row (0 ∷ []) 0 (codes "a") 1 (Whole (negsuc 127) ∷ Whole (pos 5) ∷ Whole (pos 5) ∷ [])
-  ∷ row (0 ∷ 0 ∷ 0 ∷ []) 1 (codes "a") 0 (Word (codes "k") ∷ [])
-  ∷ row (0 ∷ 0 ∷ 1 ∷ []) 1 (codes "a") 0 (Word (codes "mm") ∷ []) ∷ [])
-  ∷ (row (0 ∷ []) 0 (codes "b") 1 (Whole (pos 127) ∷ []) ∷ []) ∷ [])
+    (row (0 ∷ []) 0 (codes "a") 1 (Whole (negsuc 127) ∷ Whole (pos 5) ∷ Whole (pos 5) ∷ [])
+    ∷ row (0 ∷ 0 ∷ 0 ∷ []) 1 (codes "a") 0 (Word (codes "k") ∷ [])
+    ∷ row (0 ∷ 0 ∷ 1 ∷ []) 1 (codes "a") 0 (Word (codes "mm") ∷ []) ∷ [])
+    ∷ (row (0 ∷ []) 0 (codes "b") 1 (Whole (pos 127) ∷ []) ∷ []) ∷ [])
 unfolding computing
 its_rows_by_shard = refl
 
