@@ -14,6 +14,7 @@ pub mod Runs
 mod OutputExamples
 mod Refutations
 mod SoloExamples
+mod ScriptExamples
 mod SettingsLineExamples
 mod StatusExamples
 mod WorkersExamples
