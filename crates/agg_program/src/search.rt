@@ -71,7 +71,8 @@ pub(crate) fn search_line(
     let search = search_named(alloc, name)?;
     let answer = answer_of(alloc, &search, documents)?;
     let mapping = index_mapping(alloc)?;
-    response(alloc, &search, &mapping, &answer, 1, &List::new(alloc))
+    let failures = List::new(alloc);
+    response(alloc, &search, &mapping, &answer, 1, &failures)
 }
 
 /// The item of a document that was put into the store.
