@@ -1,28 +1,24 @@
 -- The pages of a search whose first aggregation is a composite.
-use Rattle.std.specs.Prelude.{◌≡◌, refl, ℕ, zero, suc, ◌==◌, ◌&&◌, nat_le, Bool, true, false, T, List, [], ◌∷◌, map, filter, take, drop, length, sum_by, Option, Some, None, option_map, slice_get}
+use Rattle.std.specs.Prelude.{◌≡◌, refl, ℕ, zero, suc, ◌&&◌, nat_le, Bool, true, T, List, [], ◌∷◌, map, filter, take, drop, length, sum_by, Option, Some, None, option_map, slice_get}
 use Rattle.std.specs.List.{last_or, list_all}
 use Rattle.std.specs.Option.{option_map_or}
 use Rattle.std.proofs.Common.{sym, ◌∙◌, ap, subst}
 use Rattle.agg_model.specs.declared.limits.TheConstants.{MAX_PAGE, MAX_SOURCES}
 use Rattle.agg_model.specs.declared.mapping.Mapping.{Mapping}
-use Rattle.agg_model.specs.declared.key.Key.{Key, out-Key, roll-Key, roll-out-Key}
-use Rattle.agg_model.specs.declared.key.Key.TheOpen.{Key-F}
+use Rattle.agg_model.specs.declared.key.Key.{Key}
 use Rattle.agg_model.specs.declared.key.Key.TheVariants as key
 use Rattle.agg_model.specs.declared.aggregation.CompositeSource.{CompositeSource}
 use Rattle.agg_model.specs.declared.aggregation.Kind.{Kind}
 use Rattle.agg_model.specs.declared.answer.BucketAnswer.{out-BucketAnswer}
 use Rattle.agg_evaluation.specs.CompositeKeys.{is_composite_of}
 use Rattle.agg_evaluation.proofs.Computing.{computing}
-use Rattle.agg_evaluation.proofs.FoldLaws.{fold_key-Many}
-use Rattle.std.proofs.lemmas.List.{length-map}
 use Rattle.agg_spec.specs.Pages.{agg_after, last_key, search_after}
-use Rattle.std.proofs.lemmas.Bool.{true≢false}
 use Rattle.agg_model.specs.declared.partial.Node.{Node}
 use Rattle.agg_model.specs.declared.answer.NodeAnswer.{NodeAnswer, out-NodeAnswer}
 use Rattle.agg_model.specs.declared.aggregation.Agg.{Agg, Agg'}
 use Rattle.agg_model.specs.declared.aggregation.Search.{Search}
 use Rattle.agg_model.specs.declared.aggregation.Kind.TheVariants as kind
-use Rattle.agg_evaluation.specs.Folds.{fold_aggs, fold_key}
+use Rattle.agg_evaluation.specs.Folds.{fold_aggs}
 use Rattle.agg_evaluation.specs.Matching.{matched_roots}
 use Rattle.agg_evaluation.specs.QueryFits.{query_fits}
 use Rattle.agg_evaluation.specs.Rows.{PlacedRow}

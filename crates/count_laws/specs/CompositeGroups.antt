@@ -38,7 +38,9 @@ keys_after shards request kind = elim (options_of kind) [
 
 -- the groups of the search's first aggregation, a composite, that are greater than its `after`
 abbrev pub composite_groups : List (List PlacedRow) → Search → List Group
-composite_groups shards request = option_map_or (λ a. map (λ key. (key, true_count shards request ((0, key) ∷ []))) (keys_after shards request (kind_of a))) (slice_get request.aggs 0) []
+composite_groups shards request =
+    option_map_or (λ a. map (λ key. (key, true_count shards request ((0, key) ∷ []))) (keys_after shards request (kind_of a)))
+    (slice_get request.aggs 0) []
 
 -- the keys and counts that an answer returns
 abbrev pub group_answer : BucketAnswer → Group

@@ -28,21 +28,14 @@ answer_of_shards search shards = final search (whole_of_shards search shards)
 
 -- the nodes below a bucket, which is given by the place of its aggregation among its siblings and its key
 abbrev pub nodes_below : List Node → ℕ × Key → List Node
-nodes_below nodes step = option_map_or (λ n. option_map_or (λ b. b.children) (find (λ b. key_eq step.1 (bucket_key b)) (parts n).buckets) []) (slice_get nodes step.0) []
+nodes_below nodes step =
+    option_map_or (λ n. option_map_or (λ b. b.children) (find (λ b. key_eq step.1 (bucket_key b)) (parts n).buckets) [])
+    (slice_get nodes step.0) []
 
 -- the nodes below the end of a path
 abbrev pub nodes_at : List Node → BucketPath → List Node
 nodes_at nodes [] = nodes
 nodes_at nodes (step ∷ path) = nodes_at (nodes_below nodes step) path
-
--- the same in an answer
-abbrev pub answers_below : List NodeAnswer → ℕ × Key → List NodeAnswer
-answers_below nodes step =
-    option_map_or (λ n. option_map_or (λ b. (out-BucketAnswer b).children) (find (λ b. key_eq step.1 (out-BucketAnswer b).key) (out-NodeAnswer n).buckets) []) (slice_get nodes step.0) []
-
-abbrev pub answers_at : List NodeAnswer → BucketPath → List NodeAnswer
-answers_at nodes [] = nodes
-answers_at nodes (step ∷ path) = answers_at (answers_below nodes step) path
 
 -- whether an answer returns a bucket of the key
 abbrev pub returns : Key → NodeAnswer → Bool
@@ -56,7 +49,8 @@ is_uncut_at a n key = ((parts n).cut == 0) && (has_key key (map bucket_key (part
 abbrev pub is_uncut : List Agg → List Node → BucketPath → Bool
 is_uncut aggs nodes [] = true
 is_uncut aggs nodes (step ∷ path) =
-    option_map_or (λ a. option_map_or (λ n. is_uncut_at a n step.1) (slice_get nodes step.0) false && is_uncut (children_of a) (nodes_below nodes step) path) (slice_get aggs step.0) false
+    option_map_or (λ a. option_map_or (λ n. is_uncut_at a n step.1) (slice_get nodes step.0) false
+    && is_uncut (children_of a) (nodes_below nodes step) path) (slice_get aggs step.0) false
 
 -- the rows of each shard, and those of them at the end of the path
 abbrev pub answered_by_shard : Search → BucketPath → List (List PlacedRow) → List (List PlacedRow × List PlacedRow)
