@@ -23,3 +23,4 @@ pub mod NodeFolds
 pub mod RowsFit
 pub mod QueriesFit
 pub mod KeyParts
+pub mod MadeSearches

@@ -1,5 +1,5 @@
--- What evaluation asks of a query and of an aggregation: fields that the mapping has ('Query DSL'), and intervals above 0
--- ('Histogram aggregation').
+-- What follows for a query and an aggregation that are made for a mapping: fields that the mapping has ('Query DSL'), and
+-- intervals above 0 ('Histogram aggregation').
 use Rattle.std.specs.Prelude.{ℕ, Bool, true, ◌&&◌, nat_lt}
 use Rattle.std.specs.List.{list_all}
 use Rattle.agg_model.specs.declared.query.Query.{Query}
@@ -26,6 +26,6 @@ looks_below n = fold_query (looks_below_at n)
 abbrev pub has_interval : Kind → Bool
 has_interval k = elim (options_of k) [ Options.Histogram h ↦ nat_lt 0 h.interval | _ ↦ true ]
 
--- whether the interval of the aggregation, and of each below it, is above 0, as requests have it
+-- whether the interval of the aggregation, and of each below it, is above 0
 abbrev pub has_intervals : Agg → Bool
 has_intervals = fold_agg (λ a. has_interval a.kind && list_all (λ has. has) a.children)

@@ -20,7 +20,6 @@ use Rattle.agg_evaluation.specs.Shard.{fixed_keys}
 use Rattle.agg_evaluation.specs.Trees.{is_tree_at, pass_each}
 use Rattle.agg_evaluation.specs.CompositeKeys.{is_composite_of}
 use Rattle.agg_evaluation.specs.Whole.{Parts, parts, shape_of}
-use Rattle.agg_evaluation.specs.Conditions.{has_intervals}
 
 -- all counts together are one, an error is a signed number, and no term was covered by more than all the shards' errors
 abbrev pub terms_fit : Parts → Bool
@@ -57,6 +56,6 @@ is_finishable_at tests k n = is_tree_at tests (fixed_keys k) (shape_of k) (out-N
 abbrev pub is_finishable : Agg → Node → Bool
 is_finishable = fold_agg (λ a n. is_finishable_at a.children a.kind n)
 
--- whether the search has intervals, and all nodes of a partial result can be finished
+-- whether all nodes of a partial result can be finished, where the search is made for a mapping
 abbrev pub can_finish : Search → Partial → Bool
-can_finish search p = list_all has_intervals search.aggs && pass_each (map is_finishable search.aggs) p.nodes
+can_finish search p = pass_each (map is_finishable search.aggs) p.nodes

@@ -40,7 +40,8 @@ query_fits_at m (Query-F.Terms field values) context = field_is m (λ k. are_pro
 query_fits_at m (Query-F.Range field tests) context = field_is m (λ k. list_all (λ t. is_probe k t.value) tests) field
 query_fits_at m (Query-F.Exists field) context = field_is m (λ k. true) field
 query_fits_at m (Query-F.Ids values) context = true
-query_fits_at m (Query-F.Bool must must_not should minimum) context = list_all (λ q. q context) must && (list_all (λ q. q context) must_not && list_all (λ q. q context) should)
+query_fits_at m (Query-F.Bool must must_not should minimum) context =
+    list_all (λ q. q context) must && (list_all (λ q. q context) must_not && list_all (λ q. q context) should)
 query_fits_at m (Query-F.Nested path query) context = is_path_beneath m context path && query (path + 1)
 
 abbrev pub query_fits : Mapping → ℕ → Query → Bool

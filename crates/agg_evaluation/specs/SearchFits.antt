@@ -1,8 +1,10 @@
 -- Searches that are made for a mapping (Elasticsearch Reference 8, 'Aggregations').
-use Rattle.std.specs.Prelude.{ℕ, ◌^◌, ◌==◌, List, [], ◌∷◌, length, map, slice_get, Option, Some, None, Bool, true, false, not, ◌&&◌, ◌||◌, nat_le, nat_lt, zero, suc}
+use Rattle.std.specs.Prelude.{ℕ, ◌^◌, ◌==◌, List, [], ◌∷◌, length, map, slice_get, Option, Some, None, Bool, true, false, not, ◌&&◌, ◌||◌, nat_le, nat_lt, zero, suc, IsTrue}
 use Rattle.std.specs.List.{list_all}
 use Rattle.std.specs.Option.{option_map_or}
 use Rattle.agg_model.specs.declared.limits.TheConstants.{MAX_FILTERS, MAX_ORDERS, MAX_PAGE, MAX_SOURCES}
+use Rattle.agg_model.specs.declared.key.Key.{Key}
+use Rattle.agg_model.specs.declared.query.Query.{Query}
 use Rattle.agg_model.specs.declared.mapping.FieldKind.{FieldKind}
 use Rattle.agg_model.specs.declared.mapping.FieldKind.TheVariants.{Keyword, Boolean}
 use Rattle.agg_model.specs.declared.mapping.Mapping.{Mapping}
@@ -13,7 +15,7 @@ use Rattle.agg_model.specs.declared.aggregation.Agg.TheOpen.{Agg-F}
 use Rattle.agg_model.specs.declared.aggregation.CompositeSource.{CompositeSource}
 use Rattle.agg_model.specs.declared.aggregation.Kind.{Kind}
 use Rattle.agg_model.specs.declared.aggregation.Kind.TheVariants as kind
-use Rattle.agg_model.specs.Options.{Options, MetricOptions, options_of, is_sortable}
+use Rattle.agg_model.specs.Options.{Options, TermsOptions, HistogramOptions, MetricOptions, options_of, is_sortable}
 use Rattle.agg_model.specs.declared.aggregation.Order.{Order}
 use Rattle.agg_model.specs.declared.aggregation.OrderBy.{OrderBy}
 use Rattle.agg_model.specs.declared.aggregation.OrderBy.TheVariants as by
@@ -79,24 +81,42 @@ abbrev pub metric_fits : Mapping → Kind → MetricOptions → Bool
 metric_fits m (kind.ValueCount field missing) o = field_is m (λ k. is_missing k missing) field
 metric_fits m _ o = is_whole_field m o.field o.missing
 
+abbrev pub terms_made : Mapping → List Kind → TermsOptions → Bool
+terms_made m children t =
+    field_is m (λ k. option_map_or (are_probes k) t.include true && (are_probes k t.exclude && is_missing k t.missing)) t.field
+    && (nat_le 1 t.size && (nat_le t.size t.shard_size && (nat_le 1 t.min_doc_count && orders_fit children t.order)))
+
+-- in both bounds the least is at most the greatest, and the extended ones lie within the hard ones
+abbrev pub histogram_made : Mapping → List Kind → HistogramOptions → Bool
+histogram_made m children h =
+    is_whole_field m h.field h.missing
+    && (is_interval h.interval && (nat_lt h.offset h.interval && (is_at_most h.extended.min h.extended.max
+    && (is_at_most h.hard.min h.hard.max && (lies_within h.extended h.hard && orders_fit children h.order)))))
+
+-- named filters have a name each
+abbrev pub filters_made : Mapping → ℕ → Option (List (List ℕ)) → List Query → Bool
+filters_made m context names filters =
+    nat_le 1 (length filters) && (nat_le (length filters) MAX_FILTERS
+    && (option_map_or (λ ns. length ns == length filters) names true && list_all (query_fits m context) filters))
+
+-- the key after which a page goes on has a part for each source
+abbrev pub composite_made : Mapping → List CompositeSource → ℕ → Option Key → Bool
+composite_made m sources size after =
+    nat_le 1 (length sources) && (nat_le (length sources) MAX_SOURCES && (list_all (source_fits m) sources
+    && (nat_le 1 size && (nat_le size MAX_PAGE && option_map_or (is_composite_of (length sources)) after true))))
+
 -- a kind of aggregation over rows of a context, at the top or below, with children of these kinds
 abbrev pub kind_fits : Mapping → Bool → ℕ → List Kind → Kind → Bool
 kind_fits m top context children kind = elim (options_of kind) [
-  | Options.Terms t ↦
-      field_is m (λ k. option_map_or (are_probes k) t.include true && (are_probes k t.exclude && is_missing k t.missing)) t.field
-      && (nat_le 1 t.size && (nat_le t.size t.shard_size && (nat_le 1 t.min_doc_count && orders_fit children t.order)))
-  | Options.Histogram h ↦
-      is_whole_field m h.field h.missing
-      && (is_interval h.interval && (nat_lt h.offset h.interval && (is_at_most h.extended.min h.extended.max && (is_at_most h.hard.min h.hard.max && (lies_within h.extended h.hard && orders_fit children h.order)))))
-  | Options.Filters names filters other ↦
-      nat_le 1 (length filters) && (nat_le (length filters) MAX_FILTERS && (option_map_or (λ ns. length ns == length filters) names true && list_all (query_fits m context) filters))
+  | Options.Terms t ↦ terms_made m children t
+  | Options.Histogram h ↦ histogram_made m children h
+  | Options.Filters names filters other ↦ filters_made m context names filters
   | Options.Filter query ↦ query_fits m context query
   | Options.Missing field ↦ field_is m (λ k. true) field
   | Options.Global ↦ top
   | Options.Nested inner ↦ is_within m context inner
   | Options.ReverseNested outer ↦ is_around m context outer
-  | Options.Composite sources size after ↦
-      top && (nat_le 1 (length sources) && (nat_le (length sources) MAX_SOURCES && (list_all (source_fits m) sources && (nat_le 1 size && (nat_le size MAX_PAGE && option_map_or (is_composite_of (length sources)) after true)))))
+  | Options.Composite sources size after ↦ top && composite_made m sources size after
   | Options.Metric o ↦ metric_fits m kind o
 ]
 
@@ -127,7 +147,8 @@ no_children (c ∷ cs) = false
 
 abbrev pub is_made : Mapping → Kind → List Made → Bool → ℕ → Bool
 is_made m k children top context =
-    kind_fits m top context (map (λ c. c.kind) children) k && ((not (is_metric k) || no_children children) && list_all (λ c. c.fits false (handed context k)) children)
+    kind_fits m top context (map (λ c. c.kind) children) k
+    && ((not (is_metric k) || no_children children) && list_all (λ c. c.fits false (handed context k)) children)
 
 abbrev pub made_at : Mapping → Agg-F Made → Made
 made_at m a = record { kind = a.kind; fits = is_made m a.kind a.children }
@@ -138,3 +159,7 @@ agg_fits m top context a = (fold_agg (made_at m) a).fits top context
 -- a search that is made for the mapping
 abbrev pub search_fits : Mapping → Search → Bool
 search_fits m s = query_fits m 0 s.query && list_all (agg_fits m true 0) s.aggs
+
+-- a search such as bodies give: made for some mapping
+abbrev pub IsMade : Search → Type 0
+IsMade s = ∥ ((m : Mapping) × IsTrue (search_fits m s)) ∥₁

@@ -57,26 +57,26 @@ a_delete_without_an_id_is_32 : action_at (codes "i") 0 (codes "{\"delete\":{}}")
 unfolding computing
 a_delete_without_an_id_is_32 = refl
 
-an_absent_id_has_the_number_of_the_action : action_at (codes "i") 12 (codes "{\"index\":{}}") ≡ Ok (Index, codes "_auto_12", codes "_auto_12")
+an_absent_id_has_the_number_of_the_action : action_at (codes "i") 12 (codes "{\"index\":{}}") ≡ Ok (record { kind = Index; id = codes "_auto_12"; routing = codes "_auto_12" })
 unfolding computing
 an_absent_id_has_the_number_of_the_action = refl
 
-an_absent_routing_is_the_id : action_at (codes "i") 0 (codes "{\"create\":{\"_id\":\"7\"}}") ≡ Ok (Create, codes "7", codes "7")
+an_absent_routing_is_the_id : action_at (codes "i") 0 (codes "{\"create\":{\"_id\":\"7\"}}") ≡ Ok (record { kind = Create; id = codes "7"; routing = codes "7" })
 unfolding computing
 an_absent_routing_is_the_id = refl
 
-a_whole_number_is_its_decimal_text : action_at (codes "i") 0 (codes "{\"index\":{\"_id\":-7,\"routing\":18446744073709551615}}") ≡ Ok (Index, codes "-7", codes "18446744073709551615")
+a_whole_number_is_its_decimal_text : action_at (codes "i") 0 (codes "{\"index\":{\"_id\":-7,\"routing\":18446744073709551615}}") ≡ Ok (record { kind = Index; id = codes "-7"; routing = codes "18446744073709551615" })
 unfolding computing
 a_whole_number_is_its_decimal_text = refl
 
-null_is_absent : action_at (codes "i") 3 (codes "{\"index\":{\"_index\":null,\"_id\":null,\"routing\":null,\"version\":null,\"pipeline\":null}}") ≡ Ok (Index, codes "_auto_3", codes "_auto_3")
+null_is_absent : action_at (codes "i") 3 (codes "{\"index\":{\"_index\":null,\"_id\":null,\"routing\":null,\"version\":null,\"pipeline\":null}}") ≡ Ok (record { kind = Index; id = codes "_auto_3"; routing = codes "_auto_3" })
 unfolding computing
 null_is_absent = refl
 
-other_members_have_no_effect : action_at (codes "i") 0 (codes "{\"delete\":{\"_index\":\"i\",\"_id\":\"9\",\"require_alias\":true}}") ≡ Ok (Delete, codes "9", codes "9")
+other_members_have_no_effect : action_at (codes "i") 0 (codes "{\"delete\":{\"_index\":\"i\",\"_id\":\"9\",\"require_alias\":true}}") ≡ Ok (record { kind = Delete; id = codes "9"; routing = codes "9" })
 unfolding computing
 other_members_have_no_effect = refl
 
-a_routing_may_be_empty : action_at (codes "i") 0 (codes "{\"index\":{\"_id\":\"9\",\"routing\":\"\"}}") ≡ Ok (Index, codes "9", [])
+a_routing_may_be_empty : action_at (codes "i") 0 (codes "{\"index\":{\"_id\":\"9\",\"routing\":\"\"}}") ≡ Ok (record { kind = Index; id = codes "9"; routing = [] })
 unfolding computing
 a_routing_may_be_empty = refl

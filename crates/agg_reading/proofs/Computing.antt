@@ -35,8 +35,9 @@ unfolding
     Rattle.agg_reading.specs.Store.deleted Rattle.agg_reading.specs.Store.applied Rattle.agg_reading.specs.Store.shards_of
     Rattle.agg_model.specs.Lines.lines Rattle.agg_reading.specs.Lines.is_empty_line Rattle.agg_reading.specs.Lines.line_fault
     Rattle.agg_reading.specs.Lines.checked Rattle.agg_reading.specs.Script.with_action Rattle.agg_reading.specs.Script.heading_of
-    Rattle.agg_reading.specs.Script.bulk Rattle.agg_reading.specs.Script.loaded Rattle.agg_reading.specs.Script.header_at
-    Rattle.agg_reading.specs.Script.pairs Rattle.agg_reading.specs.Leaves.value_at Rattle.agg_reading.specs.Leaves.field_in
+    Rattle.agg_reading.specs.Script.actions Rattle.agg_reading.specs.Script.source_of
+    Rattle.agg_reading.specs.Script.sections Rattle.agg_reading.specs.Script.loaded Rattle.agg_reading.specs.Entries.header_members
+    Rattle.agg_reading.specs.Entries.entries Rattle.agg_reading.specs.Entries.body_of Rattle.agg_reading.specs.SettingsLines.scope_of Rattle.agg_reading.specs.Leaves.value_at Rattle.agg_reading.specs.Leaves.field_in
     Rattle.agg_reading.specs.Leaves.about Rattle.agg_reading.specs.Leaves.match_all_at Rattle.agg_reading.specs.Leaves.boxed_value
     Rattle.agg_reading.specs.Leaves.term_at Rattle.agg_reading.specs.Leaves.values_from Rattle.agg_reading.specs.Leaves.values_at
     Rattle.agg_reading.specs.Leaves.terms_at Rattle.agg_reading.specs.Leaves.test_at Rattle.agg_reading.specs.Leaves.tests_at

@@ -30,7 +30,7 @@ an_id_of_513_bytes_is_32 = refl
 abbrev with_id : ℕ → List ℕ
 with_id n = codes "{\"index\":{\"_id\":\"" ++ replicate n 97 ++ codes "\"}}"
 
-a_line_with_an_id_of_512_bytes_is_taken : action_at (codes "i") 0 (with_id 512) ≡ Ok (Index, replicate 512 97, replicate 512 97)
+a_line_with_an_id_of_512_bytes_is_taken : action_at (codes "i") 0 (with_id 512) ≡ Ok (record { kind = Index; id = replicate 512 97; routing = replicate 512 97 })
 unfolding computing
 a_line_with_an_id_of_512_bytes_is_taken = refl
 
@@ -38,7 +38,7 @@ a_line_with_an_id_of_513_bytes_is_32 : action_at (codes "i") 0 (with_id 513) ≡
 unfolding computing
 a_line_with_an_id_of_513_bytes_is_32 = refl
 
-a_numeric_id_of_20_digits_is_its_text : action_at (codes "i") 0 (codes "{\"create\":{\"_id\":18446744073709551615}}") ≡ Ok (Create, codes "18446744073709551615", codes "18446744073709551615")
+a_numeric_id_of_20_digits_is_its_text : action_at (codes "i") 0 (codes "{\"create\":{\"_id\":18446744073709551615}}") ≡ Ok (record { kind = Create; id = codes "18446744073709551615"; routing = codes "18446744073709551615" })
 unfolding computing
 a_numeric_id_of_20_digits_is_its_text = refl
 
@@ -46,7 +46,7 @@ a_numeric_id_beyond_64_bits_is_32 : action_at (codes "i") 0 (codes "{\"create\":
 unfolding computing
 a_numeric_id_beyond_64_bits_is_32 = refl
 
-an_empty_routing_is_hashed_as_no_bytes : (action_at (codes "i") 0 (codes "{\"index\":{\"_id\":\"9\",\"routing\":\"\"}}") >>= λ h. Ok (hash_of h.2)) ≡ Ok 14695981039346656037
+an_empty_routing_is_hashed_as_no_bytes : (action_at (codes "i") 0 (codes "{\"index\":{\"_id\":\"9\",\"routing\":\"\"}}") >>= λ h. Ok (hash_of h.routing)) ≡ Ok 14695981039346656037
 unfolding computing
 an_empty_routing_is_hashed_as_no_bytes = refl
 

@@ -9,8 +9,11 @@ use Rattle.agg_reading.specs.declared.fault.RequestFault.TheVariants.{NotJson, B
 use Rattle.agg_reading.specs.Reading.{Reading, ◌>>=◌, or_refuse}
 use Rattle.agg_reading.specs.Json.{reading, object_at}
 use Rattle.agg_reading.specs.IndexLine.{index_line_at}
+use Rattle.agg_reading.specs.declared.parts.IndexLine.{IndexLine}
+use Rattle.agg_reading.specs.declared.parts.Heading.{Heading}
 use Rattle.agg_reading.specs.Lines.{Place, start, past, is_empty_line, line_fault, Script, or_fault, checked}
-use Rattle.agg_reading.specs.Script.{Loading, at_line, with_action, heading_of, is_delete, bulk, begun, loaded, header_at}
+use Rattle.agg_reading.specs.Script.{Loading, at_line, with_action, heading_of, is_delete, actions, source_of, begun, sections, loaded}
+use Rattle.agg_reading.specs.Entries.{header_members}
 use Rattle.agg_reading.specs.Refusals.{RefusesWith, index_line_refusals, action_refusals, loading_refusals, StopsWith}
 use Rattle.agg_reading.proofs.LineRefusals.{an_index_line, an_action}
 
@@ -63,44 +66,45 @@ the_heading : (line : ℕ) (l : Line) (now : Loading) → Stops (heading_of line
 unfolding heading_of
 the_heading line l now = either (nat_le 1048576 now.actions) _ _ refl (action_at_line line _ (an_action now.index.name now.actions l.text).refusal)
 
-some_lines : (now : Loading) (place : Place) (ls : List Line) → Stops (bulk now place ls)
-unfolding bulk
-some_lines now place [] = refl
-some_lines now place (l ∷ []) =
-    go_on (checked place l) _ (within place l) (λ u.
-    either (is_empty_line l.text) _ _ tt
-    (go_on (heading_of (place.number + 1) l now) _ (the_heading _ l now) (λ heading. either (is_delete heading.0) _ _ refl refl)))
-some_lines now place (l ∷ s ∷ ls) =
-    go_on (checked place l) _ (within place l) (λ u.
-    either (is_empty_line l.text) _ _ tt
-    (go_on (heading_of (place.number + 1) l now) _ (the_heading _ l now) (λ heading.
-    either (is_delete heading.0) _ _ (some_lines (with_action heading [] now) (past l place) (s ∷ ls))
-    (go_on (checked (past l place) s) _ (within (past l place) s) (λ u.
-    either (is_empty_line s.text) _ _ refl (some_lines (with_action heading s.text now) (past s (past l place)) ls))))))
+mutual
+  unfolding actions source_of
+
+  some_lines : (now : Loading) (place : Place) (ls : List Line) → Stops (actions now place ls)
+  some_lines now place [] = refl
+  some_lines now place (l ∷ ls) =
+      go_on (checked place l) _ (within place l) (λ u.
+      either (is_empty_line l.text) _ _ tt
+      (go_on (heading_of (place.number + 1) l now) _ (the_heading _ l now) (λ heading.
+      either (is_delete heading.kind) _ _ (some_lines (with_action heading [] now) (past l place) ls) (a_source heading now (past l place) ls))))
+
+  a_source : (heading : Heading) (now : Loading) (place : Place) (ls : List Line) → Stops (source_of heading now place ls)
+  a_source heading now place [] = refl
+  a_source heading now place (s ∷ ls) =
+      go_on (checked place s) _ (within place s) (λ u.
+      either (is_empty_line s.text) _ _ refl (some_lines (with_action heading s.text now) (past s place) ls))
+
+the_sections : (index : IndexLine) (place : Place) (ls : List Line) → Stops (sections index place ls)
+unfolding sections
+the_sections index place [] = refl
+the_sections index place (e ∷ ls) =
+    go_on (checked place e) _ (within place e) (λ u. either (is_empty_line e.text) _ _ (some_lines (begun index) (past e place) ls) refl)
 
 pub a_script : (ls : List Line) → Stops (loaded ls)
 unfolding loaded
 a_script [] = refl
-a_script (l ∷ []) =
-    go_on (checked start l) _ (within start l) (λ u. go_on (at_line 1 (index_line_at l.text)) _ (index_at 1 _ (an_index_line l.text).refusal) (λ index. refl))
-a_script (l ∷ e ∷ ls) =
+a_script (l ∷ ls) =
     go_on (checked start l) _ (within start l) (λ u.
-    go_on (at_line 1 (index_line_at l.text)) _ (index_at 1 _ (an_index_line l.text).refusal) (λ index.
-    go_on (checked (past l start) e) _ (within (past l start) e) (λ u.
-    either (is_empty_line e.text) _ _ (some_lines (begun index) (past e (past l start)) ls) refl)))
+    go_on (at_line 1 (index_line_at l.text)) _ (index_at 1 _ (an_index_line l.text).refusal) (λ index. the_sections index (past l start) ls))
 
 -- a header is refused alone with 39
 
-abbrev nothing : Members → Script (Unit {0})
-nothing ms = Ok tt
-
-unfitting : (line : ℕ) (o : Option Members) → IfErr ((at_line line (or_refuse 39 [] o)) >>= nothing) (λ e. e ≡ record { number = 39; line = line; path = [] })
+unfitting : (line : ℕ) (o : Option Members) → IfErr (at_line line (or_refuse 39 [] o)) (λ e. e ≡ record { number = 39; line = line; path = [] })
 unfitting line (Some ms) = tt
 unfitting line None = refl
 
-pub a_header : (line : ℕ) (text : List ℕ) → IfErr (header_at line text) (λ e. e ≡ record { number = 39; line = line; path = [] })
-unfolding header_at object_at
-a_header line text = elim (reading text) as (λ o. IfErr (at_line line (or_refuse 39 [] o >>= object_at 39 []) >>= nothing) (λ e. e ≡ record { number = 39; line = line; path = [] })) [
+pub a_header : (line : ℕ) (text : List ℕ) → IfErr (header_members line text) (λ e. e ≡ record { number = 39; line = line; path = [] })
+unfolding header_members object_at
+a_header line text = elim (reading text) as (λ o. IfErr (at_line line (or_refuse 39 [] o >>= object_at 39 [])) (λ e. e ≡ record { number = 39; line = line; path = [] })) [
   | None ↦ refl
   | Some d ↦ unfitting line (as_object d)
 ]

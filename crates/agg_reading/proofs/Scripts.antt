@@ -13,7 +13,9 @@ use Rattle.agg_reading.specs.declared.parts.IndexLine.{IndexLine}
 use Rattle.agg_model.specs.Lines.{lines}
 use Rattle.agg_reading.specs.Lines.{start, line_fault, Script, refuse_script}
 use Rattle.agg_reading.specs.Store.{live_documents}
-use Rattle.agg_reading.specs.Script.{Loaded, Bodies, loaded, pairs, heading_of}
+use Rattle.agg_reading.specs.Script.{Loaded, loaded, heading_of}
+use Rattle.agg_reading.specs.Entries.{Entries, body, change, entries}
+use Rattle.serde_json.specs.Data.{object, no_members, member}
 use Rattle.agg_reading.proofs.Computing.{computing}
 use Rattle.agg_reading.proofs.Mappings.{plain}
 
@@ -31,8 +33,8 @@ items_of ls = load ls >>= λ r. Ok r.items
 abbrev documents_of : List (List ℕ) → Script (List Document)
 documents_of ls = load ls >>= λ r. Ok (live_documents r.store)
 
-abbrev bodies_of : List (List ℕ) → Script Bodies
-bodies_of ls = load ls >>= λ r. Ok (pairs r.place r.rest)
+abbrev entries_of : List (List ℕ) → Script Entries
+entries_of ls = load ls >>= λ r. Ok (entries r.place r.rest)
 
 -- the index `i` of one shard with a boolean `b`, a long `n` and a keyword `t`
 abbrev index_line : List ℕ
@@ -119,27 +121,35 @@ a_create_after_a_delete_is_taken : items_of (index_line ∷ [] ∷ codes "{\"cre
 unfolding computing
 a_create_after_a_delete_is_taken = refl
 
--- The pairs of a header and a body.
+-- Searches, each a header and a body, and settings lines between them.
 
-empty_lines_before_a_header_are_passed_over : bodies_of (index_line ∷ [] ∷ [] ∷ codes "{}" ∷ [] ∷ ((13 ∷ [])) ∷ [] ∷ codes "{\"a\":1}" ∷ codes "{}" ∷ []) ≡ Ok (record { bodies = [] ∷ codes "{}" ∷ []; refused = None })
+empty_lines_before_a_header_are_passed_over : entries_of (index_line ∷ [] ∷ [] ∷ codes "{}" ∷ [] ∷ ((13 ∷ [])) ∷ [] ∷ codes "{\"a\":1}" ∷ codes "{}" ∷ []) ≡ Ok (record { entries = body [] ∷ body (codes "{}") ∷ []; refused = None })
 unfolding computing
 empty_lines_before_a_header_are_passed_over = refl
 
-a_last_line_without_a_newline_counts : (loaded (lines (index_line ++ 10 ∷ 10 ∷ 10 ∷ codes "{}" ++ 10 ∷ codes "[1")) >>= λ r. Ok (pairs r.place r.rest)) ≡ Ok (record { bodies = codes "[1" ∷ []; refused = None })
+a_last_line_without_a_newline_counts : (loaded (lines (index_line ++ 10 ∷ 10 ∷ 10 ∷ codes "{}" ++ 10 ∷ codes "[1")) >>= λ r. Ok (entries r.place r.rest)) ≡ Ok (record { entries = body (codes "[1") ∷ []; refused = None })
 unfolding computing
 a_last_line_without_a_newline_counts = refl
 
-a_header_that_is_no_object_is_39 : bodies_of (index_line ∷ [] ∷ [] ∷ codes "[]" ∷ codes "{}" ∷ []) ≡ Ok (record { bodies = []; refused = Some (record { number = 39; line = 4; path = [] }) })
+a_header_that_is_no_object_is_39 : entries_of (index_line ∷ [] ∷ [] ∷ codes "[]" ∷ codes "{}" ∷ []) ≡ Ok (record { entries = []; refused = Some (record { number = 39; line = 4; path = [] }) })
 unfolding computing
 a_header_that_is_no_object_is_39 = refl
 
-a_header_without_a_body_is_36 : bodies_of (index_line ∷ [] ∷ [] ∷ codes "{}" ∷ codes "{}" ∷ codes "{}" ∷ []) ≡ Ok (record { bodies = codes "{}" ∷ []; refused = Some (record { number = 36; line = 6; path = [] }) })
+a_header_without_a_body_is_36 : entries_of (index_line ∷ [] ∷ [] ∷ codes "{}" ∷ codes "{}" ∷ codes "{}" ∷ []) ≡ Ok (record { entries = body (codes "{}") ∷ []; refused = Some (record { number = 36; line = 6; path = [] }) })
 unfolding computing
 a_header_without_a_body_is_36 = refl
 
-a_bad_header_at_the_end_is_39 : bodies_of (index_line ∷ [] ∷ [] ∷ codes "{" ∷ []) ≡ Ok (record { bodies = []; refused = Some (record { number = 39; line = 4; path = [] }) })
+a_bad_header_at_the_end_is_39 : entries_of (index_line ∷ [] ∷ [] ∷ codes "{" ∷ []) ≡ Ok (record { entries = []; refused = Some (record { number = 39; line = 4; path = [] }) })
 unfolding computing
 a_bad_header_at_the_end_is_39 = refl
+
+a_settings_line_stands_alone : entries_of (index_line ∷ [] ∷ [] ∷ codes "{\"transient\":{}}" ∷ codes "{}" ∷ codes "{}" ∷ []) ≡ Ok (record { entries = change (object (member (codes "transient") (object no_members) no_members)) ∷ body (codes "{}") ∷ []; refused = None })
+unfolding computing
+a_settings_line_stands_alone = refl
+
+another_member_beside_it_makes_a_header : entries_of (index_line ∷ [] ∷ [] ∷ codes "{\"transient\":{},\"index\":1}" ∷ codes "{}" ∷ []) ≡ Ok (record { entries = body (codes "{}") ∷ []; refused = None })
+unfolding computing
+another_member_beside_it_makes_a_header = refl
 
 -- The limits.
 
@@ -182,6 +192,6 @@ the_action_after_1048576_is_35_whatever_it_is : heading_of 5 (record { text = co
 unfolding computing
 the_action_after_1048576_is_35_whatever_it_is = refl
 
-the_last_action_that_is_taken_is_read : heading_of 5 (record { text = codes "{\"index\":{}}"; size = 13 }) (record { index = of_index; store = []; items = []; actions = 1048575 }) ≡ Ok (Index, codes "_auto_1048575", codes "_auto_1048575")
+the_last_action_that_is_taken_is_read : heading_of 5 (record { text = codes "{\"index\":{}}"; size = 13 }) (record { index = of_index; store = []; items = []; actions = 1048575 }) ≡ Ok (record { kind = Index; id = codes "_auto_1048575"; routing = codes "_auto_1048575" })
 unfolding computing
 the_last_action_that_is_taken_is_read = refl

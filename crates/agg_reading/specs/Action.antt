@@ -9,12 +9,9 @@ use Rattle.agg_model.specs.declared.limits.TheConstants.{MAX_ID}
 use Rattle.agg_model.specs.declared.script_refusal.TheConstants.{MALFORMED_ACTION, UPDATE_NOT_SUPPORTED}
 use Rattle.agg_model.specs.declared.bulk.ActionKind.{ActionKind}
 use Rattle.agg_model.specs.declared.bulk.ActionKind.TheVariants.{Index, Create, Delete}
+use Rattle.agg_reading.specs.declared.parts.Heading.{Heading}
 use Rattle.agg_reading.specs.Reading.{Reading, ◌>>=◌, refuse, or_refuse}
 use Rattle.agg_reading.specs.Json.{reading, object_at, sole_at}
-
--- what an action line says: the action, the id, and the routing
-abbrev pub Heading : Type 0
-Heading = ActionKind × List ℕ × List ℕ
 
 unfoldable pub action_named : List ℕ → Option ActionKind
 action_named s =
@@ -68,7 +65,7 @@ heading_at index before kind ms =
       said ← label_in (codes "_id") ms
       id ← id_or kind before said
       routing ← label_in (codes "routing") ms
-      Ok (kind, id, routing_or id routing))
+      Ok (record { kind = kind; id = id; routing = routing_or id routing }))
     else refuse MALFORMED_ACTION []
 
 -- before : how many actions come before

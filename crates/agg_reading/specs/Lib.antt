@@ -15,6 +15,8 @@ pub mod Routing
 pub mod Store
 pub mod Lines
 pub mod Script
+pub mod SettingsLines
+pub mod Entries
 pub mod Leaves
 pub mod Query
 pub mod Orders

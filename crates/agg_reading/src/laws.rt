@@ -13,9 +13,10 @@ ghost use Rattle.agg_reading.specs.IndexLine.{index_line_at};
 ghost use Rattle.agg_reading.specs.Json.{json_at};
 ghost use Rattle.agg_reading.specs.Mapping.{mapping_at};
 ghost use Rattle.agg_model.specs.MappingOrder.{IsOrdered};
+ghost use Rattle.agg_reading.specs.Entries.{header_members};
 ghost use Rattle.agg_reading.specs.Refusals.{RefusesWith, StopsWith, index_line_refusals, action_refusals, document_refusals, item_refusals, body_refusals, loading_refusals};
 ghost use Rattle.agg_reading.specs.Request.{search_of, search_value_at};
-ghost use Rattle.agg_reading.specs.Script.{header_at, loaded};
+ghost use Rattle.agg_reading.specs.Script.{loaded};
 ghost use Rattle.agg_reading.specs.Store.{Store, applied};
 
 /// A mapping that is read has at most `MAX_PATHS` fields and nested paths, and its paths stand in byte order; so has the
@@ -34,7 +35,7 @@ pub fn index_lines_have_shards()
 pub fn lines_are_refused_by_their_own_numbers()
     ensures index_line { (bytes : List ℕ) → RefusesWith index_line_refusals (index_line_at bytes) }
     ensures action { (index : List ℕ) (before : ℕ) (bytes : List ℕ) → RefusesWith action_refusals (action_at index before bytes) }
-    ensures header { (line : ℕ) (bytes : List ℕ) → IfErr (header_at line bytes) (λ e. e ≡ record { number = BAD_HEADER; line = line; path = [] }) }
+    ensures header { (line : ℕ) (bytes : List ℕ) → IfErr (header_members line bytes) (λ e. e ≡ record { number = BAD_HEADER; line = line; path = [] }) }
 {}
 
 /// The first two sections of a script are refused with the numbers of scripts alone.

@@ -10,5 +10,5 @@ mod parts;
 pub use fault::RequestFault;
 pub use names::{FieldType, KindName, QueryName, SourceName};
 pub use parts::{
-    Counts, Draft, Found, FoundField, FoundPath, IndexLine, NamedOrder, ReadKind, Role,
+    Counts, Draft, Found, FoundField, FoundPath, Heading, IndexLine, NamedOrder, ReadKind, Role,
 };

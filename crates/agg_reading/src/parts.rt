@@ -1,5 +1,5 @@
 //! What a reading has in hand before it is done.
-use agg_model::{Children, FieldKind, FieldValues, Kind, List, Mapping, Text};
+use agg_model::{ActionKind, Children, FieldKind, FieldValues, Kind, List, Mapping, Text};
 
 /// A scalar field, while the other nested paths are not yet known.
 #[derive(Drop)]
@@ -34,6 +34,15 @@ pub struct IndexLine {
     pub mapping: Mapping,
     /// 1 to `MAX_SHARDS`.
     pub shards: u32,
+}
+
+/// What an action line says.
+#[derive(Drop)]
+pub struct Heading {
+    pub kind: ActionKind,
+    /// 1 to `MAX_ID` bytes.
+    pub id: Text,
+    pub routing: Text,
 }
 
 /// A row while its object is walked: fields ascending, the values of each in the order of the walk.

@@ -2,7 +2,7 @@
 use Rattle.std.specs.Prelude.{◌≡◌, refl, ℕ, List, Option, Some, None, option_map, Bool, true, false, Ok, Err, codes}
 use Rattle.agg_model.specs.declared.settings.Settings.{Settings}
 use Rattle.agg_reading.specs.Json.{reading}
-use Rattle.agg_settings.specs.SettingsLines.{is_settings_line}
+use Rattle.agg_reading.specs.SettingsLines.{is_settings_line}
 use Rattle.agg_settings.specs.Changes.{Change, changed}
 use Rattle.agg_settings.proofs.ComputingLines.{computing}
 

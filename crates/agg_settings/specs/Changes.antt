@@ -11,7 +11,7 @@ use Rattle.agg_reading.specs.Json.{is_among}
 use Rattle.agg_reading.specs.Scalars.{whole}
 use Rattle.agg_settings.specs.Numbers.{between}
 use Rattle.agg_settings.specs.Limits.{limit_of}
-use Rattle.agg_settings.specs.SettingsLines.{scope_of}
+use Rattle.agg_reading.specs.SettingsLines.{scope_of}
 
 -- ---- what a value says
 

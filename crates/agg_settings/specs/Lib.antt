@@ -8,6 +8,5 @@ pub mod Generating
 pub mod Options
 pub mod Settings
 pub mod Ranges
-pub mod SettingsLines
 pub mod Changes
 pub mod ChangeFaults

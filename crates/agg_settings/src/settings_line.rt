@@ -2,7 +2,7 @@
 
 ghost use Rattle.std.specs.Prelude.{◌≡◌, ◌≤◌, IfOk, IfErr, IfSome, IsErrAnd, Ok, option_map, true};
 ghost use Rattle.serde_json.specs.View.{members_view, view};
-ghost use Rattle.agg_settings.specs.SettingsLines.{is_settings_line, scope_of};
+ghost use Rattle.agg_reading.specs.SettingsLines.{is_settings_line, scope_of};
 ghost use Rattle.agg_settings.specs.Changes.{batch_after, batch_in, buckets_after, buckets_in, changed, count_in, first_refused, is_taken, limit_after, limit_in, limits_after, settings_after};
 ghost use Rattle.agg_settings.specs.ChangeFaults.{IsRefused, Refuses};
 ghost use Rattle.agg_settings.specs.Ranges.{AreInRange, AreLimits};
@@ -17,7 +17,7 @@ use serde_json::{Map, Value};
 use std::alloc::Global;
 
 /// The name and the value of a settings line's only member; none for any other value.
-#[tactic(auto, unfolding(crate::specs::SettingsLines::scope_of))]
+#[tactic(auto, unfolding(agg_reading::specs::SettingsLines::scope_of))]
 fn scope_of(line: &Value) -> Option<(&str, &Value)>
     ensures { option_map (λ m. (m.0.now, view m.1.now)) result ≡ scope_of (view line.now) }
 {

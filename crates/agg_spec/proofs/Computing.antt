@@ -18,7 +18,7 @@ unfolding
     Rattle.agg_model.specs.declared.key.Key.TheBlock.hidden-the_row-Key-0 Rattle.agg_model.specs.declared.key.Key.TheBlock.shown-the_row-Key-0
     Rattle.agg_model.specs.declared.answer.BucketAnswer.TheViews.out-NodeAnswer Rattle.agg_model.specs.declared.answer.BucketAnswer.TheViews.out-BucketAnswer
     Rattle.agg_model.specs.declared.answer.BucketAnswer.TheBlock.shown-the_row-BucketAnswer-1
-    Rattle.agg_spec.specs.Entries.entries Rattle.agg_spec.specs.Entries.header_members Rattle.agg_spec.specs.Entries.is_settings_line
+    Rattle.agg_reading.specs.Entries.entries Rattle.agg_reading.specs.Entries.body_of Rattle.agg_reading.specs.Entries.header_members Rattle.agg_reading.specs.SettingsLines.scope_of
     digits serde_json_on_literals
     denote.Hole.Carrier.out denote.Hole.Carrier.roll denote.Hole.Carrier.shown denote.Hole.Carrier.hidden
 computing = tt

@@ -22,7 +22,6 @@ pub mod Pages
 pub mod Columns
 pub mod Generator
 pub mod Statistics
-pub mod Entries
 pub mod Requests
 pub mod Answers
 pub mod BulkLine

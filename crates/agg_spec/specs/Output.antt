@@ -138,7 +138,8 @@ IsStopped change (Ok words) input read written =
     (words.generate ≡ None) × At3 change words (script_from words (loaded (whole_lines (take read input)))) written
 
 -- These lines, and behind them this piece of a line, are an output of a run.
-pub record IsOutput (change : Change) (words : Result Settings Usage) (input : List ℕ) (read status : ℕ) (written : List Line) (piece : List ℕ) : Type 0 where
+pub record IsOutput (change : Change) (words : Result Settings Usage) (input : List ℕ) (read status : ℕ) (written : List Line)
+    (piece : List ℕ) : Type 0 where
   pub printed : IsTrue (all_printed written)
   pub by_status : (IsWhole change words input status written × (piece ≡ []))
       ⊎ (((status ≡ 3) × IsStopped change words input read written × (piece ≡ []))

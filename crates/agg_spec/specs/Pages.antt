@@ -46,7 +46,8 @@ next_search index shards true search = option_map (search_after search) (last_ke
 next_search index shards false search = None
 
 abbrev pub request_after : Index → List ℕ → ℕ → Result Search Refused → Option Request
-request_after index shards bytes (Ok search) = option_map (λ s. record { bytes = bytes; search = Ok s }) (next_search index shards (is_paged search.aggs) search)
+request_after index shards bytes (Ok search) =
+    option_map (λ s. record { bytes = bytes; search = Ok s }) (next_search index shards (is_paged search.aggs) search)
 request_after index shards bytes (Err r) = None
 
 -- The page after a page that ended so: it follows the last key of the shards that answered. There is none after a page without a

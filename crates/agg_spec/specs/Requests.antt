@@ -13,7 +13,7 @@ use Rattle.agg_reading.specs.Script.{Loaded}
 use Rattle.agg_reading.specs.Request.{search_of}
 use Rattle.serde_json.specs.Data.{Data}
 use Rattle.agg_spec.specs.Index.{Index}
-use Rattle.agg_spec.specs.Entries.{Entry, body, change, entries}
+use Rattle.agg_reading.specs.Entries.{Entry, body, change, entries}
 use Rattle.agg_spec.specs.Columns.{columns_charge}
 use Rattle.agg_spec.specs.Outcome.{Request}
 

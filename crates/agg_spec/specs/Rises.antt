@@ -70,7 +70,8 @@ module _ (index : Index) (columns : ℕ) where
   rises round =
       let quiet = all_quiet round.answers in
       record {
-        bodies = sum (map (λ p. body_charge round.settings index columns p.0 p.1) (zip (body_refusals round.settings index columns 0 round.requests) round.requests));
+        bodies = sum (map (λ p. body_charge round.settings index columns p.0 p.1)
+            (zip (body_refusals round.settings index columns 0 round.requests) round.requests));
         searches = if quiet then sum_by (least_for round) round.requests else 0;
         exact = quiet && nat_le (length index.shards) round.settings.batch;
         trips = sum_of_amounts (map (told_trips index) round.answers);

@@ -5,12 +5,12 @@ use Rattle.agg_model.specs.declared.bulk.Action.{Action}
 use Rattle.agg_model.specs.declared.bulk.Applied.{Applied}
 use Rattle.agg_reading.specs.declared.parts.IndexLine.{IndexLine}
 use Rattle.agg_reading.specs.Reading.{Reading}
-use Rattle.agg_reading.specs.Action.{Heading}
+use Rattle.agg_reading.specs.declared.parts.Heading.{Heading}
 use Rattle.agg_reading.specs.IndexLine.{index_line_at}
 use Rattle.agg_model.specs.Lines.{Line}
 use Rattle.agg_reading.specs.Lines.{Place, start, past, is_empty_line, Script, checked}
 use Rattle.agg_reading.specs.Store.{Store, applied, live_documents, store_weight}
-use Rattle.agg_reading.specs.Script.{Loading, Loaded, at_line, after, with_action, heading_of, is_delete, bulk, begun, loaded}
+use Rattle.agg_reading.specs.Script.{Loading, Loaded, at_line, after, with_action, heading_of, is_delete, actions, source_of, begun, sections, loaded}
 use Rattle.agg_reading.proofs.Steps.{then_ok, next_ok, if_ok}
 use Rattle.agg_reading.proofs.IndexLineLaws.{LineFits, index_line_at-fits}
 use Rattle.agg_model.specs.Contexts.{parents_before}
@@ -44,23 +44,26 @@ after_going action (Err e) now h g = g
 action_going : (heading : Heading) (source : List ℕ) (now : Loading) → Going now → Going (with_action heading source now)
 unfolding with_action
 action_going heading source now g =
-    let action : Action = record { kind = heading.0; id = heading.1; routing = heading.2; source = source } in
+    let action : Action = record { kind = heading.kind; id = heading.id; routing = heading.routing; source = source } in
     after_going action (applied now.index.mapping action now.store) now (applied_fits now.index.mapping action now.store g.1) g
 
-bulk_done : (now : Loading) (place : Place) (ls : List Line) → Going now → IfOk (bulk now place ls) Done
-unfolding bulk
-bulk_done now place [] g = tt
-bulk_done now place (l ∷ []) g =
-    then_ok Done (checked place l) _ (λ _.
-    if_ok Done (is_empty_line l.text) _ _ (λ e. g) (λ e.
-    then_ok Done (heading_of (place.number + 1) l now) _ (λ heading. if_ok Done (is_delete heading.0) _ _ (λ e. tt) (λ e. tt))))
-bulk_done now place (l ∷ s ∷ ls) g =
-    then_ok Done (checked place l) _ (λ _.
-    if_ok Done (is_empty_line l.text) _ _ (λ e. g) (λ e.
-    then_ok Done (heading_of (place.number + 1) l now) _ (λ heading.
-    if_ok Done (is_delete heading.0) (bulk (with_action heading [] now) (past l place) (s ∷ ls)) _ (λ e. bulk_done (with_action heading [] now) (past l place) (s ∷ ls) (action_going heading [] now g)) (λ e.
-    then_ok Done (checked (past l place) s) _ (λ _.
-    if_ok Done (is_empty_line s.text) _ (bulk (with_action heading s.text now) (past s (past l place)) ls) (λ e. tt) (λ e. bulk_done (with_action heading s.text now) (past s (past l place)) ls (action_going heading s.text now g)))))))
+mutual
+  unfolding actions source_of
+  actions_done : (now : Loading) (place : Place) (ls : List Line) → Going now → IfOk (actions now place ls) Done
+  actions_done now place [] g = tt
+  actions_done now place (l ∷ ls) g =
+      then_ok Done (checked place l) _ (λ _.
+      if_ok Done (is_empty_line l.text) _ _ (λ e. g) (λ e.
+      then_ok Done (heading_of (place.number + 1) l now) _ (λ heading.
+      if_ok Done (is_delete heading.kind) (actions (with_action heading [] now) (past l place) ls) _ (λ e. actions_done (with_action heading [] now) (past l place) ls (action_going heading [] now g))
+      (λ e. source_done heading now (past l place) ls g))))
+
+  source_done : (heading : Heading) (now : Loading) (place : Place) (ls : List Line) → Going now → IfOk (source_of heading now place ls) Done
+  source_done heading now place [] g = tt
+  source_done heading now place (s ∷ ls) g =
+      then_ok Done (checked place s) _ (λ _.
+      if_ok Done (is_empty_line s.text) _ (actions (with_action heading s.text now) (past s place) ls) (λ e. tt)
+      (λ e. actions_done (with_action heading s.text now) (past s place) ls (action_going heading s.text now g)))
 
 at_line_ok : (line : ℕ) (o : Reading IndexLine) → IfOk o Lined → IfOk (at_line line o) Lined
 at_line_ok line (Ok x) h = h
@@ -70,15 +73,19 @@ nothing_live : (index : IndexLine) → Lined index → Going (begun index)
 unfolding live_documents store_weight
 nothing_live index h = (h, (refl, let none : store_weight [] ≡ 0 = refl in omega (arith, none)))
 
+sections_done : (index : IndexLine) (place : Place) (ls : List Line) → Lined index → IfOk (sections index place ls) Done
+unfolding sections
+sections_done index place [] h = tt
+sections_done index place (e ∷ ls) h =
+    then_ok Done (checked place e) _ (λ _.
+    if_ok Done (is_empty_line e.text) (actions (begun index) (past e place) ls) _ (λ t. actions_done (begun index) (past e place) ls (nothing_live index h)) (λ t. tt))
+
 loaded_done : (ls : List Line) → IfOk (loaded ls) Done
-unfolding loaded live_documents
+unfolding loaded
 loaded_done [] = tt
-loaded_done (l ∷ []) = then_ok Done (checked start l) _ (λ _. then_ok Done (at_line 1 (index_line_at l.text)) _ (λ index. tt))
-loaded_done (l ∷ e ∷ ls) =
+loaded_done (l ∷ ls) =
     then_ok Done (checked start l) _ (λ _.
-    next_ok Lined Done (at_line 1 (index_line_at l.text)) _ (at_line_ok 1 (index_line_at l.text) (lined l.text)) (λ index h.
-    then_ok Done (checked (past l start) e) _ (λ _.
-    if_ok Done (is_empty_line e.text) (bulk (begun index) (past e (past l start)) ls) _ (λ t. bulk_done (begun index) (past e (past l start)) ls (nothing_live index h)) (λ t. tt))))
+    next_ok Lined Done (at_line 1 (index_line_at l.text)) _ (at_line_ok 1 (index_line_at l.text) (lined l.text)) (λ index h. sections_done index (past l start) ls h))
 
 pub loaded_indexed : (ls : List Line) → IfOk (loaded ls) IsIndexed
 loaded_indexed ls =

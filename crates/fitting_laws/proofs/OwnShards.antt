@@ -36,7 +36,7 @@ use Rattle.list_laws.proofs.Booleans.{and_left, and_right, both}
 use Rattle.list_laws.proofs.Occurrences.{all-sorted, all-take, all-map}
 use Rattle.fitting_laws.proofs.BucketKeys.{distinct_all, histogram_rows, composite_rows}
 use Rattle.fitting_laws.proofs.Counting.{under_counted, filter_counted}
-use Rattle.fitting_laws.proofs.Follows.{made_parts}
+use Rattle.agg_evaluation.proofs.MadeSearches.{made_parts}
 use Rattle.fitting_laws.proofs.Measures.{counted_64}
 use Rattle.fitting_laws.proofs.Owns.{is_made_key, made_keys, are_covered, owns_parts, owns}
 use Rattle.fitting_laws.proofs.ReachShards.{whole_field}

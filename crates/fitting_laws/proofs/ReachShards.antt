@@ -40,7 +40,7 @@ use Rattle.list_laws.proofs.Lists.{sum_by-map}
 use Rattle.list_laws.proofs.Occurrences.{all-sorted, all-take, all-map}
 use Rattle.list_laws.proofs.Sums.{sum_by-sorted, sum_by-take}
 use Rattle.fitting_laws.proofs.Counting.{under_counted, filter_counted, key_counts_light, distinct_length}
-use Rattle.fitting_laws.proofs.Follows.{made_parts}
+use Rattle.agg_evaluation.proofs.MadeSearches.{made_parts}
 use Rattle.fitting_laws.proofs.Hits.{counted_light}
 use Rattle.fitting_laws.proofs.Reach.{most_each, most_within, most_map, max_within, returned, bucket_reach, parts_reach, reach}
 

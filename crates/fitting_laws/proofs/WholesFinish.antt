@@ -23,7 +23,6 @@ use Rattle.list_laws.proofs.Booleans.{both, true_is}
 use Rattle.fitting_laws.specs.Wholes.{answers_of, AreChosen}
 use Rattle.fitting_laws.proofs.Aparts.{documents_apart}
 use Rattle.fitting_laws.proofs.Finishes.{finishes}
-use Rattle.fitting_laws.proofs.Follows.{search_intervals}
 use Rattle.fitting_laws.proofs.Owns.{owns, whole_keeps}
 use Rattle.fitting_laws.proofs.OwnShards.{collected_owns}
 use Rattle.agg_evaluation.proofs.RowsFit.{rows_fit_placed}
@@ -54,7 +53,6 @@ module _ (search : Search) (m : Mapping) (paths : parents_before m ≡ true) whe
   wholes_finish shards h chosen =
       let aggs = (and_parts (query_fits m 0 search.query) (list_all (agg_fits m true 0) search.aggs) h).1 in
       let answers = answers_of search shards in
-      and_from _ _ (search_intervals m search h)
-      (true_is _ (pass_places is_finishable (λ (a : ℕ × Agg). whole_node a.1 (filter_map (λ (t : Partial). slice_get t.nodes a.0) answers)) 0 search.aggs (λ j a at.
+      true_is _ (pass_places is_finishable (λ (a : ℕ × Agg). whole_node a.1 (filter_map (λ (t : Partial). slice_get t.nodes a.0) answers)) 0 search.aggs (λ j a at.
       subst (λ (n : ℕ). T (is_finishable a (whole_node a (filter_map (λ (t : Partial). slice_get t.nodes n) answers)))) (let e : j ≡ 0 + j = omega arith in e)
-      (subst (λ (ns : List Node). T (is_finishable a (whole_node a ns))) (sym (answers_at search j a at shards)) (node_finishes a (all_at (agg_fits m true 0) search.aggs j a aggs at) shards chosen)))))
+      (subst (λ (ns : List Node). T (is_finishable a (whole_node a ns))) (sym (answers_at search j a at shards)) (node_finishes a (all_at (agg_fits m true 0) search.aggs j a aggs at) shards chosen))))

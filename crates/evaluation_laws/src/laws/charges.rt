@@ -1,11 +1,11 @@
 //! Laws of what a task holds.
-ghost use Rattle.std.specs.Prelude.{◌≡◌, ◌*◌, ◌≤◌, ◌*ℤ◌, ◌≤ℤ◌, ℕ, pos, List, Some, IsTrue};
+ghost use Rattle.std.specs.Prelude.{◌≡◌, ◌*◌, ◌≤◌, ◌*ℤ◌, ◌≤ℤ◌, ℕ, pos, List, Some};
 ghost use Rattle.agg_model.specs.declared.mapping.FieldKind.{FieldKind as AnyFieldKind};
 ghost use Rattle.agg_model.specs.declared.aggregation.Search.{Search};
 ghost use Rattle.agg_evaluation.specs.Ceiling.{ceiling};
 ghost use Rattle.agg_evaluation.specs.Cost.{cost};
-ghost use Rattle.agg_evaluation.specs.Placement.{has_globals_at_top};
 ghost use Rattle.agg_evaluation.specs.Rows.{PlacedRow};
+ghost use Rattle.agg_evaluation.specs.SearchFits.{IsMade};
 ghost use Rattle.agg_evaluation.specs.Shard.{int_sum, shard_answer};
 ghost use Rattle.agg_evaluation.specs.Trace.{built, peak, sum_before, trace};
 ghost use Rattle.agg_evaluation.specs.Whole.{empty_result};
@@ -17,11 +17,11 @@ pub fn traces_come_to_the_cost()
 {}
 
 /// Where a task has a ceiling, twice the most that it holds is at most that, and so is twice the cost of its answer.
-/// A search has global aggregations at the top alone.
+/// The search is made for a mapping.
 pub fn tasks_stay_below_their_ceilings()
-    ensures peak { (kinds : List AnyFieldKind) (search : Search) (all : List PlacedRow) (bound : ℕ) → IsTrue (has_globals_at_top search) →
+    ensures peak { (kinds : List AnyFieldKind) (search : Search) (all : List PlacedRow) (bound : ℕ) → IsMade search →
         ceiling kinds search all ≡ Some bound → (pos 2 *ℤ peak search all) ≤ℤ pos bound }
-    ensures answer { (kinds : List AnyFieldKind) (search : Search) (all : List PlacedRow) (bound : ℕ) → IsTrue (has_globals_at_top search) →
+    ensures answer { (kinds : List AnyFieldKind) (search : Search) (all : List PlacedRow) (bound : ℕ) → IsMade search →
         ceiling kinds search all ≡ Some bound → 2 * cost (shard_answer search all) ≤ bound }
 {}
 

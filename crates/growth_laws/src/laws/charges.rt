@@ -1,13 +1,13 @@
 //! Laws of what a task charges while its tree grows.
-ghost use Rattle.std.specs.Prelude.{◌≡◌, ◌⊎◌, ◌+◌, ◌-◌, ◌*◌, ◌<◌, ◌≤◌, ◌+ℤ◌, ◌-ℤ◌, ◌≤ℤ◌, ℕ, ℤ, pos, List, [], ◌∷◌, ◌++◌, IsTrue, Some, length, max, slice_get, take};
+ghost use Rattle.std.specs.Prelude.{◌≡◌, ◌⊎◌, ◌+◌, ◌-◌, ◌*◌, ◌<◌, ◌≤◌, ◌+ℤ◌, ◌-ℤ◌, ◌≤ℤ◌, ℕ, ℤ, pos, List, [], ◌∷◌, ◌++◌, Some, length, max, slice_get, take};
 ghost use Rattle.agg_model.specs.declared.aggregation.Search.{Search};
 ghost use Rattle.agg_model.specs.declared.breaker.Tripped.{Tripped};
 ghost use Rattle.agg_model.specs.declared.breaker.Which.{Which};
 ghost use Rattle.agg_model.specs.declared.mapping.FieldKind.{FieldKind as AnyFieldKind};
 ghost use Rattle.agg_evaluation.specs.Ceiling.{ceiling};
 ghost use Rattle.agg_evaluation.specs.Cost.{cost};
-ghost use Rattle.agg_evaluation.specs.Placement.{has_globals_at_top};
 ghost use Rattle.agg_evaluation.specs.Rows.{PlacedRow};
+ghost use Rattle.agg_evaluation.specs.SearchFits.{IsMade};
 ghost use Rattle.agg_evaluation.specs.Shard.{int_sum, shard_answer};
 ghost use Rattle.agg_evaluation.specs.Trace.{built, gross, peak, sum_before, task_overhead, trace};
 ghost use Rattle.growth_laws.specs.Amounts.{amounts, charged, place_without_zeros, row_count, without_zeros};
@@ -56,11 +56,11 @@ pub fn peak_is_the_greatest_sum()
         ≡ pos (charged (trace search all)) }
 {}
 
-/// Where a task has a ceiling, twice the overhead and the tree of its first rows is at most that. A
-/// search has global aggregations at the top alone.
+/// Where a task has a ceiling, twice the overhead and the tree of its first rows is at most that. The
+/// search is made for a mapping.
 pub fn each_tree_is_below_half_the_ceiling()
     ensures { (kinds : List AnyFieldKind) (search : Search) (all : List PlacedRow) (bound n : ℕ) →
-        IsTrue (has_globals_at_top search) → ceiling kinds search all ≡ Some bound →
+        IsMade search → ceiling kinds search all ≡ Some bound →
         2 * (task_overhead + cost (built search all n)) ≤ bound }
 {}
 

@@ -1,4 +1,4 @@
-use Rattle.fitting_laws.proofs.Follows.{search_intervals, search_placed}
+use Rattle.agg_evaluation.proofs.MadeSearches.{search_intervals, search_placed}
 use Rattle.fitting_laws.proofs.laws.searches.made_searches_have_their_parts.Goals as goal
 
 pub returns-clause-intervals : goal.returns-clause-intervals

@@ -1,7 +1,9 @@
--- What follows for a search that is made for a mapping.
+-- What follows for a search that is made for a mapping: intervals above 0, and global aggregations at the top alone.
 use Rattle.std.specs.Prelude.{◌≡◌, refl, ℕ, ◌^◌, List, [], ◌∷◌, map, Bool, true, false, not, ◌&&◌, ◌||◌, nat_le, nat_lt}
 use Rattle.std.specs.List.{list_all}
 use Rattle.std.proofs.Common.{arith}
+use Rattle.std.proofs.Math.Bool.{Bool-set}
+use Rattle.std.proofs.Math.Logic.{∥∥₁_elim}
 use Rattle.std.proofs.lemmas.Bool.{false≢true, and_parts, and_from}
 use Rattle.std.proofs.lemmas.Bool.Decides.{nat_tests}
 use Rattle.agg_model.specs.declared.mapping.Mapping.{Mapping}
@@ -13,7 +15,7 @@ use Rattle.agg_evaluation.specs.Folds.{fold_aggs}
 use Rattle.agg_evaluation.specs.Placement.{has_globals_at_top, is_placed, is_placed_at}
 use Rattle.agg_evaluation.specs.Trace.{is_global}
 use Rattle.agg_evaluation.specs.QueryFits.{query_fits}
-use Rattle.agg_evaluation.specs.SearchFits.{kind_fits, Made, made_at, is_made, is_metric, no_children, handed, agg_fits, search_fits, is_whole_field, is_interval, orders_fit}
+use Rattle.agg_evaluation.specs.SearchFits.{kind_fits, Made, made_at, is_made, is_metric, no_children, handed, agg_fits, search_fits, is_whole_field, is_interval, orders_fit, IsMade}
 use Rattle.agg_evaluation.specs.Conditions.{has_interval, has_intervals}
 use Rattle.agg_model.specs.BoundsOrder.{is_at_most, lies_within}
 
@@ -97,3 +99,9 @@ module _ (m : Mapping) where
 
   pub search_placed : (s : Search) → search_fits m s ≡ true → has_globals_at_top s ≡ true
   search_placed s h = each_placed s.aggs (and_parts (query_fits m 0 s.query) (list_all (agg_fits m true 0) s.aggs) h).1
+
+pub made_intervals : (s : Search) → IsMade s → list_all has_intervals s.aggs ≡ true
+made_intervals s made = ∥∥₁_elim made (Bool-set _ _) (λ m. search_intervals m.0 s m.1)
+
+pub made_globals : (s : Search) → IsMade s → has_globals_at_top s ≡ true
+made_globals s made = ∥∥₁_elim made (Bool-set _ _) (λ m. search_placed m.0 s m.1)
