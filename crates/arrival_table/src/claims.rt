@@ -1,4 +1,4 @@
-// How a desk comes to a task and its ticket.
+//! How a desk comes to a task and its ticket.
 ghost use Rattle.std.specs.Prelude.{◌≡◌, ◌+◌, ◌≤◌, ◌<◌, ℕ, IfSome, IfNone};
 ghost use Rattle.arrival_moves.specs.AfterMove.{after_claim, after_take_task, after_arrive};
 ghost use Rattle.arrival_moves.specs.Hands.{HasItem};
@@ -25,7 +25,8 @@ impl<A: Labelled, R: Labelled> Arrivals<A, R> {
         ensures numbers { (desk.new.view.left + 1 ≡ desk.old.view.left) × (desk.new.view.drawn ≡ desk.old.view.drawn + 1) }
         ensures some { IfSome result (λ n. (n < task_count self.now.plan) × (desk.old.view.drawn ≤ n)
             × (desk.new ≡ with_view desk.old (after_claim self.now.plan desk.old.view n))) }
-        ensures none { IfNone result ((n : ℕ) × (task_count self.now.plan ≤ n) × (desk.new ≡ with_view desk.old (after_claim self.now.plan desk.old.view n))) }
+        ensures none { IfNone result ((n : ℕ) × (task_count self.now.plan ≤ n)
+            × (desk.new ≡ with_view desk.old (after_claim self.now.plan desk.old.view n))) }
     {
         let found = self
             .table
@@ -48,7 +49,8 @@ impl<A: Labelled, R: Labelled> Arrivals<A, R> {
         ensures numbers { (desk.new.view.left + 1 ≡ desk.old.view.left) × (desk.new.view.drawn ≡ desk.old.view.drawn + 1) }
         ensures some { IfSome result (λ n. (n < task_count self.now.plan) × (desk.old.view.drawn ≤ n)
             × (desk.new ≡ with_view desk.old (after_claim self.now.plan desk.old.view n))) }
-        ensures none { IfNone result ((n : ℕ) × (task_count self.now.plan ≤ n) × (desk.new ≡ with_view desk.old (after_claim self.now.plan desk.old.view n))) }
+        ensures none { IfNone result ((n : ℕ) × (task_count self.now.plan ≤ n)
+            × (desk.new ≡ with_view desk.old (after_claim self.now.plan desk.old.view n))) }
     {
         self.claim_by::<Brand>(desk)
     }

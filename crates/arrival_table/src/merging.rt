@@ -1,4 +1,4 @@
-// How the desk that counted a batch last takes its results and puts the merged one.
+//! How the desk that counted a batch last takes its results and puts the merged one.
 ghost use Rattle.std.specs.Prelude.{◌≡◌, ◌/◌, IsTrue, [], length};
 ghost use Rattle.arrival_moves.specs.AfterMove.{after_take_result, after_put_merged};
 ghost use Rattle.arrival_moves.specs.Fairness.{IsOfSearch};

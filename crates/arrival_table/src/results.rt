@@ -1,4 +1,4 @@
-// How a result comes into its slot and is counted.
+//! How a result comes into its slot and is counted.
 ghost use Rattle.std.specs.Prelude.{◌≡◌, ◌≢◌, ◌<◌, ◌/◌, ℕ, IfSome, IfNone, IsTrue, ◌∷◌, []};
 ghost use Rattle.arrival_moves.specs.AfterMove.{after_put, after_count};
 ghost use Rattle.arrival_moves.specs.Hands.{HasItem};
