@@ -1,5 +1,5 @@
 //! How a desk stops a search and finds it stopped.
-ghost use Rattle.std.specs.Prelude.{◌≡◌, ◌<◌, IsTrue, IsFalse};
+ghost use Rattle.std.specs.Prelude.{◌≡◌, ◌<◌, IsTrue};
 ghost use Rattle.arrival_moves.specs.AfterMove.{after_stop, after_stopped};
 ghost use Rattle.arrival_moves.specs.Hands.{HasItem};
 ghost use Rattle.arrival_moves.specs.Items.{is_loaded};
