@@ -1,6 +1,7 @@
 -- What a desk that may close the table is.
 use Rattle.std.proofs.Common.{◌≡◌, ℕ, ◌+◌, ◌*◌, ◌<◌, ◌≤◌, true}
 use Rattle.std.proofs.lemmas.Bool.{and_parts, leb-true, ltb-true, eqb-true}
+use Rattle.arrival_moves.specs.declared.limits.TheConstants.{ALL_CLAIMS}
 use Rattle.arrival_moves.specs.declared.plan.Plan.{Plan}
 use Rattle.arrival_moves.specs.declared.view.View.{View}
 use Rattle.arrival_moves.specs.Plans.{tasks_of}
@@ -10,7 +11,7 @@ use Rattle.arrival_moves.specs.Guards.{may_close}
 -- the guard's parts, one by one
 pub record MayClose (p : Plan) (q b : ℕ) (v : View) : Type 0 where
   pub drawn : 1 ≤ v.drawn
-  pub whole : v.left + v.drawn ≡ 4294967296
+  pub whole : v.left + v.drawn ≡ ALL_CLAIMS
   pub ended : v.ended ≡ true
   pub closed : all_closed v.hand ≡ true
   pub real : b * p.batch < tasks_of p q

@@ -1,6 +1,7 @@
 -- What a desk knows after each move of its own.
 use Rattle.std.specs.Prelude.{ℕ, ◌+◌, ◌-◌, ◌*◌, ◌/◌, true, false, ◌||◌, ◌==◌, nat_le, nat_lt, if◌then◌else◌, List, [], ◌∷◌, ◌++◌}
 use Rattle.arrival_moves.specs.declared.label.Label.{Label}
+use Rattle.arrival_moves.specs.declared.limits.TheConstants.{ALL_CLAIMS}
 use Rattle.arrival_moves.specs.declared.plan.Plan.{Plan}
 use Rattle.arrival_moves.specs.declared.view.View.{View}
 use Rattle.arrival_moves.specs.declared.item.Item.{Item}
@@ -11,9 +12,9 @@ use Rattle.arrival_moves.specs.Plans.{task_count, batch_size}
 use Rattle.arrival_moves.specs.Items.{is_claimed, is_loaded, is_arrived, is_put, is_batch, is_marked}
 use Rattle.arrival_moves.specs.Hands.{exchanged}
 
--- the desk that is opened with the table: all 2^32 claims are left
+-- the desk that is opened with the table: all claims are left
 abbrev pub first_view : View
-first_view = record { left = 4294967296; drawn = 0; ended = false; hand = []; stopped = [] }
+first_view = record { left = ALL_CLAIMS; drawn = 0; ended = false; hand = []; stopped = [] }
 
 -- a desk that was joined to another
 abbrev pub spent_view : View
@@ -32,9 +33,12 @@ after_claim p v n = record v {
 abbrev pub after_take_task : View → ℕ → View
 after_take_task v k = record v { hand = exchanged (is_claimed k) (Loaded (record { task = k; failed = false }) ∷ []) v.hand }
 
+abbrev pub arrived_item : ℕ → Item → ℕ → ℕ → Item
+arrived_item k x q t = Arrived (record { task = k; failed = is_marked x; search = q; ticket = t; at_slot = false })
+
 -- the task k, which was x in hand, drew the ticket t of its search q
 abbrev pub after_arrive : View → ℕ → Item → ℕ → ℕ → View
-after_arrive v k x q t = record v { hand = exchanged (is_loaded k) (Arrived (record { task = k; failed = is_marked x; search = q; ticket = t; at_slot = false }) ∷ []) v.hand }
+after_arrive v k x q t = record v { hand = exchanged (is_loaded k) (arrived_item k x q t ∷ []) v.hand }
 
 -- the item with its desk at the slot
 abbrev pub reached_item : Item → Item

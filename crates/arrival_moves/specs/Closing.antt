@@ -3,6 +3,7 @@ use Rattle.std.specs.Prelude.{◌≡◌, ℕ, ◌+◌, ◌*◌, ◌<◌, IsTrue,
 use mathlib.Core.Option.{some}
 use lib.ListN.{get_elem?}
 use Rattle.arrival_moves.specs.declared.label.Label.{Label}
+use Rattle.arrival_moves.specs.declared.limits.TheConstants.{ALL_CLAIMS}
 use Rattle.arrival_moves.specs.declared.plan.Plan.{Plan}
 use Rattle.arrival_moves.specs.declared.view.View.{View}
 use Rattle.arrival_moves.specs.Labels.{task_times}
@@ -13,7 +14,7 @@ use Rattle.arrival_moves.specs.Fairness.{IsOfSearch}
 
 -- the desk has all claims, one of them found no task, and nothing is in its hand
 pub record IsAtEnd (v : View) : Type 0 where
-  pub whole : v.left + v.drawn ≡ 4294967296
+  pub whole : v.left + v.drawn ≡ ALL_CLAIMS
   pub ended : IsTrue v.ended
   pub bare : v.hand ≡ []
 

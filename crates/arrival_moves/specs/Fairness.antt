@@ -5,6 +5,7 @@ use Rattle.std.specs.List.{sum_by}
 use mathlib.Core.Option.{some}
 use lib.ListN.{get_elem?}
 use Rattle.arrival_moves.specs.declared.label.Label.{Label}
+use Rattle.arrival_moves.specs.declared.limits.TheConstants.{ALL_CLAIMS}
 use Rattle.arrival_moves.specs.declared.plan.Plan.{Plan}
 use Rattle.arrival_moves.specs.declared.view.View.{View}
 use Rattle.arrival_moves.specs.declared.item.HeldBatch.{HeldBatch}
@@ -35,8 +36,8 @@ pub record HasShape (p : Plan) (s : ArrivalState) : Type 0 where
 pub record ClaimsFit (p : Plan) (s : ArrivalState) : Type 0 where
   -- the claim word is the sum of the claims that the desks made
   pub word : s.claimed ≡ sum_by (λ (v : View). v.drawn) s.desks
-  -- those made and those left are together all 2^32
-  pub whole : sum_by (λ (v : View). v.left + v.drawn) s.desks ≡ 4294967296
+  -- those made and those left are together all claims
+  pub whole : sum_by (λ (v : View). v.left + v.drawn) s.desks ≡ ALL_CLAIMS
   -- where a desk has ended, all tasks are claimed
   pub ended : (i : ℕ) (v : View) → get_elem? s.desks i ≡ some v → IsTrue v.ended → task_count p ≤ s.claimed
   -- a desk that made no claim has nothing in hand
@@ -47,7 +48,8 @@ pub record TasksFit (p : Plan) (s : ArrivalState) : Type 0 where
   -- in one desk's hand, in one result's slot, or in the label of one merged result
   pub once : (k : ℕ) → everywhere (task_times k) s ≡ one_if (nat_lt k s.claimed && nat_lt k (task_count p))
   -- the slot of a task holds its load until the desk that claimed it has taken it
-  pub loads : (k : ℕ) → k < task_count p → (s.claimed ≤ k) ⊎ (1 ≤ in_hands (claimed_at k) s.desks) → get_elem? s.loads k ≡ some (holds (task_label k))
+  pub loads : (k : ℕ) → k < task_count p → (s.claimed ≤ k) ⊎ (1 ≤ in_hands (claimed_at k) s.desks)
+      → get_elem? s.loads k ≡ some (holds (task_label k))
   -- a slot in which no task is so is empty
   pub results : (r : ℕ) (l : Label) → get_elem? s.results r ≡ some (holds l) → 1 ≤ length l.tasks
   pub batches : (r : ℕ) (l : Label) → get_elem? s.batches r ≡ some (holds l) → 1 ≤ length l.tasks
@@ -82,13 +84,16 @@ pub record HoldsMerged (p : Plan) (x : ClosedBatch) : Type 0 where
 -- batches
 pub record BatchesFit (p : Plan) (s : ArrivalState) : Type 0 where
   -- a result stands for one task of its slot's search
-  pub result : (q t : ℕ) (l : Label) → t < tasks_of p q → get_elem? s.results (place_of p q t) ≡ some (holds l) → (length l.tasks ≡ 1) × IsOfSearch p q l
+  pub result : (q t : ℕ) (l : Label) → t < tasks_of p q → get_elem? s.results (place_of p q t) ≡ some (holds l)
+      → (length l.tasks ≡ 1) × IsOfSearch p q l
   -- so do those that were taken from it into a desk's hand
   pub taken : (i j : ℕ) (v : View) (x : HeldBatch) → get_elem? s.desks i ≡ some v → get_elem? v.hand j ≡ some (Batch x) → HoldsBatch p x
   -- a merged result stands for as many tasks as its batch has tickets, all of its search
-  pub merged : (q b : ℕ) (l : Label) → b * p.batch < tasks_of p q → get_elem? s.batches (place_of p q b) ≡ some (holds l) → (length l.tasks ≡ batch_size p q b) × IsOfSearch p q l
+  pub merged : (q b : ℕ) (l : Label) → b * p.batch < tasks_of p q → get_elem? s.batches (place_of p q b) ≡ some (holds l)
+      → (length l.tasks ≡ batch_size p q b) × IsOfSearch p q l
   -- and lies in the slot of a batch that its search has
-  pub placed : (r : ℕ) (l : Label) → get_elem? s.batches r ≡ some (holds l) → (q : ℕ) × (b : ℕ) × (b * p.batch < tasks_of p q) × (r ≡ place_of p q b)
+  pub placed : (r : ℕ) (l : Label) → get_elem? s.batches r ≡ some (holds l)
+      → (q : ℕ) × (b : ℕ) × (b * p.batch < tasks_of p q) × (r ≡ place_of p q b)
   -- so does one that was taken out stand for its batch
   pub closed : (i j : ℕ) (v : View) (x : ClosedBatch) → get_elem? s.desks i ≡ some v → get_elem? v.hand j ≡ some (Closed x) → HoldsMerged p x
   -- a batch's count word is the number of its tickets that were counted

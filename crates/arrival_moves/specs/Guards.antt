@@ -1,6 +1,7 @@
 -- When a desk may put a result or a merged result, and close the table.
 use Rattle.std.specs.Prelude.{ℕ, ◌+◌, ◌*◌, Bool, false, not, ◌&&◌, ◌||◌, ◌==◌, nat_le, nat_lt, [], ◌∷◌}
 use Rattle.arrival_moves.specs.declared.label.Label.{Label}
+use Rattle.arrival_moves.specs.declared.limits.TheConstants.{ALL_CLAIMS}
 use Rattle.arrival_moves.specs.declared.plan.Plan.{Plan}
 use Rattle.arrival_moves.specs.declared.view.View.{View}
 use Rattle.arrival_moves.specs.declared.item.Item.{Item}
@@ -22,9 +23,12 @@ may_put v q l _ = false
 -- all results were taken; and the label that the merged result must have once its desk is at the slot: the tasks of the
 -- taken results, failed where one of them is, and skipped exactly where one of them is
 abbrev pub may_put_merged : Label → Item → Bool
-may_put_merged l (Batch x) = same_list x.due [] && (not x.at_slot || (same_list l.tasks x.taken.tasks && implies x.taken.failed l.failed && implies l.skipped x.taken.skipped && implies x.taken.skipped l.skipped))
+may_put_merged l (Batch x) =
+    same_list x.due []
+    && (not x.at_slot
+    || (same_list l.tasks x.taken.tasks && implies x.taken.failed l.failed && implies l.skipped x.taken.skipped && implies x.taken.skipped l.skipped))
 may_put_merged l _ = false
 
 -- the desk is whole and ended, and has nothing in hand but what it took out; and the search q has a batch b
 abbrev pub may_close : Plan → ℕ → ℕ → View → Bool
-may_close p q b v = nat_le 1 v.drawn && (v.left + v.drawn == 4294967296) && v.ended && all_closed v.hand && nat_lt (b * p.batch) (tasks_of p q)
+may_close p q b v = nat_le 1 v.drawn && (v.left + v.drawn == ALL_CLAIMS) && v.ended && all_closed v.hand && nat_lt (b * p.batch) (tasks_of p q)

@@ -1,3 +1,4 @@
+-- The machine of arrivals: plans, labels, desks, slots and moves, and what holds after every list of moves.
 pub mod AfterMove
 pub mod Closing
 pub mod Fairness

@@ -11,7 +11,9 @@ use Rattle.arrival_moves.specs.Slots.{Slot, fresh, reached, holds, emptied}
 use Rattle.arrival_moves.specs.Plans.{task_count, search_of, place_of}
 use Rattle.arrival_moves.specs.Items.{is_claimed, is_loaded, is_arrived, is_put, is_batch, is_at_slot, is_due}
 use Rattle.arrival_moves.specs.Hands.{find_item, is_empty}
-use Rattle.arrival_moves.specs.AfterMove.{first_view, spent_view, after_claim, after_take_task, after_arrive, after_reach_result, after_put, after_count, after_take_result, after_reach_batch, after_put_merged, after_split, split_off, after_join, after_close, after_stop, after_stopped}
+use Rattle.arrival_moves.specs.AfterMove.{first_view, spent_view, after_claim, after_take_task, after_arrive, after_stop, after_stopped}
+use Rattle.arrival_moves.specs.AfterMove.{after_reach_result, after_put, after_count, after_take_result, after_reach_batch, after_put_merged}
+use Rattle.arrival_moves.specs.AfterMove.{after_split, split_off, after_join, after_close}
 use Rattle.arrival_moves.specs.Guards.{may_put, may_put_merged, may_close}
 
 -- the claim word, a ticket word and a stop word for each search, a count word for each batch, the slots of loads, results
@@ -84,9 +86,11 @@ move_label s act _ = s
 -- a move that may not be made leaves the state as it is
 abbrev pub move : Plan → ArrivalState → Move → ArrivalState
 move p s (claim i) = move_desk s i (λ v. nat_le 1 v.left) (λ v. record s { claimed = s.claimed + 1; desks = slice_set s.desks i (after_claim p v s.claimed) })
-move p s (take_task i k) = move_item s i (is_claimed k) (λ _ _. true) (λ v x. record s { loads = slice_set s.loads k emptied; desks = slice_set s.desks i (after_take_task v k) })
+move p s (take_task i k) =
+    move_item s i (is_claimed k) (λ _ _. true) (λ v x. record s { loads = slice_set s.loads k emptied; desks = slice_set s.desks i (after_take_task v k) })
 move p s (arrive i k) = let q = search_of p k in let t = slice_index s.tickets q in
-    move_item s i (is_loaded k) (λ _ _. true) (λ v x. record s { tickets = slice_set s.tickets q (t + 1); desks = slice_set s.desks i (after_arrive v k x q t) })
+    move_item s i (is_loaded k) (λ _ _. true)
+    (λ v x. record s { tickets = slice_set s.tickets q (t + 1); desks = slice_set s.desks i (after_arrive v k x q t) })
 move p s (put i q t l) = move_item s i (is_arrived q t) (λ v x. may_put v q l x)
     (λ v x. if is_at_slot x
     then record s { results = slice_set s.results (place_of p q t) (holds l); desks = slice_set s.desks i (after_put v q t) }
@@ -94,7 +98,9 @@ move p s (put i q t l) = move_item s i (is_arrived q t) (λ v x. may_put v q l x
 move p s (count i q t) = let c = place_of p q (t / p.batch) in let n = slice_index s.counts c + 1 in
     move_item s i (is_put q t) (λ _ _. true) (λ v x. record s { counts = slice_set s.counts c n; desks = slice_set s.desks i (after_count p v q t n) })
 move p s (take_result i q t) = move_item s i (is_batch q (t / p.batch)) (λ _ x. is_due t x)
-    (λ v x. move_label s (λ l. record s { results = slice_set s.results (place_of p q t) emptied; desks = slice_set s.desks i (after_take_result p v q t x l) }) (get_elem? s.results (place_of p q t)))
+    (λ v x. move_label s
+    (λ l. record s { results = slice_set s.results (place_of p q t) emptied; desks = slice_set s.desks i (after_take_result p v q t x l) })
+    (get_elem? s.results (place_of p q t)))
 move p s (put_merged i q b l) = move_item s i (is_batch q b) (λ _ x. may_put_merged l x)
     (λ v x. if is_at_slot x
     then record s { batches = slice_set s.batches (place_of p q b) (holds l); desks = slice_set s.desks i (after_put_merged v q b) }
@@ -103,8 +109,11 @@ move p s (split i k) = move_desk s i (λ v. nat_le k v.left) (λ v. record s { d
 move p s (join i j) = move_desk s i (λ v. not (i == j))
     (λ v. move_desk s j (λ w. is_empty w.hand) (λ w. record s { desks = slice_set (slice_set s.desks i (after_join v w)) j spent_view }))
 move p s (close i q b) = move_desk s i (may_close p q b)
-    (λ v. move_label s (λ l. record s { batches = slice_set s.batches (place_of p q b) emptied; desks = slice_set s.desks i (after_close v q b l) }) (get_elem? s.batches (place_of p q b)))
-move p s (stop i k) = move_item s i (is_loaded k) (λ _ _. true) (λ v x. record s { stops = slice_set s.stops (search_of p k) 1; desks = slice_set s.desks i (after_stop v k) })
+    (λ v. move_label s
+    (λ l. record s { batches = slice_set s.batches (place_of p q b) emptied; desks = slice_set s.desks i (after_close v q b l) })
+    (get_elem? s.batches (place_of p q b)))
+move p s (stop i k) =
+    move_item s i (is_loaded k) (λ _ _. true) (λ v x. record s { stops = slice_set s.stops (search_of p k) 1; desks = slice_set s.desks i (after_stop v k) })
 move p s (stopped i q) = move_desk s i (λ _. true) (λ v. record s { desks = slice_set s.desks i (after_stopped v q (slice_index s.stops q)) })
 
 -- the state after a list of moves from the opening

@@ -2,6 +2,7 @@
 -- Elasticsearch Reference 8, 'Search API', `batched_reduce_size`: results of shards are merged in batches.
 use Rattle.std.specs.Prelude.{◌≡◌, ℕ, ◌<◌, ◌≤◌, ◌+◌, ◌-◌, ◌*◌, min, nat_lt, length, take, slice_index}
 use Rattle.std.specs.List.{sum_by}
+use Rattle.arrival_moves.specs.declared.limits.TheConstants.{MAX_TASKS}
 use Rattle.arrival_moves.specs.declared.plan.Plan.{Plan}
 use Rattle.arrival_moves.specs.Lists.{one_if, times}
 
@@ -39,7 +40,7 @@ batch_size p q b = tickets_in p b (tasks_of p q)
 -- what a table is opened with
 pub record IsPlan (p : Plan) : Type 0 where
   pub batch : 2 ≤ p.batch
-  pub few : task_count p ≤ 65536
+  pub few : task_count p ≤ MAX_TASKS
   pub tasks : (k : ℕ) → k < task_count p → search_of p k < p.searches
 
 -- the places of the searches' tickets are the numbers below the number of tasks, each once

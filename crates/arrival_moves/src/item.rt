@@ -1,4 +1,4 @@
-// What a desk has in hand. Contracts alone see these types.
+//! What a desk has in hand. Contracts alone see these types.
 use crate::label::Label;
 use agg_model::List;
 

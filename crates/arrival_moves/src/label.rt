@@ -1,4 +1,4 @@
-// What a load or a result stands for.
+//! What a load or a result stands for.
 use agg_model::List;
 
 /// The tasks that a load or a result stands for, whether one of them failed, and whether one was skipped. Contracts alone

@@ -8,6 +8,7 @@
 mod item;
 mod label;
 pub mod laws;
+mod limits;
 mod plan;
 #[cfg(test)]
 mod tests;
@@ -15,5 +16,6 @@ mod view;
 
 pub use item::{ArrivedTask, ClosedBatch, HeldBatch, Item, LoadedTask, Ticket};
 pub use label::Label;
+pub use limits::{ALL_CLAIMS, MAX_TASKS};
 pub use plan::Plan;
 pub use view::View;

@@ -1,4 +1,4 @@
-// What the table is opened with.
+//! What the table is opened with.
 ghost use Rattle.std.specs.Prelude.{◌≡◌, ◌<◌};
 ghost use Rattle.arrival_moves.specs.Plans.{task_count, search_of};
 

@@ -1,4 +1,4 @@
-// The search of each task of a plan.
+//! The search of each task of a plan.
 use crate::Plan;
 use agg_model::List;
 use std::test::Fail;

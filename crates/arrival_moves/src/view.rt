@@ -1,4 +1,4 @@
-// What a desk knows of itself.
+//! What a desk knows of itself.
 use crate::item::Item;
 use agg_model::List;
 

@@ -55,14 +55,14 @@ module _ {A R : Type 0} (load : A → Label) (outcome : R → Label) (p : Plan) 
       let is : n ≡ k.claimed = ap (λ ws. get_or ws 0 0) r.1.words in
       let there : get_elem? k.desks id ≡ some v = desk_there s k id me.0 r.1 here in
       let low = sum_by_rest (λ (u : View). u.drawn) (λ (u : View). u.left + u.drawn) k.desks (λ i u e. omega arith) id v there in let has = sum_by_has (λ (u : View). u.drawn) k.desks id v there in let a = f.claims.word in let b = f.claims.whole in
-      let small : (n + 1) % 18446744073709551616 ≡ k.claimed + 1 = omega arith in
+      let small : (n + 1) % 2 ^ 64 ≡ k.claimed + 1 = omega arith in
       let w : View = after_claim p v k.claimed in let d : Known = now_knows me.0 (after_claim p v n) in
       let to : record k { claimed = k.claimed + 1; desks = set k.desks id w } ≡ record k { claimed = k.claimed + 1; desks = set k.desks id (after_claim p v n) } = ap (λ z. record k { claimed = k.claimed + 1; desks = set k.desks id (after_claim p v z) }) (sym is) in (
         d,
         keeps,
         tt,
         again s _ r (claim id) _ (move_desk_is k id _ _ v there (le-leb _ _ some_left) ∙ to) (record {
-          words = ap (λ ws. set ws 0 ((n + 1) % 18446744073709551616)) r.1.words ∙ ap (λ z. z ∷ (k.tickets ++ (k.counts ++ k.stops))) small;
+          words = ap (λ ws. set ws 0 ((n + 1) % 2 ^ 64)) r.1.words ∙ ap (λ z. z ∷ (k.tickets ++ (k.counts ++ k.stops))) small;
           desks = desks_now s k id d r.1;
           loads = r.1.loads;
           results = r.1.results;
@@ -73,7 +73,7 @@ module _ {A R : Type 0} (load : A → Label) (outcome : R → Label) (p : Plan) 
 
   -- the same under the names that the table and the step give the plan
   pub allows_claim_at : (l d : Plan) (slots id : ℕ) (me : M) → l ≡ p → d ≡ p → 1 ≤ me.0.view.left → Allows (IsReached load outcome l) slots id me 0 (λ n. (n + 1) % 2 ^ 64) (Claims load outcome d (step slots 0 1 0 none) me)
-  allows_claim_at l d slots id me e g left = let Q : Plan × Plan → Type 0 = λ z. Allows (IsReached load outcome z.0) slots id me 0 (λ n. (n + 1) % 18446744073709551616) (Claims load outcome z.1 (step slots 0 1 0 none) me) in
+  allows_claim_at l d slots id me e g left = let Q : Plan × Plan → Type 0 = λ z. Allows (IsReached load outcome z.0) slots id me 0 (λ n. (n + 1) % 2 ^ 64) (Claims load outcome z.1 (step slots 0 1 0 none) me) in
       subst Q (λ i. (sym e i, sym g i)) (allows_claim slots id me left)
 
   -- slots that keep their values
@@ -124,14 +124,14 @@ module _ {A R : Type 0} (load : A → Label) (outcome : R → Label) (p : Plan) 
       let fits_word : q < length b.tickets = subst (λ z. q < z) (sym f.shape.tickets) go.0 in
       let is : n ≡ t = ap (λ ws. get_or ws (suc q) 0) r.1.words ∙ get_left b.tickets (b.counts ++ b.stops) q fits_word in
       let few = of_search_le q p.tasks in let cap = good.few in let less = go.1 in
-      let small : (n + 1) % 18446744073709551616 ≡ t + 1 = omega arith in
+      let small : (n + 1) % 2 ^ 64 ≡ t + 1 = omega arith in
       let d : Known = now_knows me.0 (after_arrive v k x q n) in
       let to : record b { tickets = set b.tickets q (t + 1); desks = set b.desks id (after_arrive v k x q t) } ≡ record b { tickets = set b.tickets q (t + 1); desks = set b.desks id (after_arrive v k x q n) } = ap (λ z. record b { tickets = set b.tickets q (t + 1); desks = set b.desks id (after_arrive v k x q z) }) (sym is) in (
         d,
         keeps,
         tt,
         again s _ r (arrive id k) _ (move_item_is b id _ _ _ v x there found refl ∙ to) (record {
-          words = ap (λ ws. set ws (suc q) ((n + 1) % 18446744073709551616)) r.1.words ∙ (ap (λ z. b.claimed ∷ set (b.tickets ++ (b.counts ++ b.stops)) q z) small ∙ ap (λ ws. b.claimed ∷ ws) (set_left b.tickets (b.counts ++ b.stops) q (t + 1) fits_word));
+          words = ap (λ ws. set ws (suc q) ((n + 1) % 2 ^ 64)) r.1.words ∙ (ap (λ z. b.claimed ∷ set (b.tickets ++ (b.counts ++ b.stops)) q z) small ∙ ap (λ ws. b.claimed ∷ ws) (set_left b.tickets (b.counts ++ b.stops) q (t + 1) fits_word));
           desks = desks_now s b id d r.1;
           loads = r.1.loads;
           results = r.1.results;
@@ -142,7 +142,7 @@ module _ {A R : Type 0} (load : A → Label) (outcome : R → Label) (p : Plan) 
 
   pub allows_arrive_at : (l d : Plan) (slots id k z w : ℕ) (me : M) (x : Item) → l ≡ p → d ≡ p → z ≡ k → w ≡ suc (search_of p k) → find_item (is_loaded k) me.0.view.hand ≡ some x
       → Allows (IsReached load outcome l) slots id me w (λ n. (n + 1) % 2 ^ 64) (Arrives load outcome d z (step slots w 1 0 none) me)
-  allows_arrive_at l d slots id k z w me x e g a b found = let Q : Plan × Plan × ℕ × ℕ → Type 0 = λ y. Allows (IsReached load outcome y.0) slots id me y.3 (λ n. (n + 1) % 18446744073709551616) (Arrives load outcome y.1 y.2 (step slots y.3 1 0 none) me) in
+  allows_arrive_at l d slots id k z w me x e g a b found = let Q : Plan × Plan × ℕ × ℕ → Type 0 = λ y. Allows (IsReached load outcome y.0) slots id me y.3 (λ n. (n + 1) % 2 ^ 64) (Arrives load outcome y.1 y.2 (step slots y.3 1 0 none) me) in
       subst Q (λ i. (sym e i, sym g i, sym a i, sym b i)) (allows_arrive slots id k me x found)
 
   -- a slot that is out holds nothing in the state, so it may go back with any value

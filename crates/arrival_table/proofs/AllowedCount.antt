@@ -42,13 +42,13 @@ module _ {A R : Type 0} (load : A → Label) (outcome : R → Label) (p : Plan) 
       let level = f.counts.counts q d begins in let ticket = f.words.word q in let most = drawn_le p good q b.claimed in let few = of_search_le q p.tasks in let cap = good.few in
       let more = put_gives (uncounted_in p q d) b.desks id v (after_count p v q t (m + 1)) there q t [] x found in
       let small_count : m + 1 ≤ 65537 = omega arith in
-      let new : (n + 1) % 18446744073709551616 ≡ m + 1 = omega arith in
+      let new : (n + 1) % 2 ^ 64 ≡ m + 1 = omega arith in
       let to : record b { counts = set b.counts c (m + 1); desks = set b.desks id (after_count p v q t (m + 1)) } ≡ record b { counts = set b.counts c (m + 1); desks = set b.desks id (after_count p v q t (n + 1)) } = ap (λ z. record b { counts = set b.counts c (m + 1); desks = set b.desks id (after_count p v q t (z + 1)) }) (sym is) in (
         w,
         keeps,
         tt,
         again load outcome p good s _ r (count id q t) _ (move_item_is b id _ _ _ v x there found refl ∙ to) (record {
-          words = ap (λ ws. set ws (suc j) ((n + 1) % 18446744073709551616)) r.1.words ∙ (ap (λ z. b.claimed ∷ set (b.tickets ++ (b.counts ++ b.stops)) j z) new ∙ ap (λ ws. b.claimed ∷ ws) (set_right b.tickets (b.counts ++ b.stops) j c (m + 1) start ∙ ap (λ ws. b.tickets ++ ws) (set_left b.counts b.stops c (m + 1) wide)));
+          words = ap (λ ws. set ws (suc j) ((n + 1) % 2 ^ 64)) r.1.words ∙ (ap (λ z. b.claimed ∷ set (b.tickets ++ (b.counts ++ b.stops)) j z) new ∙ ap (λ ws. b.claimed ∷ ws) (set_right b.tickets (b.counts ++ b.stops) j c (m + 1) start ∙ ap (λ ws. b.tickets ++ ws) (set_left b.counts b.stops c (m + 1) wide)));
           desks = desks_now load outcome p good s b id w r.1;
           loads = r.1.loads;
           results = r.1.results;
@@ -59,5 +59,5 @@ module _ {A R : Type 0} (load : A → Label) (outcome : R → Label) (p : Plan) 
 
   pub allows_count_at : (l e : Plan) (slots id q t a z w : ℕ) (me : M) (x : Item) → l ≡ p → e ≡ p → a ≡ q → z ≡ t → w ≡ suc (p.searches + place_of p q (t / p.batch)) → find_item (is_put q t) me.0.view.hand ≡ some x
       → Allows (IsReached load outcome l) slots id me w (λ n. (n + 1) % 2 ^ 64) (Counts load outcome e a z (step slots w 1 0 none) me)
-  allows_count_at l e slots id q t a z w me x i g h k b found = let Q : Plan × Plan × ℕ × ℕ × ℕ → Type 0 = λ y. Allows (IsReached load outcome y.0) slots id me y.4 (λ n. (n + 1) % 18446744073709551616) (Counts load outcome y.1 y.2 y.3 (step slots y.4 1 0 none) me) in
+  allows_count_at l e slots id q t a z w me x i g h k b found = let Q : Plan × Plan × ℕ × ℕ × ℕ → Type 0 = λ y. Allows (IsReached load outcome y.0) slots id me y.4 (λ n. (n + 1) % 2 ^ 64) (Counts load outcome y.1 y.2 y.3 (step slots y.4 1 0 none) me) in
       subst Q (λ j. (sym i j, sym g j, sym h j, sym k j, sym b j)) (allows_count slots id q t (p.searches + place_of p q (t / p.batch)) me x found refl)

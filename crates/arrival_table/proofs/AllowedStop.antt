@@ -72,7 +72,7 @@ module _ {A R : Type 0} (load : A → Label) (outcome : R → Label) (p : Plan) 
           results = r.1.results;
           batches = r.1.batches;
         }) (out_stays s.homes s.views id me.0 w r.2 here refl),
-        (refl, omega arith),
+        (refl, omega arith, λ h. is ∙ f.notes.noted id v there q h),
       )
 
   unfoldable pub allows_look : (slots id : ℕ) (me : M) → Allows (IsReached load outcome p) slots id me 0 (λ n. n) (Looks load outcome (step slots 0 0 0 none) me)

@@ -1,6 +1,7 @@
 -- What a desk shows of itself is what the table knows of it.
 use Rattle.std.proofs.Common.{◌≡◌, ℕ, ◌+◌, ◌≤◌, Bool, [], ◌∷◌, sym, ap, ◌∙◌}
 use Rattle.atomic_table.specs.Table.{Me, rest}
+use Rattle.arrival_moves.specs.declared.limits.TheConstants.{ALL_CLAIMS}
 use Rattle.arrival_moves.specs.declared.view.View.{View}
 use Rattle.arrival_table.specs.declared.cell.Cell.{Cell}
 use Rattle.arrival_table.specs.declared.known.Known.{Known}
@@ -11,10 +12,10 @@ module _ (A R : Type 0) where
   M = Me (Cell A R) Known
 
   abbrev pub Shows : ℕ → ℕ → Bool → M → Type 0
-  Shows left drawn ended me = (me ≡ (knows me.0.view, [])) × (left ≡ me.0.view.left) × (drawn ≡ me.0.view.drawn) × (ended ≡ me.0.view.ended) × (left + drawn ≤ 4294967296)
+  Shows left drawn ended me = (me ≡ (knows me.0.view, [])) × (left ≡ me.0.view.left) × (drawn ≡ me.0.view.drawn) × (ended ≡ me.0.view.ended) × (left + drawn ≤ ALL_CLAIMS)
 
   -- after a step that leaves the desk with the view w and no slot
-  pub shows : (left drawn : ℕ) (ended : Bool) (me : M) (w : View) → me ≡ (knows w, []) → left ≡ w.left → drawn ≡ w.drawn → ended ≡ w.ended → left + drawn ≤ 4294967296 → Shows left drawn ended me
+  pub shows : (left drawn : ℕ) (ended : Bool) (me : M) (w : View) → me ≡ (knows w, []) → left ≡ w.left → drawn ≡ w.drawn → ended ≡ w.ended → left + drawn ≤ ALL_CLAIMS → Shows left drawn ended me
   shows left drawn ended me w e l d n few = (e ∙ (λ i. (knows (sym e i).0.view, [])), l ∙ ap (λ (m : M). m.0.view.left) (sym e), d ∙ ap (λ (m : M). m.0.view.drawn) (sym e), n ∙ ap (λ (m : M). m.0.view.ended) (sym e), few)
 
   -- a slot that was taken is exchanged

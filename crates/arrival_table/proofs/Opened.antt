@@ -4,6 +4,7 @@ use mathlib.Core.Option.{Option, some, some-injective, some-ne-none}
 use lib.ListN.{get_elem?}
 use Rattle.atomic_table.specs.Table.{opening}
 use Rattle.atomic_table.proofs.Lists.{at_map}
+use Rattle.arrival_moves.specs.declared.limits.TheConstants.{MAX_TASKS}
 use Rattle.arrival_moves.specs.declared.label.Label.{Label}
 use Rattle.arrival_moves.specs.declared.plan.Plan.{Plan}
 use Rattle.arrival_table.specs.declared.cell.Cell.{Cell}
@@ -20,7 +21,7 @@ use Rattle.arrival_table.specs.Steps.{IsReached, IsLoadAt, IsOutcomeAt}
 use Rattle.arrival_table.proofs.Filled.{of_replicate, something, mapped_length, mapped_at}
 
 -- what `open` asks makes a plan
-pub good_plan : {A : Type 0} (ts : List (Task A)) (searches batch : ℕ) → 2 ≤ batch → length ts ≤ 65536 → ((k : ℕ) (t : Task A) → get_elem? ts k ≡ some t → t.search < searches) → IsPlan (plan_of ts searches batch)
+pub good_plan : {A : Type 0} (ts : List (Task A)) (searches batch : ℕ) → 2 ≤ batch → length ts ≤ MAX_TASKS → ((k : ℕ) (t : Task A) → get_elem? ts k ≡ some t → t.search < searches) → IsPlan (plan_of ts searches batch)
 good_plan {A} ts searches batch size few valid = let n = mapped_length (λ (t : Task A). t.search) ts in record {
   batch = size;
   few = omega arith;

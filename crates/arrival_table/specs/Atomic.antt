@@ -1,5 +1,5 @@
 -- What one atomic step makes of the words, the slots at home and the views of all desks.
-use Rattle.std.specs.Prelude.{◌≡◌, ℕ, suc, ◌+◌, ◌%◌, ◌<◌, List, [], ◌∷◌, length, slice_index}
+use Rattle.std.specs.Prelude.{◌≡◌, ℕ, suc, ◌+◌, ◌%◌, ◌^◌, ◌<◌, List, [], ◌∷◌, length, slice_index}
 use mathlib.Core.Option.{some}
 use lib.ListN.{get_elem?}
 use Rattle.atomic_table.specs.Table.{State, keeps, takes, gives, stepped}
@@ -15,9 +15,13 @@ use Rattle.arrival_table.specs.Steps.{IsStateOf}
 abbrev pub Running : Type 0 → Type 0 → Type 0
 Running A R = State (Cell A R) Known
 
--- what fetch_add of 1 makes of a word of 64 bits
+-- how many values a word of 64 bits has
+abbrev pub word_values : ℕ
+word_values = 2 ^ 64
+
+-- what fetch_add of 1 makes of a word
 abbrev pub word_plus_one : ℕ → ℕ
-word_plus_one n = (n + 1) % 18446744073709551616
+word_plus_one n = (n + 1) % word_values
 
 -- where the words of a search and of a batch stand
 abbrev pub ticket_word : ℕ → ℕ
@@ -59,5 +63,5 @@ module _ {A R : Type 0} (load : A → Label) (outcome : R → Label) where
     pub plan : IsPlan p
     pub state : IsAfter p ms s
     pub slots : length s.homes ≡ task_count p + task_count p + task_count p
-    pub words : (w : ℕ) → slice_index s.words w < 18446744073709551616
+    pub words : (w : ℕ) → slice_index s.words w < word_values
     pub view : get_elem? s.views i ≡ some d

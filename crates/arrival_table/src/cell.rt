@@ -1,4 +1,4 @@
-// What a slot of the table may hold, and what loads and results stand for.
+//! What a slot of the table may hold, and what loads and results stand for.
 ghost use Rattle.arrival_moves.specs.declared.label.Label.{Label};
 
 /// What stands for some tasks. It has no calls; its one meaning is the label.

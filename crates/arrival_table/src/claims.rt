@@ -1,11 +1,11 @@
-// How a desk comes to a task and its ticket.
-ghost use Rattle.std.specs.Prelude.{◌≡◌, ◌+◌, ◌≤◌, ◌<◌, ℕ, IfSome, IfNone};
-ghost use Rattle.arrival_moves.specs.AfterMove.{after_claim, after_take_task, after_arrive};
+//! How a desk comes to a task and its ticket.
+ghost use Rattle.std.specs.Prelude.{◌≡◌, ◌≤◌, ◌<◌, IfSome, IfNone};
+ghost use Rattle.arrival_moves.specs.AfterMove.{after_take_task};
 ghost use Rattle.arrival_moves.specs.Hands.{HasItem};
 ghost use Rattle.arrival_moves.specs.Items.{is_claimed, is_loaded};
 ghost use Rattle.arrival_moves.specs.Labels.{task_label};
 ghost use Rattle.arrival_moves.specs.Plans.{task_count, search_of, tasks_of};
-ghost use Rattle.arrival_table.specs.Holding.{found_item};
+ghost use Rattle.arrival_table.specs.Calls.{HasClaimed, HasDrawn, HasEnded, HasArrived};
 ghost use Rattle.arrival_table.specs.Models.{IsOf, with_view};
 
 use crate::cell::{Cell, Labelled};
@@ -22,10 +22,9 @@ impl<A: Labelled, R: Labelled> Arrivals<A, R> {
         requires of { IsOf self.now desk.old }
         requires left { 1 ≤ desk.old.view.left }
         ensures of { IsOf self.now desk.new }
-        ensures numbers { (desk.new.view.left + 1 ≡ desk.old.view.left) × (desk.new.view.drawn ≡ desk.old.view.drawn + 1) }
-        ensures some { IfSome result (λ n. (n < task_count self.now.plan) × (desk.old.view.drawn ≤ n)
-            × (desk.new ≡ with_view desk.old (after_claim self.now.plan desk.old.view n))) }
-        ensures none { IfNone result ((n : ℕ) × (task_count self.now.plan ≤ n) × (desk.new ≡ with_view desk.old (after_claim self.now.plan desk.old.view n))) }
+        ensures numbers { HasClaimed desk.old desk.new }
+        ensures some { IfSome result (HasDrawn self.now.plan desk.old desk.new) }
+        ensures none { IfNone result (HasEnded self.now.plan desk.old desk.new) }
     {
         let found = self
             .table
@@ -45,10 +44,9 @@ impl<A: Labelled, R: Labelled> Arrivals<A, R> {
         requires of { IsOf self.now desk.old }
         requires left { 1 ≤ desk.old.view.left }
         ensures of { IsOf self.now desk.new }
-        ensures numbers { (desk.new.view.left + 1 ≡ desk.old.view.left) × (desk.new.view.drawn ≡ desk.old.view.drawn + 1) }
-        ensures some { IfSome result (λ n. (n < task_count self.now.plan) × (desk.old.view.drawn ≤ n)
-            × (desk.new ≡ with_view desk.old (after_claim self.now.plan desk.old.view n))) }
-        ensures none { IfNone result ((n : ℕ) × (task_count self.now.plan ≤ n) × (desk.new ≡ with_view desk.old (after_claim self.now.plan desk.old.view n))) }
+        ensures numbers { HasClaimed desk.old desk.new }
+        ensures some { IfSome result (HasDrawn self.now.plan desk.old desk.new) }
+        ensures none { IfNone result (HasEnded self.now.plan desk.old desk.new) }
     {
         self.claim_by::<Brand>(desk)
     }
@@ -92,8 +90,7 @@ impl<A: Labelled, R: Labelled> Arrivals<A, R> {
         requires of { IsOf self.now desk.old }
         requires loaded { HasItem (is_loaded task) desk.old.view }
         ensures ticket { result < tasks_of self.now.plan (search_of self.now.plan task) }
-        ensures desk { desk.new ≡ with_view desk.old (after_arrive desk.old.view task
-            (found_item (is_loaded task) desk.old.view) (search_of self.now.plan task) result) }
+        ensures desk { HasArrived self.now.plan task result desk.old desk.new }
     {
         let word = 1 + self.places.search_of(task) as usize;
         let ticket = self
@@ -109,8 +106,7 @@ impl<A: Labelled, R: Labelled> Arrivals<A, R> {
         requires of { IsOf self.now desk.old }
         requires loaded { HasItem (is_loaded task) desk.old.view }
         ensures ticket { result < tasks_of self.now.plan (search_of self.now.plan task) }
-        ensures desk { desk.new ≡ with_view desk.old (after_arrive desk.old.view task
-            (found_item (is_loaded task) desk.old.view) (search_of self.now.plan task) result) }
+        ensures desk { HasArrived self.now.plan task result desk.old desk.new }
     {
         self.arrive_by::<Brand>(desk, task)
     }

@@ -1,4 +1,4 @@
-// How a table is closed.
+//! How a table is closed.
 ghost use Rattle.std.specs.Prelude.{◌≡◌, ◌<◌, ℕ, IsTrue, map, All};
 ghost use Rattle.std.specs.List.{sum_by};
 ghost use Rattle.arrival_moves.specs.Closing.{IsAtEnd};

@@ -1,5 +1,6 @@
-// A worker's token.
+//! A worker's token.
 ghost use Rattle.std.specs.Prelude.{◌≡◌, [], ◌+◌, ◌≤◌};
+ghost use Rattle.arrival_moves.specs.declared.limits.TheConstants.{ALL_CLAIMS};
 ghost use Rattle.arrival_moves.specs.declared.view.View.{View};
 ghost use Rattle.arrival_table.specs.Models.{DeskModel};
 ghost use Rattle.arrival_table.specs.Outs.{knows};
@@ -24,7 +25,7 @@ impl<A, R> Model for Desk<A, R> {
     ghost view = { λ d. record { table = d.seat.table_id; view = d.seat.me.0.view } };
 
     ghost invariant = { λ d. (d.seat.me ≡ (knows d.seat.me.0.view, [])) × (d.left ≡ d.seat.me.0.view.left) × (d.drawn ≡ d.seat.me.0.view.drawn)
-        × (d.ended ≡ d.seat.me.0.view.ended) × (d.left + d.drawn ≤ 4294967296) };
+        × (d.ended ≡ d.seat.me.0.view.ended) × (d.left + d.drawn ≤ ALL_CLAIMS) };
 }
 
 impl<A, R> Drop for Desk<A, R> {
@@ -41,7 +42,7 @@ impl<A, R> Drop for Desk<A, R> {
 impl<A, R> Desk<A, R> {
     pub(crate) fn into_parts(self) -> (u64, u64, bool, Seat<Cell<A, R>, Known>)
         ensures numbers { (result.0 ≡ self.view.left) × (result.1 ≡ self.view.drawn) × (result.2 ≡ self.view.ended) }
-        ensures few { result.0 + result.1 ≤ 4294967296 }
+        ensures few { result.0 + result.1 ≤ ALL_CLAIMS }
         ensures seat { (result.3.table_id ≡ self.table) × (result.3.me ≡ (knows self.view, [])) }
     {
         let Desk {

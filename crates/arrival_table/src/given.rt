@@ -1,4 +1,4 @@
-// What no operand of a step shows.
+//! What no operand of a step shows.
 ghost use Rattle.std.specs.Prelude.{ℕ, []};
 ghost use Rattle.arrival_moves.specs.declared.plan.Plan.{Plan};
 

@@ -1,4 +1,4 @@
-// What the table keeps of a desk.
+//! What the table keeps of a desk.
 use agg_model::List;
 use arrival_moves::View;
 

@@ -7,7 +7,9 @@ ghost use Rattle.arrival_moves.specs.declared.item.Item.{Item};
 ghost use Rattle.arrival_moves.specs.declared.label.Label.{Label};
 ghost use Rattle.arrival_moves.specs.declared.plan.Plan.{Plan};
 ghost use Rattle.arrival_moves.specs.declared.view.View.{View};
-ghost use Rattle.arrival_moves.specs.AfterMove.{after_claim, after_take_task, after_stop, after_stopped, after_arrive, after_reach_result, after_put, after_count, after_take_result, after_reach_batch, after_put_merged, after_split, split_off, after_join, spent_view};
+ghost use Rattle.arrival_moves.specs.AfterMove.{after_claim, after_take_task, after_stop, after_stopped, after_arrive};
+ghost use Rattle.arrival_moves.specs.AfterMove.{after_reach_result, after_put, after_count, after_take_result, after_reach_batch, after_put_merged};
+ghost use Rattle.arrival_moves.specs.AfterMove.{after_split, split_off, after_join, spent_view};
 ghost use Rattle.arrival_moves.specs.Fairness.{IsFair};
 ghost use Rattle.arrival_moves.specs.Guards.{may_put, may_put_merged};
 ghost use Rattle.arrival_moves.specs.Hands.{find_item};
@@ -18,7 +20,8 @@ ghost use Rattle.arrival_moves.specs.Plans.{IsPlan, search_of};
 ghost use Rattle.arrival_table.specs.declared.cell.Cell.{Cell};
 ghost use Rattle.arrival_table.specs.declared.cell.Cell.TheVariants.{Vacant, Load, Outcome};
 ghost use Rattle.arrival_table.specs.declared.known.Known.{Known};
-ghost use Rattle.arrival_table.specs.Atomic.{Running, word_plus_one, ticket_word, count_word, stop_word, at_word, taking, giving, with_views, IsHome, IsAfter, IsDeskAfter};
+ghost use Rattle.arrival_table.specs.Atomic.{Running, word_plus_one, ticket_word, count_word, stop_word};
+ghost use Rattle.arrival_table.specs.Atomic.{at_word, taking, giving, with_views, IsHome, IsAfter, IsDeskAfter};
 ghost use Rattle.arrival_table.specs.Outs.{knows, now_knows, now_has_out};
 ghost use Rattle.arrival_table.specs.Steps.{IsReached, IsStateOf, result_slot, batch_slot};
 
@@ -77,10 +80,12 @@ pub fn one_move_each<A: Labelled, R: Labelled>()
         → find_item (is_batch q b) v.hand ≡ some x → is_at_slot x ≡ true → IsTrue (may_put_merged (R.label y) x)
         → IsAfter A.label R.label p (ms ++ put_merged i q b (R.label y) ∷ []) (giving s j (Outcome y) i (knows (after_put_merged v q b))) }
     ensures split { (p : Plan) (ms : List Move) (s : Running A R) (i : ℕ) (d : Known) (k : ℕ) → IsDeskAfter A.label R.label p ms s i d → k ≤ d.view.left
-        → IsAfter A.label R.label p (ms ++ split i k ∷ []) (with_views s (slice_set s.views i (now_knows d (after_split d.view k)) ++ knows (split_off k) ∷ [])) }
+        → IsAfter A.label R.label p (ms ++ split i k ∷ [])
+        (with_views s (slice_set s.views i (now_knows d (after_split d.view k)) ++ knows (split_off k) ∷ [])) }
     ensures join { (p : Plan) (ms : List Move) (s : Running A R) (i j : ℕ) (d : Known) (w : View) → IsDeskAfter A.label R.label p ms s i d → j ≢ i
         → get_elem? s.views j ≡ some (knows w) → w.hand ≡ []
-        → IsAfter A.label R.label p (ms ++ join i j ∷ []) (with_views s (slice_set (slice_set s.views i (now_knows d (after_join d.view w))) j (knows spent_view))) }
+        → IsAfter A.label R.label p (ms ++ join i j ∷ [])
+        (with_views s (slice_set (slice_set s.views i (now_knows d (after_join d.view w))) j (knows spent_view))) }
     ensures give_back { (p : Plan) (ms : List Move) (s : Running A R) (i : ℕ) (v : View) (j : ℕ) (y : Cell A R)
         → IsDeskAfter A.label R.label p ms s i (now_has_out (knows v) v j) → IsAfter A.label R.label p ms (giving s j y i (knows v)) }
     ensures look { (p : Plan) (ms : List Move) (s : Running A R) (i : ℕ) (d : Known) → IsDeskAfter A.label R.label p ms s i d

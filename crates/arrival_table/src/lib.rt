@@ -11,6 +11,8 @@ mod known;
 pub mod laws;
 mod merging;
 mod opening;
+#[cfg(test)]
+mod passes;
 mod places;
 mod results;
 mod rule;

@@ -1,10 +1,9 @@
-// How the desk that counted a batch last takes its results and puts the merged one.
-ghost use Rattle.std.specs.Prelude.{◌≡◌, ◌/◌, IsTrue, [], length};
-ghost use Rattle.arrival_moves.specs.AfterMove.{after_take_result, after_put_merged};
+//! How the desk that counted a batch last takes its results and puts the merged one.
+ghost use Rattle.std.specs.Prelude.{◌≡◌, ◌/◌, [], length};
+ghost use Rattle.arrival_moves.specs.AfterMove.{after_put_merged};
 ghost use Rattle.arrival_moves.specs.Fairness.{IsOfSearch};
-ghost use Rattle.arrival_moves.specs.Items.{is_batch};
-ghost use Rattle.arrival_moves.specs.Lists.{contains};
-ghost use Rattle.arrival_table.specs.Holding.{HasBatch, due_tickets, taken_label, found_item};
+ghost use Rattle.arrival_table.specs.Calls.{IsDue, HasTakenResult, IsMergedOf};
+ghost use Rattle.arrival_table.specs.Holding.{HasBatch, due_tickets};
 ghost use Rattle.arrival_table.specs.Models.{IsOf, with_view};
 
 use crate::cell::{Cell, Labelled};
@@ -21,11 +20,10 @@ impl<A: Labelled, R: Labelled> Arrivals<A, R> {
         requires number { Z.number ≡ ticket }
         requires of { IsOf self.now desk.old }
         requires batch { HasBatch search (ticket / self.now.plan.batch) desk.old.view }
-        requires due { IsTrue (contains ticket (due_tickets search (ticket / self.now.plan.batch) desk.old.view)) }
+        requires due { IsDue self.now.plan search ticket desk.old.view }
         ensures one { length (R.label result).tasks ≡ 1 }
         ensures search { IsOfSearch self.now.plan search (R.label result) }
-        ensures desk { desk.new ≡ with_view desk.old (after_take_result self.now.plan desk.old.view search ticket
-            (found_item (is_batch search (ticket / self.now.plan.batch)) desk.old.view) (R.label result)) }
+        ensures desk { HasTakenResult self.now.plan search ticket (R.label result) desk.old desk.new }
     {
         self.table
             .shared
@@ -47,11 +45,10 @@ impl<A: Labelled, R: Labelled> Arrivals<A, R> {
     pub fn take_result(&self, desk: &mut Desk<A, R>, search: u32, ticket: u32) -> R
         requires of { IsOf self.now desk.old }
         requires batch { HasBatch search (ticket / self.now.plan.batch) desk.old.view }
-        requires due { IsTrue (contains ticket (due_tickets search (ticket / self.now.plan.batch) desk.old.view)) }
+        requires due { IsDue self.now.plan search ticket desk.old.view }
         ensures one { length (R.label result).tasks ≡ 1 }
         ensures search { IsOfSearch self.now.plan search (R.label result) }
-        ensures desk { desk.new ≡ with_view desk.old (after_take_result self.now.plan desk.old.view search ticket
-            (found_item (is_batch search (ticket / self.now.plan.batch)) desk.old.view) (R.label result)) }
+        ensures desk { HasTakenResult self.now.plan search ticket (R.label result) desk.old desk.new }
     {
         self.take_result_by::<Brand>(desk, search, ticket)
     }
@@ -63,9 +60,7 @@ impl<A: Labelled, R: Labelled> Arrivals<A, R> {
         requires of { IsOf self.now desk.old }
         requires batch { HasBatch search batch desk.old.view }
         requires whole { due_tickets search batch desk.old.view ≡ [] }
-        requires tasks { (R.label value).tasks ≡ (taken_label search batch desk.old.view).tasks }
-        requires failed { IsTrue (taken_label search batch desk.old.view).failed → IsTrue (R.label value).failed }
-        requires skipped { (R.label value).skipped ≡ (taken_label search batch desk.old.view).skipped }
+        requires label { IsMergedOf search batch desk.old.view (R.label value) }
         ensures { desk.new ≡ with_view desk.old (after_put_merged desk.old.view search batch) }
     {
         self.table
@@ -93,9 +88,7 @@ impl<A: Labelled, R: Labelled> Arrivals<A, R> {
         requires of { IsOf self.now desk.old }
         requires batch { HasBatch search batch desk.old.view }
         requires whole { due_tickets search batch desk.old.view ≡ [] }
-        requires tasks { (R.label value).tasks ≡ (taken_label search batch desk.old.view).tasks }
-        requires failed { IsTrue (taken_label search batch desk.old.view).failed → IsTrue (R.label value).failed }
-        requires skipped { (R.label value).skipped ≡ (taken_label search batch desk.old.view).skipped }
+        requires label { IsMergedOf search batch desk.old.view (R.label value) }
         ensures { desk.new ≡ with_view desk.old (after_put_merged desk.old.view search batch) }
     {
         self.put_merged_by::<Brand>(desk, search, batch, value)

@@ -1,8 +1,9 @@
-// How a table is opened.
+//! How a table is opened.
 ghost use Rattle.std.specs.Prelude.{◌≡◌, ◌+◌, ◌≤◌, ◌<◌, ℕ, [], List, length, map, replicate, IfOk, IfErr};
 ghost use Rattle.std.specs.Vec.{vec_len, vec_capacity};
 ghost use mathlib.Core.Option.{some};
 ghost use lib.ListN.{get_elem?};
+ghost use Rattle.arrival_moves.specs.declared.limits.TheConstants.{MAX_TASKS};
 ghost use Rattle.arrival_moves.specs.AfterMove.{first_view};
 ghost use Rattle.arrival_moves.specs.Labels.{task_label};
 ghost use Rattle.arrival_moves.specs.Plans.{task_count};
@@ -16,7 +17,7 @@ use crate::desk::Desk;
 use crate::places::Places;
 use crate::table::Arrivals;
 use agg_model::List;
-use arrival_moves::Plan;
+use arrival_moves::{ALL_CLAIMS, Plan};
 use atomic_table::{Refused, Table};
 use std::alloc::{AllocError, Global};
 use std::mem;
@@ -83,7 +84,7 @@ fn take_back<A: Drop, R: Drop>(
     mut tasks: Vec<Task<A>>,
 ) -> Vec<Task<A>>
     requires empty { vec_len tasks ≡ 0 }
-    requires few { task_count plan.now ≤ 65536 }
+    requires few { task_count plan.now ≤ MAX_TASKS }
     requires room { task_count plan.now ≤ vec_capacity tasks }
     requires slots { length slots.items ≡ task_count plan.now + task_count plan.now + task_count plan.now }
     ensures { (ts : List (TaskValue A)) → IsFilled 0 ts slots.items → plan.now.tasks ≡ map (λ (t : TaskValue A). t.search) ts → result.items ≡ ts }
@@ -98,7 +99,7 @@ fn take_back<A: Drop, R: Drop>(
 }
 
 fn zero_words(alloc: Global, searches: u32, count: usize) -> Result<Vec<u64>, AllocError>
-    requires few { count ≤ 65536 }
+    requires few { count ≤ MAX_TASKS }
     ensures { IfOk result (λ v. v.items ≡ replicate (1 + searches + count + searches) 0) }
 {
     let mut words = Vec::new(alloc);
@@ -116,7 +117,7 @@ impl<A: Labelled + Drop, R: Labelled + Drop> Arrivals<A, R> {
         batch: u32,
     ) -> Result<(Arrivals<A, R>, Desk<A, R>), OpenRefused<A>>
         requires batch { 2 ≤ batch }
-        requires few { length tasks ≤ 65536 }
+        requires few { length tasks ≤ MAX_TASKS }
         requires searches { (k : ℕ) (t : TaskValue A) → get_elem? tasks k ≡ some t → t.search < searches }
         requires labels { (k : ℕ) (t : TaskValue A) → get_elem? tasks k ≡ some t → A.label t.load ≡ task_label k }
         ensures ok { IfOk result (λ r. (r.0.plan ≡ plan_of tasks searches batch) × IsOf r.0 r.1 × (r.1.view ≡ first_view)) }
@@ -148,7 +149,7 @@ impl<A: Labelled + Drop, R: Labelled + Drop> Arrivals<A, R> {
                     room,
                 },
                 Desk {
-                    left: 4294967296,
+                    left: ALL_CLAIMS,
                     drawn: 0,
                     ended: false,
                     seat,

@@ -1,7 +1,8 @@
-// Where the words and slots of each search stand.
+//! Where the words and slots of each search stand.
 ghost use Rattle.std.specs.Prelude.{◌≡◌, ℕ, ◌+◌, ◌*◌, ◌≤◌, ◌<◌, length, nat_lt, IfOk};
 ghost use mathlib.Core.Option.{some};
 ghost use lib.ListN.{get_elem?};
+ghost use Rattle.arrival_moves.specs.declared.limits.TheConstants.{MAX_TASKS};
 ghost use Rattle.arrival_moves.specs.declared.plan.Plan.{Plan as PlanValue};
 ghost use Rattle.arrival_moves.specs.Plans.{task_count, search_of, tasks_of, first_of, place_of, batch_size, IsPlan};
 ghost use Rattle.arrival_table.specs.Opening.{AreCounts};
@@ -58,7 +59,7 @@ impl Places {
 
     pub(crate) fn task_count(&self) -> usize
         ensures value { result ≡ task_count self.now }
-        ensures few { result ≤ 65536 }
+        ensures few { result ≤ MAX_TASKS }
     {
         self.plan.tasks.len()
     }
@@ -92,7 +93,7 @@ impl Places {
         requires range { search ≤ self.now.searches }
         ensures value { result ≡ first_of self.now search }
         ensures range { result ≤ task_count self.now }
-        ensures few { result ≤ 65536 }
+        ensures few { result ≤ MAX_TASKS }
     {
         self.starts[search as usize]
     }
@@ -102,7 +103,7 @@ impl Places {
         requires range { number < tasks_of self.now search }
         ensures value { result ≡ place_of self.now search number }
         ensures range { result < task_count self.now }
-        ensures few { result ≤ 65536 }
+        ensures few { result ≤ MAX_TASKS }
     {
         self.starts[search as usize] as usize + number as usize
     }
@@ -111,7 +112,7 @@ impl Places {
     pub(crate) fn tasks_of(&self, search: u32) -> u64
         requires range { search < self.now.searches }
         ensures value { result ≡ tasks_of self.now search }
-        ensures few { result ≤ 65536 }
+        ensures few { result ≤ MAX_TASKS }
     {
         self.start(search as u64 + 1) - self.start(search as u64)
     }

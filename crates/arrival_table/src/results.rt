@@ -1,11 +1,11 @@
-// How a result comes into its slot and is counted.
-ghost use Rattle.std.specs.Prelude.{◌≡◌, ◌≢◌, ◌<◌, ◌/◌, ℕ, IfSome, IfNone, IsTrue, ◌∷◌, []};
-ghost use Rattle.arrival_moves.specs.AfterMove.{after_put, after_count};
+//! How a result comes into its slot and is counted.
+ghost use Rattle.std.specs.Prelude.{◌≡◌, ◌<◌, IfSome, IfNone};
+ghost use Rattle.arrival_moves.specs.AfterMove.{after_put};
 ghost use Rattle.arrival_moves.specs.Hands.{HasItem};
 ghost use Rattle.arrival_moves.specs.Items.{is_put};
-ghost use Rattle.arrival_moves.specs.Lists.{contains};
-ghost use Rattle.arrival_moves.specs.Plans.{tasks_of, batch_size};
-ghost use Rattle.arrival_table.specs.Holding.{HasTicket, ticket_task, is_ticket_marked};
+ghost use Rattle.arrival_moves.specs.Plans.{tasks_of};
+ghost use Rattle.arrival_table.specs.Calls.{IsResultOf, HasCountedLast, HasCountedEarly};
+ghost use Rattle.arrival_table.specs.Holding.{HasTicket};
 ghost use Rattle.arrival_table.specs.Models.{IsOf, with_view};
 
 use crate::cell::{Cell, Labelled};
@@ -22,9 +22,7 @@ impl<A: Labelled, R: Labelled> Arrivals<A, R> {
         requires number { Z.number ≡ ticket }
         requires of { IsOf self.now desk.old }
         requires ticket { HasTicket search ticket desk.old.view }
-        requires tasks { (R.label value).tasks ≡ ticket_task search ticket desk.old.view ∷ [] }
-        requires failed { IsTrue (is_ticket_marked search ticket desk.old.view) → IsTrue (R.label value).failed }
-        requires skipped { IsTrue (R.label value).skipped → IsTrue (contains search desk.old.view.stopped) }
+        requires label { IsResultOf search ticket desk.old.view (R.label value) }
         ensures { desk.new ≡ with_view desk.old (after_put desk.old.view search ticket) }
     {
         self.table
@@ -50,9 +48,7 @@ impl<A: Labelled, R: Labelled> Arrivals<A, R> {
     pub fn put(&self, desk: &mut Desk<A, R>, search: u32, ticket: u32, value: R)
         requires of { IsOf self.now desk.old }
         requires ticket { HasTicket search ticket desk.old.view }
-        requires tasks { (R.label value).tasks ≡ ticket_task search ticket desk.old.view ∷ [] }
-        requires failed { IsTrue (is_ticket_marked search ticket desk.old.view) → IsTrue (R.label value).failed }
-        requires skipped { IsTrue (R.label value).skipped → IsTrue (contains search desk.old.view.stopped) }
+        requires label { IsResultOf search ticket desk.old.view (R.label value) }
         ensures { desk.new ≡ with_view desk.old (after_put desk.old.view search ticket) }
     {
         self.put_by::<Brand>(desk, search, ticket, value)
@@ -65,10 +61,8 @@ impl<A: Labelled, R: Labelled> Arrivals<A, R> {
         requires range { ticket < tasks_of self.now.plan search }
         requires of { IsOf self.now desk.old }
         requires put { HasItem (is_put search ticket) desk.old.view }
-        ensures last { IfSome result (λ b. (b ≡ ticket / self.now.plan.batch)
-            × (desk.new ≡ with_view desk.old (after_count self.now.plan desk.old.view search ticket (batch_size self.now.plan search b)))) }
-        ensures early { IfNone result ((n : ℕ) × (n ≢ batch_size self.now.plan search (ticket / self.now.plan.batch))
-            × (desk.new ≡ with_view desk.old (after_count self.now.plan desk.old.view search ticket n))) }
+        ensures last { IfSome result (HasCountedLast self.now.plan search ticket desk.old desk.new) }
+        ensures early { IfNone result (HasCountedEarly self.now.plan search ticket desk.old desk.new) }
     {
         let batch = ticket / self.places.batch();
         let place = self.places.place_of(search, batch);
@@ -90,10 +84,8 @@ impl<A: Labelled, R: Labelled> Arrivals<A, R> {
         requires range { ticket < tasks_of self.now.plan search }
         requires of { IsOf self.now desk.old }
         requires put { HasItem (is_put search ticket) desk.old.view }
-        ensures last { IfSome result (λ b. (b ≡ ticket / self.now.plan.batch)
-            × (desk.new ≡ with_view desk.old (after_count self.now.plan desk.old.view search ticket (batch_size self.now.plan search b)))) }
-        ensures early { IfNone result ((n : ℕ) × (n ≢ batch_size self.now.plan search (ticket / self.now.plan.batch))
-            × (desk.new ≡ with_view desk.old (after_count self.now.plan desk.old.view search ticket n))) }
+        ensures last { IfSome result (HasCountedLast self.now.plan search ticket desk.old desk.new) }
+        ensures early { IfNone result (HasCountedEarly self.now.plan search ticket desk.old desk.new) }
     {
         self.count_by::<Brand>(desk, search, ticket)
     }

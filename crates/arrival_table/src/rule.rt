@@ -1,4 +1,4 @@
-// The rule that the table keeps between any two steps, and what each step tells its desk.
+//! The rule that the table keeps between any two steps, and what each step tells its desk.
 use crate::cell::{Cell, Labelled};
 use crate::given::Given;
 use crate::known::Known;

@@ -1,4 +1,4 @@
-// How desks share their claims.
+//! How desks share their claims.
 ghost use Rattle.std.specs.Prelude.{◌≡◌, ◌≤◌, []};
 ghost use Rattle.arrival_moves.specs.AfterMove.{after_split, split_off, after_join};
 ghost use Rattle.arrival_table.specs.Models.{IsOf, with_view};

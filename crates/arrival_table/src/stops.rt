@@ -1,9 +1,9 @@
-// How a desk stops a search and finds it stopped.
-ghost use Rattle.std.specs.Prelude.{◌≡◌, ◌<◌, IsTrue, IsFalse};
+//! How a desk stops a search and finds it stopped.
+ghost use Rattle.std.specs.Prelude.{◌≡◌, ◌<◌, IsTrue};
 ghost use Rattle.arrival_moves.specs.AfterMove.{after_stop, after_stopped};
 ghost use Rattle.arrival_moves.specs.Hands.{HasItem};
 ghost use Rattle.arrival_moves.specs.Items.{is_loaded};
-ghost use Rattle.arrival_moves.specs.Lists.{one_if};
+ghost use Rattle.arrival_moves.specs.Lists.{one_if, contains};
 ghost use Rattle.arrival_moves.specs.Plans.{task_count};
 ghost use Rattle.arrival_table.specs.Models.{IsOf, with_view};
 
@@ -43,7 +43,8 @@ impl<A: Labelled, R: Labelled> Arrivals<A, R> {
         requires search { Z.search ≡ search }
         requires range { search < self.now.plan.searches }
         requires of { IsOf self.now desk.old }
-        ensures { desk.new ≡ with_view desk.old (after_stopped desk.old.view search (one_if result)) }
+        ensures desk { desk.new ≡ with_view desk.old (after_stopped desk.old.view search (one_if result)) }
+        ensures noted { IsTrue (contains search desk.old.view.stopped) → IsTrue result }
     {
         let word = self.stop_word(search);
         let found = self
@@ -53,11 +54,13 @@ impl<A: Labelled, R: Labelled> Arrivals<A, R> {
         found == 1
     }
 
-    /// Whether the search was stopped, as its stop word is read. Where it was, the desk has the search noted.
+    /// Whether the search was stopped, as its stop word is read. Where it was, the desk has the search noted, and from
+    /// then on the answer is true.
     pub fn stopped(&self, desk: &mut Desk<A, R>, search: u32) -> bool
         requires range { search < self.now.plan.searches }
         requires of { IsOf self.now desk.old }
-        ensures { desk.new ≡ with_view desk.old (after_stopped desk.old.view search (one_if result)) }
+        ensures desk { desk.new ≡ with_view desk.old (after_stopped desk.old.view search (one_if result)) }
+        ensures noted { IsTrue (contains search desk.old.view.stopped) → IsTrue result }
     {
         self.stopped_by::<Brand>(desk, search)
     }

@@ -1,4 +1,4 @@
-// The table that workers share.
+//! The table that workers share.
 ghost use Rattle.std.specs.Prelude.{◌≡◌, ◌+◌, ◌<◌, ◌≤◌};
 ghost use Rattle.std.specs.Vec.{vec_len, vec_capacity};
 ghost use Rattle.arrival_moves.specs.Plans.{task_count, IsPlan};

@@ -1,8 +1,9 @@
-// Desks that run the tasks of one table, alone and in two threads, and what a close gives then.
+//! Desks that run the tasks of one table, alone and in two threads, and what a close gives then.
 ghost use Rattle.std.specs.Prelude.{◌≡◌, ◌+◌, ◌*◌, ◌/◌, ◌<◌, ◌≤◌, ℕ, ◌∷◌, [], true, false, IsTrue, IfOk, IfErr, IfSome, IfNone, All, length, slice_index};
 ghost use mathlib.Core.Option.{some};
 ghost use lib.ListN.{get_elem?};
 ghost use Rattle.arrival_moves.specs.declared.item.Item.TheVariants as item;
+ghost use Rattle.arrival_moves.specs.declared.limits.TheConstants.{MAX_TASKS};
 ghost use Rattle.arrival_moves.specs.Closing.{IsAtEnd};
 ghost use Rattle.arrival_moves.specs.Labels.{task_label, no_label};
 ghost use Rattle.arrival_moves.specs.Lists.{numbers_from};
@@ -116,7 +117,7 @@ fn merge(
 )
     requires of { IsOf table.now desk.old }
     requires two { table.now.plan.batch ≡ 2 }
-    requires range { (batch < 65536) × (1 ≤ size) × (size ≤ 2) }
+    requires range { (batch < MAX_TASKS) × (1 ≤ size) × (size ≤ 2) }
     requires batch { desk.old.view.hand ≡ item.Batch (record {
       search = search;
       batch = batch;
@@ -152,7 +153,7 @@ fn work(
 ) -> Result<(), AllocError>
     requires of { IsOf table.now desk.old }
     requires two { table.now.plan.batch ≡ 2 }
-    requires few { task_count table.now.plan ≤ 65536 }
+    requires few { task_count table.now.plan ≤ MAX_TASKS }
     requires claims { (desk.old.view.drawn ≤ task_count table.now.plan) × (task_count table.now.plan + 1 ≤ desk.old.view.left + desk.old.view.drawn) }
     requires empty { desk.old.view.hand ≡ [] }
     ensures of { IsOf table.now desk.new }
@@ -185,7 +186,7 @@ fn work_apart(
 ) -> (Desk<Numbered, Done>, Result<Vec<Run>, AllocError>)
     requires of { IsOf table.now desk }
     requires two { table.now.plan.batch ≡ 2 }
-    requires few { task_count table.now.plan ≤ 65536 }
+    requires few { task_count table.now.plan ≤ MAX_TASKS }
     requires claims { (desk.view.drawn ≤ task_count table.now.plan) × (task_count table.now.plan + 1 ≤ desk.view.left + desk.view.drawn) }
     requires empty { desk.view.hand ≡ [] }
     ensures of { IsOf table.now result.0 }
@@ -205,7 +206,7 @@ const NO_TASK: u32 = u32::MAX;
 
 // The tasks of searches, each with its load.
 fn tasks_of(alloc: Global, searches: &[u32]) -> Result<List<Task<Numbered>>, AllocError>
-    requires few { length searches.now ≤ 65536 }
+    requires few { length searches.now ≤ MAX_TASKS }
     ensures { IfOk result (λ ts. (length ts ≡ length searches.now)
         × ((k : ℕ) (t : TaskValue Numbered) → get_elem? ts k ≡ some t → (t.search ≡ slice_index searches.now k) × (t.load.task ≡ k))) }
 {
@@ -243,7 +244,7 @@ fn alone(
     count: u32,
     failing: u32,
 ) -> Result<(Vec<Run>, Vec<Row>), AllocError>
-    requires few { length searches.now ≤ 65536 }
+    requires few { length searches.now ≤ MAX_TASKS }
     requires searches { All (λ q. q < count) searches.now }
 {
     let tasks = tasks_of(alloc, searches)?;

@@ -1,4 +1,5 @@
 use Rattle.std.proofs.Common.{rules, ◌≡◌, ◌<◌, ◌≤◌, ℕ, get_or, subst, arith}
+use Rattle.arrival_moves.specs.declared.limits.TheConstants.{MAX_TASKS}
 use Rattle.arrival_moves.specs.declared.plan.Plan.{Plan}
 use Rattle.arrival_moves.specs.Plans.{task_count, search_of}
 use Rattle.arrival_table.proofs.Starts.{AreDrawn, drawn_none, drawn_more, drawn_few, drawn_all}
@@ -14,7 +15,7 @@ pub overflow_add-index_mut : goal.overflow_add-index_mut
 overflow_add-index_mut c = let p : Plan = c.args.plan.now in let d = c.loop-search.invariant in let k : c.loop-search.search-index < task_count p = search rules in let s = c.requires.plan.tasks c.loop-search.search-index k in
     let found : c.index_mut.result.now ≡ get_or c.loop-search.counts.items (search_of p c.loop-search.search-index) c.index_mut.result.now = search rules in
     let few = drawn_few p c.requires.plan c.loop-search.search-index (search_of p c.loop-search.search-index) c.index_mut.result.now c.loop-search.counts.items s found d in let most = c.requires.plan.few in
-    let small : c.index_mut.result.now ≤ 65536 = omega arith in search rules
+    let small : c.index_mut.result.now ≤ MAX_TASKS = omega arith in search rules
 
 pub loop-search-preserved : goal.loop-search-preserved
 loop-search-preserved c = let p : Plan = c.args.plan.now in let d = c.loop-search.invariant in let k : c.loop-search.search-index < task_count p = search rules in

@@ -1,4 +1,5 @@
 use Rattle.std.proofs.Common.{rules, ◌≡◌, ◌+◌, ◌<◌, ◌≤◌, ℕ, [], ◌∷◌, ◌++◌, length, get_or, refl, sym, subst, ◌∙◌, ap, arith}
+use Rattle.arrival_moves.specs.declared.limits.TheConstants.{MAX_TASKS}
 use Rattle.arrival_moves.specs.declared.plan.Plan.{Plan}
 use Rattle.arrival_moves.specs.Plans.{first_of}
 use Rattle.arrival_table.specs.Opening.{AreCounts}
@@ -12,7 +13,7 @@ pub overflow_add-start : goal.overflow_add-start
 overflow_add-start c = let p : Plan = c.args.plan in let q : ℕ = c.loop-count.count-index in let i = c.loop-count.invariant in let n : ℕ = get_or c.as_slice-count-items.result.now q 0 in
     let counts : AreCounts p c.as_slice-count-items.result.now = search rules in let low : q < length c.as_slice-count-items.result.now = search rules in
     let a = start_counted p q n c.as_slice-count-items.result.now counts low refl in let b = start_within p (q + 1) in let few = c.requires.plan.few in let at = i.1 in
-    let small : c.loop-count.start + n ≤ 65536 = omega arith in search rules
+    let small : c.loop-count.start + n ≤ MAX_TASKS = omega arith in search rules
 
 pub loop-count-preserved : goal.loop-count-preserved
 loop-count-preserved c = let p : Plan = c.args.plan in let q : ℕ = c.loop-count.count-index in let i = c.loop-count.invariant in let n : ℕ = get_or c.as_slice-count-items.result.now q 0 in

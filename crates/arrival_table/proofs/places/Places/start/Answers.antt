@@ -1,4 +1,5 @@
 use Rattle.std.proofs.Common.{arith, ◌≤◌, sym, ap, subst, ◌∙◌}
+use Rattle.arrival_moves.specs.declared.limits.TheConstants.{MAX_TASKS}
 use Rattle.arrival_moves.specs.declared.plan.Plan.{Plan}
 use Rattle.arrival_moves.specs.Plans.{first_of, task_count}
 use Rattle.arrival_table.proofs.Starts.{or_some, start_within}
@@ -12,4 +13,4 @@ pub returns-clause-range : goal.returns-clause-range
 returns-clause-range c = let e = returns-clause-value c in let a = start_within c.args.self.now c.args.search in omega arith
 
 pub returns-clause-few : goal.returns-clause-few
-returns-clause-few c = let e = returns-clause-value c in let a = start_within c.args.self.now c.args.search in let few : task_count c.args.self.now ≤ 65536 = subst (λ (z : Plan). task_count z ≤ 65536) c.self.view_is c.self.invariant.0.few in omega arith
+returns-clause-few c = let e = returns-clause-value c in let a = start_within c.args.self.now c.args.search in let few : task_count c.args.self.now ≤ MAX_TASKS = subst (λ (z : Plan). task_count z ≤ MAX_TASKS) c.self.view_is c.self.invariant.0.few in omega arith

@@ -1,4 +1,5 @@
 use Rattle.std.proofs.Common.{rules, arith, suc, ◌+◌, ◌<◌, ◌≤◌, sym, subst, ◌≡◌}
+use Rattle.arrival_moves.specs.declared.limits.TheConstants.{MAX_TASKS}
 use Rattle.arrival_moves.specs.declared.plan.Plan.{Plan}
 use Rattle.arrival_moves.specs.Plans.{search_of, task_count}
 use Rattle.arrival_moves.proofs.Words.{of_search_le}
@@ -14,4 +15,4 @@ fetch_add-ticket-requires g c = let s : c.search_of.result ≡ search_of c.self.
 
 pub overflow_cast-result : goal.overflow_cast-result
 overflow_cast-result g c = let p : Plan = g.Z.Given.plan in let e : p ≡ c.self.inside.places = search rules in let t = c.fetch_add-ticket.ensures.2.3 in let a = of_search_le (search_of p g.Z.Given.task) p.tasks in
-    let b : task_count p ≤ 65536 = subst (λ (z : Plan). task_count z ≤ 65536) (sym e) c.self.invariant.1.few in let small : c.fetch_add-ticket.result < 4294967296 = omega arith in search rules
+    let b : task_count p ≤ MAX_TASKS = subst (λ (z : Plan). task_count z ≤ MAX_TASKS) (sym e) c.self.invariant.1.few in let small : c.fetch_add-ticket.result < 4294967296 = omega arith in search rules
