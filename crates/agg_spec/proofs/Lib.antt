@@ -1,5 +1,5 @@
 mod CompositeExamples
-mod Computing
+pub mod Computing
 mod CountExamples
 mod FilterExamples
 mod HistogramExamples
@@ -9,7 +9,7 @@ mod MetricExamples
 mod NestedExamples
 mod OrderExamples
 mod OutcomeExamples
-mod Samples
+pub mod Samples
 pub mod Runs
 mod OutputExamples
 mod Refutations

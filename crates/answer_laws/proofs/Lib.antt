@@ -1,0 +1,14 @@
+pub mod Runs
+mod Scripts
+mod RoutingExamples
+mod Held
+mod IdExamples
+mod OrdersExample
+mod PartialExamples
+mod SettingsLineExamples
+mod Rounds
+mod ScanExamples
+pub mod FailureLaws
+pub mod AnswerCounts
+pub mod WaveRuns
+mod NoOutputs

@@ -1,0 +1,2 @@
+-- What a search holds while it runs.
+pub mod Held
