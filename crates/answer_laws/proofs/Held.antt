@@ -87,7 +87,7 @@ module _ (limits : Limits) where
           ∙ (ap (λ (q : Run). q.refused) (return-held r child.Request n none) ∙ none)
 
   -- what is held after one amount of a task
-  amount-held : (a : ℤ) (r : Run) (base : Amounts) (c : ℕ) → HoldsMore c 0 base r.holds → pos 0 ≤ℤ (pos c +ℤ a) → (run limits r (amount_step a)).refused ≡ None
+  pub amount-held : (a : ℤ) (r : Run) (base : Amounts) (c : ℕ) → HoldsMore c 0 base r.holds → pos 0 ≤ℤ (pos c +ℤ a) → (run limits r (amount_step a)).refused ≡ None
       → (d : ℕ) × (pos d ≡ pos c +ℤ a) × HoldsMore d 0 base (run limits r (amount_step a)).holds
   amount-held (pos n) r base c more never granted =
       let held = charge_of-held r n granted in

@@ -1,7 +1,7 @@
 pub mod Runs
 mod Scripts
 mod RoutingExamples
-mod Held
+pub mod Held
 mod IdExamples
 mod OrdersExample
 mod PartialExamples
@@ -12,3 +12,6 @@ pub mod FailureLaws
 pub mod AnswerCounts
 pub mod WaveRuns
 mod NoOutputs
+pub mod SearchesHeld
+pub mod GivenBack
+pub mod SoloHeld
