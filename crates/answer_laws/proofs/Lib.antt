@@ -15,3 +15,4 @@ mod NoOutputs
 pub mod SearchesHeld
 pub mod GivenBack
 pub mod SoloHeld
+pub mod ScanLaws

@@ -1,2 +1,3 @@
--- What a search holds while it runs.
+-- What a search holds while it runs, and the pages of a scan.
 pub mod Held
+pub mod Scans

@@ -1,6 +1,6 @@
 //! Laws of the definitions of answers. Each function has a law as its contract, over all values of the definitions, and does nothing.
 ghost use Rattle.std.specs.List.{AllByRecursion};
-ghost use Rattle.std.specs.Prelude.{◌≡◌, ◌≤◌, ◌∷◌, ◌++◌, ◌+◌, ◌*◌, ℕ, length, List, None, Result};
+ghost use Rattle.std.specs.Prelude.{◌≡◌, ◌≤◌, ◌∷◌, ◌++◌, ◌+◌, ◌*◌, [], ℕ, flat_map, IsTrue, length, List, None, Ok, Result, Some};
 ghost use Rattle.agg_model.specs.declared.aggregation.Search.{Search};
 ghost use Rattle.agg_model.specs.declared.breaker.Child.TheVariants as child;
 ghost use Rattle.agg_model.specs.declared.breaker.Limits.{Limits};
@@ -9,17 +9,23 @@ ghost use Rattle.agg_model.specs.declared.outcome.Outcome.TheVariants.{Memory};
 ghost use Rattle.agg_model.specs.declared.partial.Partial.{Partial};
 ghost use Rattle.agg_model.specs.declared.settings.Settings.{Settings};
 ghost use Rattle.agg_model.specs.declared.settings.Usage.{Usage};
-ghost use Rattle.agg_spec.specs.Answers.{Change, IsAllowed};
+ghost use Rattle.agg_evaluation.specs.SearchFits.{search_fits};
+ghost use Rattle.agg_spec.specs.Answers.{ArePages, Change, IsAllowed};
 ghost use Rattle.agg_spec.specs.Charges.{lowered, Run};
-ghost use Rattle.agg_spec.specs.Failures.{AreFailures};
+ghost use Rattle.agg_spec.specs.Failures.{AreFailures, unfailed};
 ghost use Rattle.agg_spec.specs.Index.{Index};
-ghost use Rattle.agg_spec.specs.Outcome.{Request, response_length};
+ghost use Rattle.agg_spec.specs.Outcome.{answer_of, Request, response_length};
 ghost use Rattle.agg_spec.specs.Output.{IsOutput};
+ghost use Rattle.agg_spec.specs.Pages.{is_paged};
 ghost use Rattle.agg_spec.specs.Reduction.{after_batches, after_last, after_tasks, begun, merge_steps, Task, task_of, task_steps};
 ghost use Rattle.agg_spec.specs.Rounds.{Round};
 ghost use Rattle.agg_spec.specs.Solo.{after_requests, outcome_with, solo_run};
 ghost use Rattle.agg_spec.specs.Written.{answer, Line};
 ghost use Rattle.answer_laws.specs.Held.{costs_of, GivesBackHeld, HoldsMore, HoldsResults, IsPaid};
+ghost use Rattle.answer_laws.specs.Scans.{IsAnsweredByAll, searches_of};
+ghost use Rattle.count_laws.specs.CompositeGroups.{composite_groups};
+ghost use Rattle.count_laws.specs.Paths.{answer_of_shards};
+ghost use Rattle.count_laws.specs.Scans.{IsScan, page_groups};
 
 /// No more shards fail than there are.
 pub fn no_more_failures_than_shards()
@@ -82,4 +88,21 @@ pub fn a_search_by_one_worker_gives_all_back()
         (solo_run settings index start request).run.holds) ≡ start.holds }
     ensures before_the_next { (settings : Settings) (index : Index) (start : Run) (requests : List Request) →
         (after_requests settings index start requests).holds ≡ start.holds }
+{}
+
+/// The rounds of a scan whose pages are all answered, each by all shards, ask for all pages of the scan, one after another.
+/// What these return, one behind the other, are all groups that come after the body's key, each once, in the order of the
+/// sources and with its true count, where the search is made for the mapping.
+pub fn rounds_of_a_scan_have_all_groups()
+    ensures pages { (index : Index) (columns bytes : ℕ) (request : Search) (rounds : List Round) →
+        IsTrue (is_paged request.aggs) →
+        ArePages index columns (record { bytes = bytes; search = Ok request } ∷ []) rounds →
+        AllByRecursion IsAnsweredByAll rounds → IsScan index.shards (Some request) (searches_of rounds) }
+    ensures groups { (index : Index) (columns bytes : ℕ) (request : Search) (rounds : List Round) →
+        IsTrue (search_fits index.mapping request) → IsTrue (is_paged request.aggs) →
+        ArePages index columns (record { bytes = bytes; search = Ok request } ∷ []) rounds →
+        AllByRecursion IsAnsweredByAll rounds →
+        flat_map (page_groups index.shards) (searches_of rounds) ≡ composite_groups index.shards request }
+    ensures answers { (index : Index) (request : Search) →
+        answer_of index request (unfailed index []) ≡ answer_of_shards request index.shards }
 {}
