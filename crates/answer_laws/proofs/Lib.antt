@@ -16,3 +16,10 @@ pub mod SearchesHeld
 pub mod GivenBack
 pub mod SoloHeld
 pub mod ScanLaws
+mod AloneRuns
+mod OutputExamples
+mod StatusExamples
+mod WorkersExamples
+mod ScriptExamples
+mod Refutations
+mod WaveExamples
