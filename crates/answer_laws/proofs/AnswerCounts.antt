@@ -41,7 +41,7 @@ module _ (index : Index) (columns : ℕ) where
   solo-length settings (r ∷ []) (a ∷ b ∷ answers) may = absurd may
   solo-length settings (r ∷ q ∷ requests) answers may = absurd may
 
-  abbrev AllowedBy : Round → Bool → Type 0
+  abbrev pub AllowedBy : Round → Bool → Type 0
   AllowedBy round b =
       elim b [
         | true ↦ IsSolo index columns round.settings round.requests round.answers

@@ -23,3 +23,5 @@ mod WorkersExamples
 mod ScriptExamples
 mod Refutations
 mod WaveExamples
+pub mod Reduced
+mod PartialWaves

@@ -25,14 +25,14 @@ use Rattle.agg_reading.proofs.Computing.{computing as reading_computing}
 use Rattle.agg_spec.proofs.Computing.{computing}
 
 -- the search of one term, which leaves out shards
-abbrev partial : Request
+abbrev pub partial : Request
 partial = asked 131 (record one_term { partial = true })
 
 -- and the same search, which does not
-abbrev whole : Request
+abbrev pub whole : Request
 whole = asked 95 one_term
 
-abbrev failed : ℕ → ℕ → ℕ → Failure
+abbrev pub failed : ℕ → ℕ → ℕ → Failure
 failed shard wanted limit = record { shard = shard; tripped = record { which = which.Request; wanted = wanted; limit = limit } }
 
 -- The second shard finds no room beside the result of the first.
@@ -56,7 +56,7 @@ second_shard_fails_is_read : Reads second_shard_fails_settings second_shard_fail
 unfolding computing reading_computing
 second_shard_fails_is_read = refl
 
-abbrev second_shard_fails_answer : Answered
+abbrev pub second_shard_fails_answer : Answered
 second_shard_fails_answer = record { outcome = ended.Response (codes "{\"_shards\":{\"failed\":1,\"failures\":[{\"reason\":{\"bytes_limit\":5000,\"bytes_wanted\":5249,\"durability\":\"TRANSIENT\",\"reason\":\"[request] Data too large, data for [search] would be [5249b], which is larger than the limit of [5000b]\",\"type\":\"circuit_breaking_exception\"},\"shard\":1}],\"skipped\":0,\"successful\":1,\"total\":2},\"aggregations\":{\"t\":{\"buckets\":[{\"doc_count\":3,\"doc_count_error_upper_bound\":0,\"key\":\"a\"}],\"doc_count_error_upper_bound\":3,\"sum_other_doc_count\":2}},\"hits\":{\"hits\":[],\"max_score\":null,\"total\":{\"relation\":\"eq\",\"value\":5}},\"status\":200,\"timed_out\":false,\"took\":0}"); failures = failed 1 5249 5000 ∷ [] }
 
 second_shard_fails_is_answered : second_shard_fails_answer ≡ solo_answer second_shard_fails_settings two_shards (idle 79) partial
@@ -140,7 +140,7 @@ all_shards_fail_is_read : Reads all_shards_fail_settings all_shards_fail_input a
 unfolding computing reading_computing
 all_shards_fail_is_read = refl
 
-abbrev all_shards_fail_answer : Answered
+abbrev pub all_shards_fail_answer : Answered
 all_shards_fail_answer = record { outcome = ended.Tripped (record { which = which.Request; wanted = 4608; limit = 4000 }); failures = failed 0 4608 4000 ∷ failed 1 4608 4000 ∷ [] }
 
 all_shards_fail_is_answered : all_shards_fail_answer ≡ solo_answer all_shards_fail_settings two_shards (idle 79) partial

@@ -1,3 +1,4 @@
--- What a search holds while it runs, and the pages of a scan.
+-- What a search holds while it runs, the pages of a scan, and answers of the whole reduction.
 pub mod Held
 pub mod Scans
+pub mod Reduced

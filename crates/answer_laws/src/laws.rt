@@ -22,6 +22,7 @@ ghost use Rattle.agg_spec.specs.Rounds.{Round};
 ghost use Rattle.agg_spec.specs.Solo.{after_requests, outcome_with, solo_run};
 ghost use Rattle.agg_spec.specs.Written.{answer, Line};
 ghost use Rattle.answer_laws.specs.Held.{costs_of, GivesBackHeld, HoldsMore, HoldsResults, IsPaid};
+ghost use Rattle.answer_laws.specs.Reduced.{TellsTheWhole};
 ghost use Rattle.answer_laws.specs.Scans.{IsAnsweredByAll, searches_of};
 ghost use Rattle.count_laws.specs.CompositeGroups.{composite_groups};
 ghost use Rattle.count_laws.specs.Paths.{answer_of_shards};
@@ -36,6 +37,12 @@ pub fn no_more_failures_than_shards()
 pub fn each_search_of_a_round_has_one_answer()
     ensures { (index : Index) (columns : ℕ) (round : Round) → IsAllowed index columns round →
         length round.answers ≡ length round.requests }
+{}
+
+/// With any number of workers, an answer of a round that is a response or the refusal of a body is the outcome of the whole
+/// reduction of all shards that it does not name as failed: breakers decide whether there is a response, and not what it says.
+pub fn answers_tell_the_whole_reduction()
+    ensures { (index : Index) (columns : ℕ) (round : Round) → IsAllowed index columns round → TellsTheWhole index round }
 {}
 
 /// Whatever the status, no line of an output is the answer of a search that wanted memory.
