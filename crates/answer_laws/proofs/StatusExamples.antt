@@ -12,7 +12,8 @@ use Rattle.agg_spec.specs.Written.{Line, answer, told}
 use Rattle.agg_spec.specs.Statistics.{solo_totals}
 use Rattle.agg_spec.specs.Output.{EndsWell, whole_lines}
 use Rattle.agg_spec.proofs.Samples.{default_limits, settings}
-use Rattle.agg_spec.proofs.Runs.{Writes, no_change, script_in, script_or, well, lines_alone, rounds_alone, end_alone, all_lines_alone}
+use Rattle.answer_laws.proofs.Runs.{Writes, no_change}
+use Rattle.answer_laws.proofs.AloneRuns.{script_in, script_or, well, lines_alone, rounds_alone, end_alone, all_lines_alone}
 use Rattle.agg_reading.proofs.Computing.{computing as reading_computing}
 use Rattle.agg_spec.proofs.Computing.{computing}
 

@@ -2,7 +2,8 @@
 use Rattle.std.specs.Prelude.{refl, ℕ, List, [], length, Ok, codes}
 use Rattle.std.proofs.Common.{inl, inr}
 use Rattle.agg_spec.proofs.Samples.{default_limits, settings, request_limit}
-use Rattle.agg_spec.proofs.Runs.{Writes, no_change, well, refused_at}
+use Rattle.answer_laws.proofs.Runs.{Writes, no_change}
+use Rattle.answer_laws.proofs.AloneRuns.{well, refused_at}
 use Rattle.agg_reading.proofs.Computing.{computing as reading_computing}
 use Rattle.agg_spec.proofs.Computing.{computing}
 

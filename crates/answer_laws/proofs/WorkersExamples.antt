@@ -1,6 +1,6 @@
 -- Output of several workers that run two searches side by side, computed.
-use Rattle.std.specs.Prelude.{refl, ℕ, false, List, [], ◌∷◌, ◌++◌, length, Ok, codes, All, ◌≤◌, zero, suc}
-use Rattle.std.proofs.Common.{inl, lit≤, arith}
+use Rattle.std.specs.Prelude.{refl, ℕ, false, List, [], ◌∷◌, ◌++◌, length, Ok, codes}
+use Rattle.std.proofs.Common.{inl, lit≤}
 use Rattle.agg_model.specs.declared.settings.Settings.{Settings}
 use Rattle.agg_model.specs.declared.outcome.Answered.{Answered}
 use Rattle.agg_model.specs.declared.outcome.Outcome.TheVariants as ended
@@ -12,13 +12,11 @@ use Rattle.agg_spec.specs.BulkLine.{bulk_line}
 use Rattle.agg_spec.specs.Statistics.{totals_after}
 use Rattle.agg_spec.specs.Written.{Line, bulk, answer, statistics}
 use Rattle.agg_spec.proofs.Samples.{default_limits, settings}
-use Rattle.agg_spec.proofs.Runs.{Writes, no_change, script_in}
+use Rattle.answer_laws.proofs.Runs.{Writes, no_change}
+use Rattle.answer_laws.proofs.Rounds.{all_within}
+use Rattle.answer_laws.proofs.AloneRuns.{script_in}
 use Rattle.agg_reading.proofs.Computing.{computing as reading_computing}
 use Rattle.agg_spec.proofs.Computing.{computing}
-
-all_within : (n m : ℕ) → n ≤ m → All (λ p. p ≤ m) (n ∷ [])
-all_within n m p zero d h = p
-all_within n m p (suc k) d h = let e : ⊥ = omega arith in absurd e
 
 abbrev two_searches : List ℕ
 two_searches = codes "{\"index\":\"i\",\"mappings\":{\"properties\":{\"b\":{\"type\":\"boolean\"},\"n\":{\"type\":\"long\"},\"t\":{\"type\":\"keyword\"}}},\"settings\":{\"number_of_shards\":1}}\n\n{\"index\":{}}\n{\"t\":\"a\"}\n{\"index\":{}}\n{\"t\":\"b\"}\n\n{}\n{\"aggs\":{\"t\":{\"terms\":{\"field\":\"t\"}}}}\n{}\n{\"aggs\":{\"t\":{\"terms\":{\"field\":\"t\"}}}}\n"

@@ -1,8 +1,9 @@
 -- Output of scripts with nested objects and with numbers as texts, computed from bytes to bytes by one worker.
-use Rattle.std.specs.Prelude.{refl, ℕ, true, List, [], ◌∷◌, length, Some, Ok, codes}
-use Rattle.std.proofs.Common.{inl, inr}
-use Rattle.agg_spec.proofs.Samples.{default_limits, settings, request_limit}
-use Rattle.agg_spec.proofs.Runs.{Writes, no_change, well, refused_at}
+use Rattle.std.specs.Prelude.{refl, ℕ, List, length, Ok, codes}
+use Rattle.std.proofs.Common.{inl}
+use Rattle.agg_spec.proofs.Samples.{default_limits, settings}
+use Rattle.answer_laws.proofs.Runs.{Writes, no_change}
+use Rattle.answer_laws.proofs.AloneRuns.{well}
 use Rattle.agg_reading.proofs.Computing.{computing as reading_computing}
 use Rattle.agg_spec.proofs.Computing.{computing}
 

@@ -1,0 +1,115 @@
+//! Laws of the definitions of answers. Each function has a law as its contract, over all values of the definitions, and does nothing.
+ghost use Rattle.std.specs.List.{AllByRecursion};
+ghost use Rattle.std.specs.Prelude.{◌≡◌, ◌≤◌, ◌∷◌, ◌++◌, ◌+◌, ◌*◌, [], ℕ, flat_map, IsTrue, length, List, None, Ok, Result, Some};
+ghost use Rattle.agg_model.specs.declared.aggregation.Search.{Search};
+ghost use Rattle.agg_model.specs.declared.breaker.Child.TheVariants as child;
+ghost use Rattle.agg_model.specs.declared.breaker.Limits.{Limits};
+ghost use Rattle.agg_model.specs.declared.outcome.Failure.{Failure};
+ghost use Rattle.agg_model.specs.declared.outcome.Outcome.TheVariants.{Memory};
+ghost use Rattle.agg_model.specs.declared.partial.Partial.{Partial};
+ghost use Rattle.agg_model.specs.declared.settings.Settings.{Settings};
+ghost use Rattle.agg_model.specs.declared.settings.Usage.{Usage};
+ghost use Rattle.agg_evaluation.specs.SearchFits.{search_fits};
+ghost use Rattle.agg_spec.specs.Answers.{ArePages, Change, IsAllowed};
+ghost use Rattle.agg_spec.specs.Charges.{lowered, Run};
+ghost use Rattle.agg_spec.specs.Failures.{AreFailures, unfailed};
+ghost use Rattle.agg_spec.specs.Index.{Index};
+ghost use Rattle.agg_spec.specs.Outcome.{answer_of, Request, response_length};
+ghost use Rattle.agg_spec.specs.Output.{IsOutput};
+ghost use Rattle.agg_spec.specs.Pages.{is_paged};
+ghost use Rattle.agg_spec.specs.Reduction.{after_batches, after_last, after_tasks, begun, merge_steps, Task, task_of, task_steps};
+ghost use Rattle.agg_spec.specs.Rounds.{Round};
+ghost use Rattle.agg_spec.specs.Solo.{after_requests, outcome_with, solo_run};
+ghost use Rattle.agg_spec.specs.Written.{answer, Line};
+ghost use Rattle.answer_laws.specs.Held.{costs_of, GivesBackHeld, HoldsMore, HoldsResults, IsPaid};
+ghost use Rattle.answer_laws.specs.Reduced.{TellsTheWhole};
+ghost use Rattle.answer_laws.specs.Scans.{IsAnsweredByAll, searches_of};
+ghost use Rattle.count_laws.specs.CompositeGroups.{composite_groups};
+ghost use Rattle.count_laws.specs.Paths.{answer_of_shards};
+ghost use Rattle.count_laws.specs.Scans.{IsScan, page_groups};
+
+/// No more shards fail than there are.
+pub fn no_more_failures_than_shards()
+    ensures { (shards : ℕ) (failures : List Failure) → AreFailures shards failures → length failures ≤ shards }
+{}
+
+/// Each search of a round that may be answered so has one answer, with any number of workers.
+pub fn each_search_of_a_round_has_one_answer()
+    ensures { (index : Index) (columns : ℕ) (round : Round) → IsAllowed index columns round →
+        length round.answers ≡ length round.requests }
+{}
+
+/// With any number of workers, an answer of a round that is a response or the refusal of a body is the outcome of the whole
+/// reduction of all shards that it does not name as failed: breakers decide whether there is a response, and not what it says.
+pub fn answers_tell_the_whole_reduction()
+    ensures { (index : Index) (columns : ℕ) (round : Round) → IsAllowed index columns round → TellsTheWhole index round }
+{}
+
+/// Whatever the status, no line of an output is the answer of a search that wanted memory.
+pub fn no_output_tells_of_want_of_memory()
+    ensures { (change : Change) (words : Result Settings Usage) (input : List ℕ) (read status : ℕ)
+        (before after : List Line) (failures : List Failure) (piece : List ℕ) →
+        IsOutput change words input read status
+        (before ++ answer (record { outcome = Memory; failures = failures }) ∷ after) piece → ⊥ }
+{}
+
+/// A task of a search, on whatever rows, never holds less than nothing, and at its end the cost of its answer.
+pub fn tasks_hold_the_cost_of_their_answers()
+    ensures { (index : Index) (search : Search) (shard : ℕ) → IsPaid search (task_of index search shard) }
+{}
+
+/// Between its tasks, in whatever batches they stand, and after its last merge a search holds what its results cost. What a
+/// task holds whose shard is left out is given back.
+pub fn a_search_holds_what_its_results_cost()
+    ensures between_tasks { (limits : Limits) (search : Search) (start : Run) (parts : List (List Task)) (tasks : List Task) →
+        AllByRecursion (AllByRecursion (IsPaid search)) parts → AllByRecursion (IsPaid search) tasks →
+        HoldsResults start.holds (after_tasks limits search (after_batches limits search (begun start) parts) tasks) }
+    ensures in_the_end { (limits : Limits) (search : Search) (start : Run) (parts : List (List Task)) →
+        AllByRecursion (AllByRecursion (IsPaid search)) parts →
+        HoldsResults start.holds (after_last limits search (after_batches limits search (begun start) parts)) }
+{}
+
+/// No step of a task gives back more than is held when it comes, and no step of a merge does, where the costs of the results
+/// that it merges are held before.
+pub fn no_step_gives_back_more_than_is_held()
+    ensures tasks { (limits : Limits) (search : Search) (start : Run) (task : Task) → IsPaid search task →
+        GivesBackHeld limits start (task_steps task) }
+    ensures merges { (limits : Limits) (search : Search) (start : Run) (results : List Partial) →
+        costs_of results ≤ start.holds.request → costs_of results ≤ start.holds.parent →
+        GivesBackHeld limits start (merge_steps limits search results) }
+{}
+
+/// At its end a search by one worker that no breaker ended holds its body, its results and its response beside what was held
+/// before it. Once these are given back, what was held before is all that is held.
+pub fn a_search_by_one_worker_gives_all_back()
+    ensures holds { (settings : Settings) (index : Index) (start : Run) (request : Request) →
+        (solo_run settings index start request).run.refused ≡ None →
+        HoldsMore (costs_of (solo_run settings index start request).results
+        + response_length (outcome_with settings index request (solo_run settings index start request)))
+        (2 * request.bytes) start.holds (solo_run settings index start request).run.holds }
+    ensures given_back { (settings : Settings) (index : Index) (start : Run) (request : Request) →
+        (solo_run settings index start request).run.refused ≡ None →
+        lowered child.Inflight (2 * request.bytes)
+        (lowered child.Request (costs_of (solo_run settings index start request).results
+        + response_length (outcome_with settings index request (solo_run settings index start request)))
+        (solo_run settings index start request).run.holds) ≡ start.holds }
+    ensures before_the_next { (settings : Settings) (index : Index) (start : Run) (requests : List Request) →
+        (after_requests settings index start requests).holds ≡ start.holds }
+{}
+
+/// The rounds of a scan whose pages are all answered, each by all shards, ask for all pages of the scan, one after another.
+/// What these return, one behind the other, are all groups that come after the body's key, each once, in the order of the
+/// sources and with its true count, where the search is made for the mapping.
+pub fn rounds_of_a_scan_have_all_groups()
+    ensures pages { (index : Index) (columns bytes : ℕ) (request : Search) (rounds : List Round) →
+        IsTrue (is_paged request.aggs) →
+        ArePages index columns (record { bytes = bytes; search = Ok request } ∷ []) rounds →
+        AllByRecursion IsAnsweredByAll rounds → IsScan index.shards (Some request) (searches_of rounds) }
+    ensures groups { (index : Index) (columns bytes : ℕ) (request : Search) (rounds : List Round) →
+        IsTrue (search_fits index.mapping request) → IsTrue (is_paged request.aggs) →
+        ArePages index columns (record { bytes = bytes; search = Ok request } ∷ []) rounds →
+        AllByRecursion IsAnsweredByAll rounds →
+        flat_map (page_groups index.shards) (searches_of rounds) ≡ composite_groups index.shards request }
+    ensures answers { (index : Index) (request : Search) →
+        answer_of index request (unfailed index []) ≡ answer_of_shards request index.shards }
+{}
