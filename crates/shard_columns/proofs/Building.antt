@@ -1,7 +1,6 @@
--- A shard from its rows: the words of each row are in the dictionaries, and entries with their values are the rows.
-use Rattle.std.proofs.Common.{Bool, true, false, cond, eqb, T, ◌≡◌, refl, ℕ, ◌+◌, ◌<◌, ◌≤◌, List, [], ◌∷◌, ◌++◌, map, length, get_or, sym, ◌∙◌, ap, subst, arith, append_assoc, Contains, inl, inr}
-use Rattle.std.proofs.lemmas.List.{append-nil, map-append, get_or_past, length-map, get_or-map}
-use Rattle.std.proofs.lemmas.Bool.{cases_lt}
+-- A shard from its rows: entries with their values are the rows.
+use Rattle.std.proofs.Common.{Bool, true, false, cond, eqb, T, ◌≡◌, refl, ℕ, ◌+◌, ◌<◌, ◌≤◌, List, [], ◌∷◌, ◌++◌, map, length, get_or, sym, ◌∙◌, ap, subst, arith, append_assoc}
+use Rattle.std.proofs.lemmas.List.{append-nil, map-append, length-map, get_or-map}
 use Rattle.std.specs.Prelude.{sum, sum_by}
 use Rattle.std.proofs.lemmas.List.Sums.{sum-map, sum_by-cons, sum_by-append}
 use Rattle.std.proofs.Math.Facts.{eqb_yes}
@@ -12,13 +11,11 @@ use Rattle.shard_columns.specs.declared.layout.Entry.{Entry}
 use Rattle.shard_columns.specs.declared.layout.Laid.{Laid}
 use Rattle.shard_columns.specs.declared.values.Values.{Values}
 use Rattle.shard_columns.specs.Layout.{placed, flat_rows, row_at, values_of_laid, entries_of_laid, context_of}
-use Rattle.shard_columns.specs.Values.{Words, words_in, words_for, FieldsBelow, HasAllWords, AllAscend, IsAscending, cut, fields_of, row_values, total_count, IsWithin, WithinReach, SpansWithin}
-use Rattle.shard_columns.specs.Words.{AllFieldsBelow, AreDictionaries, row_words}
+use Rattle.shard_columns.specs.Values.{Words, Reader, words_in, words_for, FieldsBelow, cut, fields_by, rows_by, total_count, IsWithin, WithinReach, SpansWithin}
+use Rattle.shard_columns.specs.Words.{AllFieldsBelow}
 use Rattle.shard_columns.specs.Given.{RowsBelow}
 use Rattle.agg_evaluation.specs.ColumnBytes.{value_count}
 use Rattle.shard_columns.proofs.Dictionaries.{sum-cons}
-use Rattle.shard_columns.proofs.Storing.{Contains-flat_map}
-use Rattle.shard_columns.proofs.Noting.{AllFieldsBelow-at}
 use Rattle.shard_columns.proofs.Placing.{length-flat_rows}
 
 -- a field beyond the mapping has no words
@@ -33,33 +30,12 @@ words_for-none n f (x ∷ xs) below beyond =
     ] in
     ap (λ (ws : Words). ws ++ words_for f xs) (other (eqb x.field f) refl) ∙ words_for-none n f xs below.1 beyond
 
-pub HasAllWords-row : (words : List Words) (rows : List Laid) (n : ℕ) (d : Laid) → AllFieldsBelow (length words) rows → AreDictionaries (length words) rows words → n < length rows →
-    HasAllWords words (get_or rows n d).values.now
-HasAllWords-row words rows n d below are n_below =
-    let row = get_or rows n d in
-    let row_below = AllFieldsBelow-at (length words) rows n d n_below below in
-    record {
-      below = row_below;
-      known = λ f w has. elim (cases_lt f (length words)) [
-        | inl f_below ↦ (are.same f f_below).kept w (Contains-flat_map (row_words f) rows n d w n_below has)
-        | inr beyond ↦ (let none : Contains [] w = subst (λ (ws : Words). Contains ws w) (words_for-none (length words) f row.values.now row_below beyond) has in absurd (omega (arith, none.1)))
-      ];
-    }
+pub rows_by-first : (show : Reader) (v : Values) → v.rows.items ≡ [] → rows_by show v ≡ []
+rows_by-first show v no_rows = ap (map (cut (fields_by show v))) no_rows
 
-pub AllAscend-dictionaries : (words : List Words) (rows : List Laid) → AreDictionaries (length words) rows words → AllAscend words
-AllAscend-dictionaries words rows are = record {
-  ascend = λ f. elim (cases_lt f (length words)) [
-    | inl below ↦ (are.same f below).ascend
-    | inr beyond ↦ subst IsAscending (sym (get_or_past words f [] beyond)) (λ k d from below. absurd (omega arith))
-  ];
-}
-
-pub AddsRowValues-first : (words : List Words) (v : Values) → v.rows.items ≡ [] → v.fields.items ≡ [] → (row_values words v ≡ []) × IsWithin v
+pub IsWithin-first : (v : Values) → v.rows.items ≡ [] → v.fields.items ≡ [] → IsWithin v
 unfolding WithinReach SpansWithin
-AddsRowValues-first words v no_rows no_fields = (
-  ap (map (cut (fields_of words v))) no_rows,
-  record { fields = subst (WithinReach (length v.stored.items)) (sym no_fields) tt; rows = subst (SpansWithin (length v.fields.items)) (sym no_rows) tt },
-)
+IsWithin-first v no_rows no_fields = record { fields = subst (WithinReach (length v.stored.items)) (sym no_fields) tt; rows = subst (SpansWithin (length v.fields.items)) (sym no_rows) tt }
 
 pub zip-map : {X A B : Type 0} (f : X → A) (g : X → B) (xs : List X) → zip (map f xs) (map g xs) ≡ map (λ x. (f x, g x)) xs
 zip-map f g [] = refl

@@ -3,6 +3,7 @@ pub mod Placing
 pub mod Laying
 pub mod Storing
 pub mod Noting
+pub mod Ranking
 pub mod Building
 pub mod Reading
 pub mod Searching

@@ -2,6 +2,7 @@ pub mod Layout
 pub mod Ends
 pub mod Values
 pub mod Words
+pub mod Storing
 pub mod Columns
 pub mod Shard
 pub mod Given

@@ -1,9 +1,7 @@
 -- What flat arrays of values stand for: the values of each row, by field.
-use Rattle.std.specs.Prelude.{◌≡◌, ℕ, pos, ◌+◌, ◌<◌, ◌≤◌, List, [], ◌∷◌, ◌++◌, map, length, slice_index_or, slice_range, Contains, IsSorted, find, Option, flat_map, if◌then◌else◌, ◌==◌, slice_get, sum_by}
+use Rattle.std.specs.Prelude.{◌≡◌, ℕ, pos, ◌<◌, ◌≤◌, List, [], ◌∷◌, ◌++◌, map, length, slice_index_or, slice_range, Contains, find, Option, flat_map, if◌then◌else◌, ◌==◌, slice_get, sum_by}
 use Rattle.std.specs.Option.{option_map_or}
-use Rattle.std.specs.Ordering.{nat_cmp}
 use Rattle.std.specs.List.Sorted.{IsStrictlyIncreasing}
-use Rattle.std.specs.Cmp.Lexicographic.{slice_cmp}
 use Rattle.agg_model.specs.declared.row.Scalar.{Scalar}
 use Rattle.agg_model.specs.declared.row.Scalar.TheVariants as scalar
 use Rattle.agg_model.specs.declared.row.FieldValues.{FieldValues}
@@ -26,16 +24,34 @@ shown words (stored.Flag b) = scalar.Flag b
 abbrev pub cut : {X : Type 0} → List X → Span → List X
 cut xs span = slice_range xs span.start span.end
 
--- the values of one field of one row; `words` has the words of each field
-abbrev pub field_at : List Words → List Stored → Held → FieldValues
-field_at words stored h = record { field = h.field; values = map (shown (slice_index_or words h.field [])) (cut stored h.span) }
+-- how the stored values of a field are read
+abbrev pub Reader : Type 0
+Reader = ℕ → Stored → Scalar
 
-abbrev pub fields_of : List Words → Values → List FieldValues
-fields_of words v = map (field_at words v.stored.items) v.fields.items
+-- a word is read by its place among the words of its field
+abbrev pub by_words : List Words → Reader
+by_words words field = shown (slice_index_or words field [])
+
+-- the values of one field of one row
+abbrev pub field_by : Reader → List Stored → Held → FieldValues
+field_by show stored h = record { field = h.field; values = map (show h.field) (cut stored h.span) }
+
+abbrev pub fields_by : Reader → Values → List FieldValues
+fields_by show v = map (field_by show v.stored.items) v.fields.items
 
 -- the fields of each row
+abbrev pub rows_by : Reader → Values → List (List FieldValues)
+rows_by show v = map (cut (fields_by show v)) v.rows.items
+
+-- the same, where `words` has the words of each field
+abbrev pub field_at : List Words → List Stored → Held → FieldValues
+field_at words = field_by (by_words words)
+
+abbrev pub fields_of : List Words → Values → List FieldValues
+fields_of words = fields_by (by_words words)
+
 abbrev pub row_values : List Words → Values → List (List FieldValues)
-row_values words v = map (cut (fields_of words v)) v.rows.items
+row_values words = rows_by (by_words words)
 
 abbrev pub word_in : Scalar → Words
 word_in (scalar.Whole n) = []
@@ -55,24 +71,10 @@ words_for field = flat_map (words_at field)
 abbrev pub AllAmong : Words → Words → Type 0
 AllAmong xs ys = (w : List ℕ) → Contains xs w → Contains ys w
 
-abbrev pub IsAscending : Words → Type 0
-IsAscending = IsSorted (slice_cmp nat_cmp)
-
-abbrev pub HasWords : Words → List Scalar → Type 0
-HasWords words values = AllAmong (words_in values) words
-
 -- these fields are among the first n
 unfoldable pub FieldsBelow : ℕ → List FieldValues → Type 0
 FieldsBelow n [] = Unit {0}
 FieldsBelow n (f ∷ fs) = (f.field < n) × FieldsBelow n fs
-
--- each word is among the words of its field
-pub record HasAllWords (words : List Words) (fields : List FieldValues) : Type 0 where
-  pub below : FieldsBelow (length words) fields
-  pub known : (f : ℕ) → AllAmong (words_for f fields) (slice_index_or words f [])
-
-pub record AllAscend (words : List Words) : Type 0 where
-  pub ascend : (f : ℕ) → IsAscending (slice_index_or words f [])
 
 -- a part of a list of this length
 abbrev pub IsPart : ℕ → Span → Type 0
@@ -91,24 +93,21 @@ pub record IsWithin (v : Values) : Type 0 where
   pub fields : WithinReach (length v.stored.items) v.fields.items
   pub rows : SpansWithin (length v.fields.items) v.rows.items
 
-pub record AddsValues (words : Words) (old new : List Stored) (values : List Scalar) : Type 0 where
+-- what is stored behind that of before is read as these values
+pub record AddsValues (show : Stored → Scalar) (old new : List Stored) (values : List Scalar) : Type 0 where
   pub added : List Stored
   pub new_is : new ≡ old ++ added
-  pub shown_is : map (shown words) added ≡ values
+  pub shown_is : map show added ≡ values
 
 -- how many values these fields have, all together
 abbrev pub total_count : List FieldValues → ℕ
 total_count fields = sum_by (λ f. length f.values) fields
 
-pub record AddsFields (words : List Words) (old new : Values) (fields : List FieldValues) : Type 0 where
-  pub fields_are : fields_of words new ≡ fields_of words old ++ fields
-  pub counted : length new.stored.items ≡ length old.stored.items + total_count fields
-  pub within : WithinReach (length new.stored.items) new.fields.items
-
-pub record AddsRowValues (words : List Words) (old new : Values) (fields : List FieldValues) : Type 0 where
-  pub rows_are : row_values words new ≡ row_values words old ++ fields ∷ []
-  pub counted : length new.stored.items ≡ length old.stored.items + total_count fields
-  pub within : IsWithin new
+-- the place of a word in its dictionary, in the place of its number
+abbrev pub ranked : List ℕ → Stored → Stored
+ranked ranks (stored.Whole n) = stored.Whole n
+ranked ranks (stored.Word number) = stored.Word (slice_index_or ranks number 0)
+ranked ranks (stored.Flag b) = stored.Flag b
 
 abbrev pub no_span : Span
 no_span = record { start = 0; end = 0 }

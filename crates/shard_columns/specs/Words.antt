@@ -1,35 +1,85 @@
--- The words that are met in rows, field by field.
-use Rattle.std.specs.Prelude.{◌≡◌, ℕ, ◌<◌, List, [], ◌∷◌, ◌++◌, length, slice_index_or, flat_map, map, Vec}
+-- The words that are met in rows: each word of a field has a number of its own, and later its place in a dictionary.
+use Rattle.std.specs.Prelude.{◌≡◌, ◌≢◌, ◌⊎◌, ◌∷◌, ℕ, ℤ, Bool, ◌<◌, ◌==◌, if◌then◌else◌, List, [], length, slice_index_or, slice_get, flat_map, map, Option, None, Some, IsSome, Contains}
 use Rattle.std.specs.Borrow.{Bor}
-use Rattle.std.specs.declared.alloc.Global.{Global}
-use Rattle.agg_model.specs.declared.row.FieldValues.{FieldValues}
+use Rattle.std.specs.Map.{lookup}
+use Rattle.std.specs.BTreeMap.{is_at}
 use Rattle.std.specs.Ordering.{nat_cmp}
 use Rattle.std.specs.Cmp.Lexicographic.{slice_cmp}
 use Rattle.std.specs.List.Sorted.{IsStrictlySortedBy}
+use Rattle.agg_model.specs.declared.row.Scalar.TheVariants as scalar
 use Rattle.shard_columns.specs.declared.layout.Laid.{Laid}
-use Rattle.shard_columns.specs.Values.{Words, words_for, AllAmong, IsAscending, FieldsBelow}
+use Rattle.shard_columns.specs.declared.values.Stored.TheVariants as stored
+use Rattle.shard_columns.specs.declared.words.WordNumbers.{WordNumbers}
+use Rattle.shard_columns.specs.Values.{Words, Reader, words_for, AllAmong, FieldsBelow}
 
--- the words that are lent
-abbrev pub lent : List (Bor (List ℕ)) → Words
-lent words = map (λ w. w.now) words
+-- words with their numbers, ascending by the words
+abbrev pub Entries : Type 0
+Entries = List (Bor (List ℕ) × ℕ)
 
--- those of each field
-abbrev pub lent_by_field : List (Vec (Bor (List ℕ)) Global) → List Words
-lent_by_field lists = map (λ l. lent l.items) lists
+abbrev pub number_in : Entries → List ℕ → Option ℕ
+number_in entries word = lookup (is_at (λ k. slice_cmp nat_cmp word k.now)) entries
 
-pub record AreEmpty (count : ℕ) (words : List Words) : Type 0 where
-  pub sizes : length words ≡ count
-  pub empty : (f : ℕ) → slice_index_or words f [] ≡ []
+abbrev pub words_among : Entries → Words
+words_among entries = map (λ e. e.0.now) entries
 
--- the words of these fields are put behind those of before
-pub record Notes (old new : List Words) (fields : List FieldValues) : Type 0 where
+abbrev pub entries_of : WordNumbers → ℕ → Entries
+entries_of numbers field = slice_index_or (map (λ m. m.entries) numbers.by_field.items) field []
+
+-- the number of a word of a field
+abbrev pub number_of : WordNumbers → ℕ → List ℕ → Option ℕ
+number_of numbers field word = number_in (entries_of numbers field) word
+
+abbrev pub HasNone : WordNumbers → Type 0
+HasNone numbers = (field : ℕ) (word : List ℕ) → number_of numbers field word ≡ None
+
+-- no two words have one number, whatever their fields
+pub record IsNumbered (numbers : WordNumbers) : Type 0 where
+  pub below : (f n : ℕ) (w : List ℕ) → number_of numbers f w ≡ Some n → n < length numbers.ranks.items
+  pub apart : (f g n : ℕ) (v w : List ℕ) → number_of numbers f v ≡ Some n → number_of numbers g w ≡ Some n → (f ≡ g) × (v ≡ w)
+
+-- these words of one field alone
+abbrev pub of_field : ℕ → Words → ℕ → Words
+of_field field words f = if field == f then words else []
+
+-- these words of each field are met besides those of before
+pub record Notes (old new : WordNumbers) (words : ℕ → Words) : Type 0 where
+  pub sizes : length new.by_field.items ≡ length old.by_field.items
+  pub sound : IsNumbered new
+  pub kept : (f n : ℕ) (w : List ℕ) → number_of old f w ≡ Some n → number_of new f w ≡ Some n
+  pub known : (f : ℕ) (w : List ℕ) → Contains (words f) w → IsSome (number_of new f w)
+  pub nothing_else : (f : ℕ) (w : List ℕ) → IsSome (number_of new f w) → IsSome (number_of old f w) ⊎ Contains (words f) w
+
+-- values are read so that each number stands for its word
+pub record Shows (numbers : WordNumbers) (show : Reader) : Type 0 where
+  pub whole : (f : ℕ) (n : ℤ) → show f (stored.Whole n) ≡ scalar.Whole n
+  pub word : (f n : ℕ) (w : List ℕ) → number_of numbers f w ≡ Some n → show f (stored.Word n) ≡ scalar.Word w
+  pub flag : (f : ℕ) (b : Bool) → show f (stored.Flag b) ≡ scalar.Flag b
+
+-- the numbers of these words are apart, and below a limit
+pub record AreApart (limit : ℕ) (entries : Entries) : Type 0 where
+  pub below : (n : ℕ) (w : List ℕ) → number_in entries w ≡ Some n → n < limit
+  pub apart : (n : ℕ) (v w : List ℕ) → number_in entries v ≡ Some n → number_in entries w ≡ Some n → v ≡ w
+
+-- at the number of each word stands its place among the words; other numbers keep theirs
+pub record AreRanked (entries : Entries) (words : Words) (old new : List ℕ) : Type 0 where
   pub sizes : length new ≡ length old
-  pub words_are : (f : ℕ) → f < length old → slice_index_or new f [] ≡ slice_index_or old f [] ++ words_for f fields
+  pub placed : (n : ℕ) (w : List ℕ) → number_in entries w ≡ Some n → slice_get words (slice_index_or new n 0) ≡ Some w
+  pub others : (n : ℕ) → ((w : List ℕ) → number_in entries w ≢ Some n) → slice_index_or new n 0 ≡ slice_index_or old n 0
+
+-- the words of each field, ascending
+pub record AreWords (numbers : WordNumbers) (words : List Words) : Type 0 where
+  pub sizes : length words ≡ length numbers.by_field.items
+  pub words_are : (f : ℕ) → slice_index_or words f [] ≡ words_among (entries_of numbers f)
+  pub strict : (f : ℕ) → IsStrictlySortedBy (slice_cmp nat_cmp) (slice_index_or words f [])
+
+-- at the number of each word of a field stands its place among the words of the field
+abbrev pub ArePlaced : WordNumbers → List Words → List ℕ → Type 0
+ArePlaced numbers words ranks =
+    (f n : ℕ) (w : List ℕ) → number_of numbers f w ≡ Some n → slice_get (slice_index_or words f []) (slice_index_or ranks n 0) ≡ Some w
 
 -- the distinct words of a list, ascending
 pub record SameWords (words distinct : Words) : Type 0 where
   pub strict : IsStrictlySortedBy (slice_cmp nat_cmp) distinct
-  pub ascend : IsAscending distinct
   pub kept : AllAmong words distinct
   pub nothing_else : AllAmong distinct words
 
@@ -39,14 +89,6 @@ AllFieldsBelow n (l ∷ ls) = FieldsBelow n l.values.now × AllFieldsBelow n ls
 
 abbrev pub row_words : ℕ → Laid → Words
 row_words f l = words_for f l.values.now
-
-pub record NotesRows (old new : List Words) (rows : List Laid) : Type 0 where
-  pub sizes : length new ≡ length old
-  pub words_are : (f : ℕ) → f < length old → slice_index_or new f [] ≡ slice_index_or old f [] ++ flat_map (row_words f) rows
-
-pub record AllSame (words distinct : List Words) : Type 0 where
-  pub sizes : length distinct ≡ length words
-  pub same : (f : ℕ) → f < length words → SameWords (slice_index_or words f []) (slice_index_or distinct f [])
 
 -- for each field the distinct words that the rows have, ascending
 pub record AreDictionaries (count : ℕ) (rows : List Laid) (words : List Words) : Type 0 where

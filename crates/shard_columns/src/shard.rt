@@ -1,6 +1,6 @@
-ghost use Rattle.std.specs.Prelude.{◌≡◌, ◌↔◌, ◌<◌, ◌+◌, ◌≤◌, ◌^◌, ℕ, IsTrue, slice_index, IfOk, IfSome, IfNone, IsNone, length, map, sum_by, [], Some, slice_get, slice_index_or};
-ghost use Rattle.shard_columns.specs.Values.{shown, row_values, IsWithin, total_count};
-ghost use Rattle.shard_columns.specs.Words.{AllFieldsBelow, AreDictionaries};
+ghost use Rattle.std.specs.Prelude.{◌≡◌, ◌↔◌, ◌<◌, ◌+◌, ◌≤◌, ◌^◌, ℕ, IsTrue, slice_index, IfOk, OnOk, IfSome, IfNone, IsNone, flat_map, length, map, sum_by, [], Some, slice_get, slice_index_or};
+ghost use Rattle.shard_columns.specs.Values.{Reader, shown, rows_by, row_values, IsWithin, total_count};
+ghost use Rattle.shard_columns.specs.Words.{AllFieldsBelow, AreDictionaries, IsNumbered, Notes, Shows, row_words};
 ghost use Rattle.shard_columns.specs.Layout.{ids_of, values_of_laid, entries_of_laid};
 ghost use Rattle.agg_model.specs.declared.limits.TheConstants.{MAX_PATHS, WEIGHT_LIMIT};
 ghost use Rattle.agg_model.specs.Contexts.{parents_before};
@@ -17,8 +17,8 @@ ghost use Rattle.shard_columns.specs.Cell.{scalar_of};
 use crate::contexts::{context, numbers_by_context, numbers_of};
 use crate::layout::{Entry, Laid, Layout, Origin, lay};
 use crate::search::{find_word, span_between};
-use crate::values::{Stored, Values, held_at, push_row};
-use crate::words::{all_bytes, dictionaries, longest_of};
+use crate::values::{Stored, Values, held_at, push_row, rank_all};
+use crate::words::{WordNumbers, all_bytes, dictionaries, longest_of};
 use agg_model::{Copying, Document, Field, FieldKind, List, Mapping, NestedPath, Text};
 use std::alloc::{AllocError, Global};
 use std::marker::Model;
@@ -51,11 +51,16 @@ impl Model for Shard {
     ghost invariant = { IsSound };
 }
 
-// The values of all rows, whose words are in these dictionaries.
-fn store(alloc: Global, words: &[List<Text>], rows: &[Laid]) -> Result<Values, AllocError>
-    requires below { AllFieldsBelow (length words.now) rows.now }
-    requires dictionaries { AreDictionaries (length words.now) rows.now words.now }
-    ensures rows { IfOk result (λ v. row_values words.now v ≡ values_of_laid rows.now) }
+// The values of all rows, where words are numbers.
+fn number<'a>(
+    alloc: Global,
+    numbers: &mut WordNumbers<'a>,
+    rows: &[Laid<'a>],
+) -> Result<Values, AllocError>
+    requires below { AllFieldsBelow (length numbers.old.by_field.items) rows.now }
+    requires sound { IsNumbered numbers.old }
+    ensures notes { OnOk result (Notes numbers.old numbers.new (λ f. flat_map (row_words f) rows.now)) }
+    ensures rows { IfOk result (λ v. (show : Reader) → Shows numbers.new show → rows_by show v ≡ values_of_laid rows.now) }
     ensures within { IfOk result (λ v. IsWithin v) }
     ensures counted { IfOk result (λ v. length v.stored.items ≡ sum_by total_count (values_of_laid rows.now)) }
 {
@@ -65,9 +70,37 @@ fn store(alloc: Global, words: &[List<Text>], rows: &[Laid]) -> Result<Values, A
         stored: Vec::new(alloc),
     };
     for row in rows {
-        push_row(&mut values, words, row.values)?;
+        push_row(&mut values, numbers, row.values)?;
     }
     Ok(values)
+}
+
+// The dictionaries of so many fields, and the values of all rows, whose words are in them. Each word is looked up once.
+fn store(
+    alloc: Global,
+    fields: usize,
+    rows: &[Laid],
+) -> Result<(Vec<List<Text>>, Values), AllocError>
+    requires { AllFieldsBelow fields rows.now }
+    ensures words { IfOk result (λ s. AreDictionaries fields rows.now s.0.items) }
+    ensures rows { IfOk result (λ s. row_values s.0.items s.1 ≡ values_of_laid rows.now) }
+    ensures within { IfOk result (λ s. IsWithin s.1) }
+    ensures counted { IfOk result (λ s. length s.1.stored.items ≡ sum_by total_count (values_of_laid rows.now)) }
+{
+    let mut numbers = WordNumbers::new(alloc, fields)?;
+    let Values {
+        rows,
+        fields,
+        mut stored,
+    } = number(alloc, &mut numbers, rows)?;
+    let (words, ranks) = dictionaries(alloc, numbers)?;
+    rank_all(&mut stored, ranks.as_slice());
+    let values = Values {
+        rows,
+        fields,
+        stored,
+    };
+    Ok((words, values))
 }
 
 fn copied_ids(alloc: Global, documents: &List<Document>) -> Result<Vec<Text>, AllocError>
@@ -161,8 +194,7 @@ impl Shard {
         let layout = lay(alloc, documents)?;
         let fields = mapping.fields.as_slice();
         let laid = layout.rows.as_slice();
-        let words = dictionaries(alloc, fields.len(), laid)?;
-        let values = store(alloc, words.as_slice(), laid)?;
+        let (words, values) = store(alloc, fields.len(), laid)?;
         let rows = entries(alloc, laid)?;
         let nested = mapping.nested.as_slice();
         let numbers = numbers_by_context(alloc, nested.len() + 1, rows.as_slice())?;

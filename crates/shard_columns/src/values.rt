@@ -1,9 +1,12 @@
 // The values of all rows in flat arrays: a row has a span of fields, and a field of a row has a span of values.
-ghost use Rattle.std.specs.Prelude.{◌≡◌, ◌++◌, ◌∷◌, ◌<◌, [], OnOk, length, slice_index_or, slice_get, Contains, Some, find, ◌==◌, IfSome};
-ghost use Rattle.shard_columns.specs.Values.{IsAscending, AllAscend, HasWords, HasAllWords, AddsValues, AddsFields, AddsRowValues, WithinReach, IsWithin, IsPart, FieldsAscend, cut, held_in};
+ghost use Rattle.std.specs.Prelude.{◌≡◌, ◌∷◌, ◌<◌, [], OnOk, IfOk, length, map, find, ◌==◌, IfSome};
+ghost use Rattle.shard_columns.specs.Values.{Reader, word_in, words_in, words_for, FieldsBelow, WithinReach, IsWithin, IsPart, FieldsAscend, cut, held_in, ranked};
+ghost use Rattle.shard_columns.specs.Words.{of_field, IsNumbered, Notes, Shows};
+ghost use Rattle.shard_columns.specs.Storing.{Adds, AddsFields, AddsRowValues};
 
 use crate::search::find_field;
-use agg_model::{FieldValues, List, Scalar, Text};
+use crate::words::WordNumbers;
+use agg_model::{FieldValues, List, Scalar};
 use std::alloc::AllocError;
 
 /// A value as it is stored: a word is its place among the words of its field.
@@ -36,65 +39,54 @@ pub struct Values {
     pub stored: Vec<Stored>,
 }
 
-/// The place of a word among these, which are in ascending order.
-fn place_of(words: &[Text], word: &Text) -> usize
-    requires has { Contains words.now word.now }
-    requires sorted { IsAscending words.now }
-    ensures { slice_get words.now result ≡ Some word.now }
+// A value as it is stored; a word is its number for now.
+fn stored_of<'a>(
+    numbers: &mut WordNumbers<'a>,
+    field: u32,
+    value: &'a Scalar,
+) -> Result<Stored, AllocError>
+    requires in_range { field < length numbers.old.by_field.items }
+    requires sound { IsNumbered numbers.old }
+    ensures notes { OnOk result (Notes numbers.old numbers.new (of_field field (word_in value.now))) }
+    ensures shown { IfOk result (λ one. (show : Reader) → Shows numbers.new show → show field one ≡ value.now) }
 {
-    match words.binary_search(word) {
-        Ok(place) => place,
-        Err(_) => unreachable!(),
+    match value {
+        Scalar::Whole(n) => Ok(Stored::Whole(*n)),
+        Scalar::Flag(b) => Ok(Stored::Flag(*b)),
+        Scalar::Word(word) => Ok(Stored::Word(numbers.number(field as usize, word.as_str())?)),
     }
 }
 
-fn push_value(stored: &mut Vec<Stored>, words: &[Text], value: &Scalar) -> Result<(), AllocError>
-    requires known { HasWords words.now (value.now ∷ []) }
-    requires ascend { IsAscending words.now }
-    ensures { OnOk result (AddsValues words.now stored.old.items stored.new.items (value.now ∷ [])) }
-{
-    let one = match value {
-        Scalar::Whole(n) => Stored::Whole(*n),
-        Scalar::Flag(b) => Stored::Flag(*b),
-        Scalar::Word(word) => Stored::Word(place_of(words, word)),
-    };
-    stored.push(one)?;
-    Ok(())
-}
-
-fn push_values(
+fn push_values<'a>(
     stored: &mut Vec<Stored>,
-    words: &[Text],
-    values: &List<Scalar>,
+    numbers: &mut WordNumbers<'a>,
+    field: &'a FieldValues,
 ) -> Result<(), AllocError>
-    requires known { HasWords words.now values.now }
-    requires ascend { IsAscending words.now }
-    ensures { OnOk result (AddsValues words.now stored.old.items stored.new.items values.now) }
+    requires in_range { field.now.field < length numbers.old.by_field.items }
+    requires sound { IsNumbered numbers.old }
+    ensures notes { OnOk result (Notes numbers.old numbers.new (of_field field.now.field (words_in field.now.values))) }
+    ensures adds { OnOk result (Adds numbers.new field.now.field stored.old.items stored.new.items field.now.values) }
 {
-    for value in values.as_slice() {
-        push_value(stored, words, value)?;
+    for value in field.values.as_slice() {
+        stored.push(stored_of(numbers, field.field, value)?)?;
     }
     Ok(())
 }
 
-fn push_field(
+fn push_field<'a>(
     values: &mut Values,
-    words: &[List<Text>],
-    field: &FieldValues,
+    numbers: &mut WordNumbers<'a>,
+    field: &'a FieldValues,
 ) -> Result<(), AllocError>
-    requires known { HasWords (slice_index_or words.now field.now.field []) field.now.values }
-    requires ascend { AllAscend words.now }
-    requires in_range { field.now.field < length words.now }
+    requires in_range { field.now.field < length numbers.old.by_field.items }
+    requires sound { IsNumbered numbers.old }
     requires reach { WithinReach (length values.old.stored.items) values.old.fields.items }
-    ensures fields { OnOk result (AddsFields words.now values.old values.new (field.now ∷ [])) }
+    ensures notes { OnOk result (Notes numbers.old numbers.new (λ f. words_for f (field.now ∷ []))) }
+    ensures fields { OnOk result (AddsFields numbers.new values.old values.new (field.now ∷ [])) }
     ensures rows { values.new.rows.items ≡ values.old.rows.items }
 {
     let start = values.stored.len();
-    push_values(
-        &mut values.stored,
-        words[field.field as usize].as_slice(),
-        &field.values,
-    )?;
+    push_values(&mut values.stored, numbers, field)?;
     let span = Span {
         start,
         end: values.stored.len(),
@@ -106,42 +98,63 @@ fn push_field(
     Ok(())
 }
 
-fn push_fields(
+fn push_fields<'a>(
     values: &mut Values,
-    words: &[List<Text>],
-    fields: &List<FieldValues>,
+    numbers: &mut WordNumbers<'a>,
+    fields: &'a List<FieldValues>,
 ) -> Result<(), AllocError>
-    requires known { HasAllWords words.now fields.now }
-    requires ascend { AllAscend words.now }
+    requires in_range { FieldsBelow (length numbers.old.by_field.items) fields.now }
+    requires sound { IsNumbered numbers.old }
     requires reach { WithinReach (length values.old.stored.items) values.old.fields.items }
-    ensures fields { OnOk result (AddsFields words.now values.old values.new fields.now) }
+    ensures notes { OnOk result (Notes numbers.old numbers.new (λ f. words_for f fields.now)) }
+    ensures fields { OnOk result (AddsFields numbers.new values.old values.new fields.now) }
     ensures rows { values.new.rows.items ≡ values.old.rows.items }
 {
     for field in fields.as_slice() {
-        push_field(values, words, field)?;
+        push_field(values, numbers, field)?;
     }
     Ok(())
 }
 
-/// Puts the values of one more row behind those of the rows before it.
-pub fn push_row(
+/// Puts the values of one more row behind those of the rows before it. Words are numbers for now.
+pub fn push_row<'a>(
     values: &mut Values,
-    words: &[List<Text>],
-    fields: &List<FieldValues>,
+    numbers: &mut WordNumbers<'a>,
+    fields: &'a List<FieldValues>,
 ) -> Result<(), AllocError>
-    requires known { HasAllWords words.now fields.now }
-    requires ascend { AllAscend words.now }
+    requires in_range { FieldsBelow (length numbers.old.by_field.items) fields.now }
+    requires sound { IsNumbered numbers.old }
     requires within { IsWithin values.old }
-    ensures { OnOk result (AddsRowValues words.now values.old values.new fields.now) }
+    ensures notes { OnOk result (Notes numbers.old numbers.new (λ f. words_for f fields.now)) }
+    ensures row { OnOk result (AddsRowValues numbers.new values.old values.new fields.now) }
 {
     let start = values.fields.len();
-    push_fields(values, words, fields)?;
+    push_fields(values, numbers, fields)?;
     let span = Span {
         start,
         end: values.fields.len(),
     };
     values.rows.push(span)?;
     Ok(())
+}
+
+fn ranked(ranks: &[usize], stored: Stored) -> Stored
+    ensures { result ≡ ranked ranks.now stored }
+{
+    match stored {
+        Stored::Whole(n) => Stored::Whole(n),
+        Stored::Word(number) => Stored::Word(ranks.get(number).copied().unwrap_or(0)),
+        Stored::Flag(b) => Stored::Flag(b),
+    }
+}
+
+/// Puts in the place of each number the place of its word in its dictionary.
+pub fn rank_all(stored: &mut Vec<Stored>, ranks: &[usize])
+    ensures { stored.new.items ≡ map (ranked ranks.now) stored.old.items }
+{
+    for one in stored.iter_mut() {
+        *one = ranked(ranks, *one);
+    }
 }
 
 fn part(fields: &[Held], span: Span) -> &[Held]

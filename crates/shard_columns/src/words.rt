@@ -1,116 +1,108 @@
 // The words of each field of a shard: distinct, and in ascending order.
-ghost use Rattle.std.specs.Prelude.{◌≡◌, ◌++◌, ◌∷◌, ◌<◌, ◌≤◌, ◌*◌, ℕ, [], OnOk, IfOk, length, map, sum_by, slice_index_or};
+ghost use Rattle.std.specs.Prelude.{◌≡◌, ◌∷◌, ◌<◌, ◌≤◌, ◌*◌, ℕ, List as Items, [], Some, OnOk, IfOk, length, map, sum_by, slice_index_or, unwrap_or, if◌then◌else◌};
+ghost use Rattle.std.specs.Ordering.{nat_cmp};
+ghost use Rattle.std.specs.Cmp.Lexicographic.{slice_cmp};
+ghost use Rattle.std.specs.List.Sorted.{IsStrictlySortedBy};
+ghost use Rattle.std.specs.Str.{bytes_eq};
 ghost use Rattle.agg_evaluation.specs.Ceiling.{greatest_of};
-ghost use Rattle.shard_columns.specs.Values.{IsAscending, AllAmong, words_in, word_in, FieldsBelow};
-ghost use Rattle.shard_columns.specs.Words.{lent, lent_by_field, Notes, AllFieldsBelow, NotesRows, SameWords, AllSame, AreEmpty, AreDictionaries};
+ghost use Rattle.shard_columns.specs.Words.{number_in, number_of, HasNone, IsNumbered, of_field, Notes, AreApart, words_among, AreRanked, AreWords, ArePlaced};
 
-use crate::layout::Laid;
 use agg_model::limits::{MAX_PATHS, WEIGHT_LIMIT};
-use agg_model::{Copying, FieldValues, List, Scalar, Text};
+use agg_model::{List, Text};
 use std::alloc::{AllocError, Global};
+use std::collections::BTreeMap;
 
-fn note_value<'a>(words: &mut Vec<&'a Text>, value: &'a Scalar) -> Result<(), AllocError>
-    ensures { OnOk result (lent words.new.items ≡ lent words.old.items ++ word_in value.now) }
+/// The words of each field that are met in rows, each with a number of its own, whatever its field.
+#[derive(Drop)]
+pub struct WordNumbers<'a> {
+    pub by_field: Vec<BTreeMap<&'a str, usize>>,
+    /// By number, the place of the word in its dictionary, which is known once all words are.
+    pub ranks: Vec<usize>,
+}
+
+/// The number of a word; the next one where it had none.
+fn number_in<'a>(
+    numbers: &mut BTreeMap<&'a str, usize>,
+    word: &'a str,
+    next: usize,
+) -> Result<usize, AllocError>
+    ensures found { IfOk result (λ n. n ≡ unwrap_or (number_in numbers.old.entries word.now) next) }
+    ensures after { IfOk result (λ n. (w : Items ℕ) → number_in numbers.new.entries w ≡ (if bytes_eq word.now w then Some n else number_in numbers.old.entries w)) }
 {
-    if let Scalar::Word(word) = value {
-        words.push(word)?;
+    Ok(*numbers.entry(word)?.or_insert(next))
+}
+
+impl<'a> WordNumbers<'a> {
+    /// No words yet of any of so many fields.
+    pub fn new(alloc: Global, fields: usize) -> Result<Self, AllocError>
+        ensures sizes { IfOk result (λ numbers. length numbers.by_field.items ≡ fields) }
+        ensures empty { IfOk result (λ numbers. HasNone numbers) }
+        ensures sound { IfOk result (λ numbers. IsNumbered numbers) }
+    {
+        let mut by_field = Vec::new(alloc);
+        for _field in 0..fields {
+            by_field.push(BTreeMap::new(alloc))?;
+        }
+        Ok(WordNumbers {
+            by_field,
+            ranks: Vec::new(alloc),
+        })
     }
-    Ok(())
-}
 
-fn note_values<'a>(words: &mut Vec<&'a Text>, values: &'a List<Scalar>) -> Result<(), AllocError>
-    ensures { OnOk result (lent words.new.items ≡ lent words.old.items ++ words_in values.now) }
-{
-    for value in values.as_slice() {
-        note_value(words, value)?;
+    /// The number of a word of a field, which is looked up once.
+    pub fn number(&mut self, field: usize, word: &'a str) -> Result<usize, AllocError>
+        requires in_range { field < length self.old.by_field.items }
+        requires sound { IsNumbered self.old }
+        ensures notes { OnOk result (Notes self.old self.new (of_field field (word.now ∷ []))) }
+        ensures number { IfOk result (λ n. number_of self.new field word.now ≡ Some n) }
+    {
+        let next = self.ranks.len();
+        let number = number_in(&mut self.by_field[field], word, next)?;
+        if number < next {
+            return Ok(number);
+        }
+        self.ranks.push(0)?;
+        Ok(number)
     }
-    Ok(())
 }
 
-fn note_field<'a>(words: &mut Vec<Vec<&'a Text>>, field: &'a FieldValues) -> Result<(), AllocError>
-    requires { field.now.field < length words.old.items }
-    ensures { OnOk result (Notes (lent_by_field words.old.items) (lent_by_field words.new.items) (field.now ∷ [])) }
+/// The words of a field, ascending; the place of each is written at its number.
+fn dictionary(
+    alloc: Global,
+    numbers: &BTreeMap<&str, usize>,
+    ranks: &mut Vec<usize>,
+) -> Result<List<Text>, AllocError>
+    requires { AreApart (length ranks.old.items) numbers.now.entries }
+    ensures words { IfOk result (λ d. d ≡ words_among numbers.now.entries) }
+    ensures strict { IfOk result (λ d. IsStrictlySortedBy (slice_cmp nat_cmp) d) }
+    ensures ranked { IfOk result (λ d. AreRanked numbers.now.entries d ranks.old.items ranks.new.items) }
 {
-    note_values(&mut words[field.field as usize], &field.values)?;
-    Ok(())
-}
-
-fn note_fields<'a>(
-    words: &mut Vec<Vec<&'a Text>>,
-    fields: &'a List<FieldValues>,
-) -> Result<(), AllocError>
-    requires { FieldsBelow (length words.old.items) fields.now }
-    ensures { OnOk result (Notes (lent_by_field words.old.items) (lent_by_field words.new.items) fields.now) }
-{
-    for field in fields.as_slice() {
-        note_field(words, field)?;
-    }
-    Ok(())
-}
-
-fn copied(alloc: Global, words: &[&Text]) -> Result<List<Text>, AllocError>
-    ensures { IfOk result (λ copies. copies ≡ lent words.now) }
-{
-    let mut copies = List::new(alloc);
-    for word in words {
-        copies.push(word.copy(alloc)?)?;
-    }
-    Ok(copies)
-}
-
-/// The distinct words of a list in ascending order. Of equal words one alone is copied.
-fn dictionary(alloc: Global, words: Vec<&Text>) -> Result<List<Text>, AllocError>
-    ensures { IfOk result (λ d. SameWords (lent words.entry.items) d) }
-{
-    let mut distinct = words;
-    distinct.sort()?;
-    distinct.dedup();
-    copied(alloc, distinct.as_slice())
-}
-
-fn note_rows<'a>(words: &mut Vec<Vec<&'a Text>>, rows: &[Laid<'a>]) -> Result<(), AllocError>
-    requires { AllFieldsBelow (length words.old.items) rows.now }
-    ensures { OnOk result (NotesRows (lent_by_field words.old.items) (lent_by_field words.new.items) rows.now) }
-{
-    for row in rows {
-        note_fields(words, row.values)?;
-    }
-    Ok(())
-}
-
-fn empty_lists<'a>(alloc: Global, count: usize) -> Result<Vec<Vec<&'a Text>>, AllocError>
-    ensures { IfOk result (λ words. AreEmpty count (lent_by_field words.items)) }
-{
-    let mut words = Vec::new(alloc);
-    for _place in 0..count {
-        words.push(Vec::new(alloc))?;
+    let mut words = List::new(alloc);
+    for (word, number) in numbers {
+        ranks[*number] = words.len();
+        words.push(Text::of(alloc, word)?)?;
     }
     Ok(words)
 }
 
-fn sort_all(alloc: Global, words: Vec<Vec<&Text>>) -> Result<Vec<List<Text>>, AllocError>
-    ensures { IfOk result (λ distinct. AllSame (lent_by_field words.entry.items) distinct.items) }
-{
-    let mut distinct = Vec::new(alloc);
-    for list in words {
-        distinct.push(dictionary(alloc, list)?)?;
-    }
-    Ok(distinct)
-}
-
-/// For each of the first `count` fields its distinct words in ascending order.
+/// For each field its distinct words in ascending order, and for each number the place of its word there.
 pub fn dictionaries(
     alloc: Global,
-    count: usize,
-    rows: &[Laid],
-) -> Result<Vec<List<Text>>, AllocError>
-    requires { AllFieldsBelow count rows.now }
-    ensures { IfOk result (λ words. AreDictionaries count rows.now words.items) }
+    numbers: WordNumbers,
+) -> Result<(Vec<List<Text>>, Vec<usize>), AllocError>
+    requires { IsNumbered numbers }
+    ensures words { IfOk result (λ made. AreWords numbers.entry made.0.items) }
+    ensures ranks { IfOk result (λ made. ArePlaced numbers.entry made.0.items made.1.items) }
 {
-    let mut words = empty_lists(alloc, count)?;
-    note_rows(&mut words, rows)?;
-    let distinct = sort_all(alloc, words)?;
-    Ok(distinct)
+    let WordNumbers {
+        by_field,
+        mut ranks,
+    } = numbers;
+    let mut words = Vec::new(alloc);
+    for numbers in by_field.as_slice() {
+        words.push(dictionary(alloc, numbers, &mut ranks)?)?;
+    }
+    Ok((words, ranks))
 }
 
 /// The length of the longest of these words in bytes, 0 where there is none.

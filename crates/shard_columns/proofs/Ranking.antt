@@ -1,0 +1,270 @@
+-- The words of ordered maps, and their places by number.
+use Rattle.std.proofs.Common.{T, Bool, true, false, cond, eqb, eq-eqb, flat_map, zero, suc, ◌≡◌, ◌≢◌, refl, ℕ, ◌+◌, ◌<◌, ◌≤◌, List, [], ◌∷◌, ◌++◌, map, length, get_or, set, sym, ◌∙◌, ap, subst, arith, length-append, Contains, inl, inr, Bor, Option, None, Some}
+use Rattle.std.specs.Prelude.{◌⊎◌, pos, IsSome, slice_get}
+use Rattle.std.specs.Option.{option_map_or}
+use Rattle.std.specs.Ordering.{nat_cmp, is_eq}
+use Rattle.std.specs.declared.cmp.Ordering.{Ordering}
+use Rattle.std.specs.declared.cmp.Ordering.TheVariants.{Less, Equal, Greater}
+use Rattle.std.specs.Cmp.Lexicographic.{slice_cmp}
+use Rattle.std.specs.Cmp.{tied_itself}
+use Rattle.std.specs.List.{AllByRecursion}
+use Rattle.std.specs.List.Sorted.{IsStrictlySortedBy}
+use Rattle.std.specs.BTreeMap.{BTreeMap}
+use Rattle.std.proofs.lemmas.Cmp.{nat_list_cmp_total}
+use Rattle.std.proofs.lemmas.List.{map-append, length-map, length-set, get_or-set_same, get_or-set_other, get_or_past, get_or_append_left}
+use Rattle.std.proofs.lemmas.Bool.{cases_lt}
+use Rattle.std.proofs.lemmas.Map.Lookups.{exact_bytes}
+use Rattle.std.proofs.lemmas.Option.{same_Some}
+use Rattle.std.proofs.Math.Facts.{eqb_yes}
+use Rattle.std.proofs.Math.Seq.{get_or-append_seam}
+use Rattle.agg_model.specs.declared.row.Scalar.TheVariants as scalar
+use Rattle.agg_model.specs.declared.row.FieldValues.{FieldValues}
+use Rattle.shard_columns.specs.declared.layout.Laid.{Laid}
+use Rattle.shard_columns.specs.declared.values.Stored.{Stored}
+use Rattle.shard_columns.specs.declared.values.Held.{Held}
+use Rattle.shard_columns.specs.declared.values.Values.{Values}
+use Rattle.shard_columns.specs.declared.words.WordNumbers.{WordNumbers}
+use Rattle.shard_columns.specs.Values.{Words, Reader, by_words, cut, field_by, fields_by, rows_by, ranked}
+use Rattle.shard_columns.specs.Words.{Entries, number_in, number_of, words_among, entries_of, HasNone, IsNumbered, Notes, Shows, AreApart, AreRanked, AreWords, ArePlaced, AreDictionaries, row_words}
+use Rattle.shard_columns.proofs.Storing.{cut-map}
+
+abbrev Word : Type 0
+Word = Bor (List ℕ)
+
+slice_get-front : {X : Type 0} (xs ys : List X) (i : ℕ) (x : X) → slice_get xs i ≡ Some x → slice_get (xs ++ ys) i ≡ Some x
+slice_get-front [] ys i x is = absurd (cc is)
+slice_get-front (y ∷ xs) ys zero x is = is
+slice_get-front (y ∷ xs) ys (suc i) x is = slice_get-front xs ys i x is
+
+slice_get-seam : {X : Type 0} (xs : List X) (x : X) → slice_get (xs ++ x ∷ []) (length xs) ≡ Some x
+slice_get-seam [] x = refl
+slice_get-seam (y ∷ xs) x = slice_get-seam xs x
+
+slice_get-contains : {X : Type 0} (xs : List X) (i : ℕ) (x : X) → slice_get xs i ≡ Some x → Contains xs x
+slice_get-contains [] i x is = absurd (cc is)
+slice_get-contains (y ∷ xs) zero x is = (0, omega arith, same_Some y x is)
+slice_get-contains (y ∷ xs) (suc i) x is = let rest = slice_get-contains xs i x is in (suc rest.0, (let within = rest.1 in omega (arith, within)), rest.2)
+
+-- a look-up finds the first entry whose key passes
+cond-some : (b : Bool) (x y : ℕ) (o : Option ℕ) → cond b (Some x) o ≡ Some y → ((b ≡ true) × (x ≡ y)) ⊎ ((b ≡ false) × (o ≡ Some y))
+cond-some true x y o is = inl (refl, same_Some x y is)
+cond-some false x y o is = inr (refl, is)
+
+is-at : (v w : List ℕ) → is_eq (slice_cmp nat_cmp v w) ≡ true → v ≡ w
+is-at v w e = exact_bytes v w (equal (slice_cmp nat_cmp v w) e)
+  where
+    equal : (o : Ordering) → is_eq o ≡ true → o ≡ Equal
+    equal Less e = absurd (cc e)
+    equal Equal e = refl
+    equal Greater e = absurd (cc e)
+
+at-itself : (w : List ℕ) → is_eq (slice_cmp nat_cmp w w) ≡ true
+at-itself w = ap is_eq (tied_itself nat_list_cmp_total w)
+
+number-front : (es fs : Entries) (w : List ℕ) (n : ℕ) → number_in es w ≡ Some n → number_in (es ++ fs) w ≡ Some n
+number-front [] fs w n is = absurd (cc is)
+number-front (e ∷ es) fs w n is = elim (cond-some (is_eq (slice_cmp nat_cmp w e.0.now)) e.1 n (number_in es w) is) [
+  | inl here ↦ ap (λ (b : Bool). cond b (Some e.1) (number_in (es ++ fs) w)) here.0 ∙ ap Some here.1
+  | inr later ↦ ap (λ (b : Bool). cond b (Some e.1) (number_in (es ++ fs) w)) later.0 ∙ number-front es fs w n later.1
+]
+
+number-last : (es : Entries) (k : Word) (m : ℕ) (w : List ℕ) (n : ℕ) → number_in (es ++ (k, m) ∷ []) w ≡ Some n → (number_in es w ≡ Some n) ⊎ ((w ≡ k.now) × (m ≡ n))
+number-last [] k m w n is = elim (cond-some (is_eq (slice_cmp nat_cmp w k.now)) m n None is) [
+  | inl here ↦ inr (is-at w k.now here.0, here.1)
+  | inr later ↦ absurd (cc later.1)
+]
+number-last (e ∷ es) k m w n is = elim (cond-some (is_eq (slice_cmp nat_cmp w e.0.now)) e.1 n (number_in (es ++ (k, m) ∷ []) w) is) [
+  | inl here ↦ inl (ap (λ (b : Bool). cond b (Some e.1) (number_in es w)) here.0 ∙ ap Some here.1)
+  | inr later ↦ elim (number-last es k m w n later.1) [
+    | inl front ↦ inl (ap (λ (b : Bool). cond b (Some e.1) (number_in es w)) later.0 ∙ front)
+    | inr last ↦ inr last
+  ]
+]
+
+-- the words of a map are those with a number
+word-numbered : (es : Entries) (w : List ℕ) (n : ℕ) → number_in es w ≡ Some n → Contains (words_among es) w
+word-numbered [] w n is = absurd (cc is)
+word-numbered (e ∷ es) w n is = elim (cond-some (is_eq (slice_cmp nat_cmp w e.0.now)) e.1 n (number_in es w) is) [
+  | inl here ↦ (0, omega arith, sym (is-at w e.0.now here.0))
+  | inr later ↦ (let rest = word-numbered es w n later.1 in (suc rest.0, (let within = rest.1 in omega (arith, within)), rest.2))
+]
+
+numbered-some : (o : Option ℕ) → IsSome o → (n : ℕ) × (o ≡ Some n)
+numbered-some None is = absurd (cc is)
+numbered-some (Some n) is = (n, refl)
+
+some-either : (b : Bool) (x : ℕ) (o : Option ℕ) → IsSome o → IsSome (cond b (Some x) o)
+some-either true x o is = refl
+some-either false x o is = is
+
+number-there : (es : Entries) (w : List ℕ) (k : ℕ) → k < length (words_among es) → get_or (words_among es) k w ≡ w → IsSome (number_in es w)
+number-there [] w k below is = absurd (omega arith)
+number-there (e ∷ es) w zero below is = subst (λ (b : Bool). IsSome (cond b (Some e.1) (number_in es w))) (sym (ap (λ (v : List ℕ). is_eq (slice_cmp nat_cmp w v)) is ∙ at-itself w)) refl
+number-there (e ∷ es) w (suc k) below is = some-either (is_eq (slice_cmp nat_cmp w e.0.now)) e.1 (number_in es w) (number-there es w k (omega arith) is)
+
+pub number-has : (es : Entries) (w : List ℕ) → Contains (words_among es) w → IsSome (number_in es w)
+number-has es w has = number-there es w has.0 has.1 has.2
+
+-- the entries so far are ranked
+pub record IsRankedSoFar (all so_far : Entries) (words : Words) (old new : List ℕ) : Type 0 where
+  pub words_are : words ≡ words_among so_far
+  pub sizes : length new ≡ length old
+  pub placed : (n : ℕ) (w : List ℕ) → number_in so_far w ≡ Some n → slice_get words (get_or new n 0) ≡ Some w
+  pub others : (n : ℕ) → ((w : List ℕ) → number_in all w ≢ Some n) → get_or new n 0 ≡ get_or old n 0
+
+pub Ranked-none : (all : Entries) (old : List ℕ) → IsRankedSoFar all [] [] old old
+Ranked-none all old = record { words_are = refl; sizes = refl; placed = λ n w is. absurd (cc is); others = λ n none. refl }
+
+same-or-other : (m n : ℕ) (b : Bool) → eqb n m ≡ b → (n ≡ m) ⊎ (n ≢ m)
+same-or-other m n true e = inl (eqb_yes (subst T (sym e) tt))
+same-or-other m n false e = inr (λ (h : n ≡ m). absurd (cc (sym (eq-eqb n m h) ∙ e)))
+
+pub Ranked-push : (all so_far rest : Entries) (k : Word) (m : ℕ) (words : Words) (old now : List ℕ) → AreApart (length old) all → all ≡ so_far ++ rest → number_in all k.now ≡ Some m →
+    IsRankedSoFar all so_far words old now → IsRankedSoFar all (so_far ++ (k, m) ∷ []) (words ++ k.now ∷ []) old (set now m (length words))
+Ranked-push all so_far rest k m words old now apart split found s =
+    let low : m < length now = (let l = apart.below m k.now found in let e = s.sizes in omega (arith, l, e)) in
+    let rank : get_or (set now m (length words)) m 0 ≡ length words = get_or-set_same now m (length words) 0 low in
+    let here : slice_get (words ++ k.now ∷ []) (get_or (set now m (length words)) m 0) ≡ Some k.now = ap (slice_get (words ++ k.now ∷ [])) rank ∙ slice_get-seam words k.now in
+    record {
+      words_are = ap (λ (ws : Words). ws ++ k.now ∷ []) s.words_are ∙ sym (map-append (λ (e : Word × ℕ). e.0.now) so_far ((k, m) ∷ []));
+      sizes = length-set now m (length words) ∙ s.sizes;
+      placed = λ n w is. elim (number-last so_far k m w n is) [
+        | inl front ↦ elim (same-or-other m n (eqb n m) refl) [
+          | inl same ↦ (let w_is : w ≡ k.now = apart.apart m w k.now (ap (λ (es : Entries). number_in es w) split ∙ (number-front so_far rest w n front ∙ ap Some same)) found in
+              ap (λ (r : ℕ). slice_get (words ++ k.now ∷ []) (get_or (set now m (length words)) r 0)) same ∙ (here ∙ ap Some (sym w_is)))
+          | inr other ↦ ap (slice_get (words ++ k.now ∷ [])) (get_or-set_other now m n (length words) 0 other) ∙ slice_get-front words (k.now ∷ []) (get_or now n 0) w (s.placed n w front)
+        ]
+        | inr last ↦ ap (λ (r : ℕ). slice_get (words ++ k.now ∷ []) (get_or (set now m (length words)) r 0)) (sym last.1) ∙ (here ∙ ap Some (sym last.0))
+      ];
+      others = λ n none.
+          let other : n ≢ m = λ (h : n ≡ m). none k.now (found ∙ ap Some (sym h)) in
+          get_or-set_other now m n (length words) 0 other ∙ s.others n none;
+    }
+
+after-words : (k : Word) (es : Entries) → AllByRecursion (λ (y : Word). slice_cmp nat_cmp k.now y.now ≡ Less) (map (λ e. e.0) es) → AllByRecursion (λ v. slice_cmp nat_cmp k.now v ≡ Less) (words_among es)
+after-words k [] after = after
+after-words k (e ∷ es) after = (after.0, after-words k es after.1)
+
+pub words-strict : (es : Entries) → IsStrictlySortedBy (λ (v w : Word). slice_cmp nat_cmp v.now w.now) (map (λ e. e.0) es) → IsStrictlySortedBy (slice_cmp nat_cmp) (words_among es)
+unfolding IsStrictlySortedBy
+words-strict [] strict = strict
+words-strict (e ∷ es) strict = (after-words e.0 es strict.0, words-strict es strict.1)
+
+-- the fields before k have their words and places
+pub record AreMade (numbers : WordNumbers) (k : ℕ) (words : List Words) (ranks : List ℕ) : Type 0 where
+  pub sizes : length words ≡ k
+  pub room : length ranks ≡ length numbers.ranks.items
+  pub words_are : (f : ℕ) → f < k → get_or words f [] ≡ words_among (entries_of numbers f)
+  pub strict : (f : ℕ) → f < k → IsStrictlySortedBy (slice_cmp nat_cmp) (get_or words f [])
+  pub placed : (f n : ℕ) (w : List ℕ) → f < k → number_of numbers f w ≡ Some n → slice_get (get_or words f []) (get_or ranks n 0) ≡ Some w
+
+pub AreMade-none : (numbers : WordNumbers) → AreMade numbers 0 [] numbers.ranks.items
+AreMade-none numbers = record {
+  sizes = refl;
+  room = refl;
+  words_are = λ f below. absurd (omega arith);
+  strict = λ f below. absurd (omega arith);
+  placed = λ f n w below is. absurd (omega arith);
+}
+
+pub apart-in : (numbers : WordNumbers) (f : ℕ) (es : Entries) (limit : ℕ) → IsNumbered numbers → es ≡ entries_of numbers f → limit ≡ length numbers.ranks.items → AreApart limit es
+apart-in numbers f es limit sound is same = record {
+  below = λ n w has. (let low = sound.below f n w (ap (λ (xs : Entries). number_in xs w) (sym is) ∙ has) in omega (arith, low, same));
+  apart = λ n v w p q. (sound.apart f f n v w (ap (λ (xs : Entries). number_in xs v) (sym is) ∙ p) (ap (λ (xs : Entries). number_in xs w) (sym is) ∙ q)).1;
+}
+
+pub AreMade-push : (numbers : WordNumbers) (k : ℕ) (words : List Words) (ranks new : List ℕ) (es : Entries) (d : Words) → IsNumbered numbers → es ≡ entries_of numbers k → AreMade numbers k words ranks →
+    d ≡ words_among es → IsStrictlySortedBy (slice_cmp nat_cmp) d → AreRanked es d ranks new → AreMade numbers (k + 1) (words ++ d ∷ []) new
+AreMade-push numbers k words ranks new es d sound is made d_is strict ranks_are =
+    let size = made.sizes in
+    let front : (f : ℕ) → f < k → get_or (words ++ d ∷ []) f [] ≡ get_or words f [] = λ f below. get_or_append_left words (d ∷ []) [] f (omega (arith, below, size)) in
+    let last : (f : ℕ) → k ≤ f → f < k + 1 → (f ≡ k) × (get_or (words ++ d ∷ []) f [] ≡ d) =
+    λ f from below. (let at : f ≡ length words = omega (arith, from, below, size) in (omega (arith, from, below), ap (λ (g : ℕ). get_or (words ++ d ∷ []) g []) at ∙ get_or-append_seam words d [] [])) in
+    record {
+      sizes = omega (arith, length-append words (d ∷ []), size);
+      room = ranks_are.sizes ∙ made.room;
+      words_are = λ f below. elim (cases_lt f k) [
+        | inl inside ↦ front f inside ∙ made.words_are f inside
+        | inr from ↦ (let l = last f from below in l.1 ∙ (d_is ∙ (ap words_among is ∙ ap (λ (g : ℕ). words_among (entries_of numbers g)) (sym l.0))))
+      ];
+      strict = λ f below. elim (cases_lt f k) [
+        | inl inside ↦ subst (IsStrictlySortedBy (slice_cmp nat_cmp)) (sym (front f inside)) (made.strict f inside)
+        | inr from ↦ (let l = last f from below in subst (IsStrictlySortedBy (slice_cmp nat_cmp)) (sym l.1) strict)
+      ];
+      placed = λ f n w below has. elim (cases_lt f k) [
+        | inl inside ↦
+            let none : (v : List ℕ) → number_in es v ≢ Some n = λ v (h : number_in es v ≡ Some n).
+            (let same = (sound.apart f k n w v has (ap (λ (xs : Entries). number_in xs v) (sym is) ∙ h)).0 in absurd (omega (arith, same, inside))) in
+            ap (λ (ws : Words). slice_get ws (get_or new n 0)) (front f inside) ∙ (ap (slice_get (get_or words f [])) (ranks_are.others n none) ∙ made.placed f n w inside has)
+        | inr from ↦ (let l = last f from below in
+            ap (λ (ws : Words). slice_get ws (get_or new n 0)) l.1 ∙ ranks_are.placed n w (ap (λ (xs : Entries). number_in xs w) is ∙ (ap (λ (g : ℕ). number_of numbers g w) (sym l.0) ∙ has)))
+      ];
+    }
+
+no-words : IsStrictlySortedBy (slice_cmp nat_cmp) []
+unfolding IsStrictlySortedBy
+no-words = tt
+
+entries-past : (numbers : WordNumbers) (f : ℕ) → length numbers.by_field.items ≤ f → entries_of numbers f ≡ []
+entries-past numbers f past = get_or_past (map (λ m. m.entries) numbers.by_field.items) f [] (omega (arith, past, length-map numbers.by_field.items (λ (m : BTreeMap Word ℕ). m.entries)))
+
+pub AreWords-made : (numbers : WordNumbers) (k : ℕ) (words : List Words) (ranks : List ℕ) → length numbers.by_field.items ≡ k → AreMade numbers k words ranks → AreWords numbers words × ArePlaced numbers words ranks
+AreWords-made numbers k words ranks all made =
+    let size = made.sizes in (
+      record {
+        sizes = size ∙ sym all;
+        words_are = λ f. elim (cases_lt f k) [
+          | inl inside ↦ made.words_are f inside
+          | inr past ↦ get_or_past words f [] (omega (arith, size, past)) ∙ ap words_among (sym (entries-past numbers f (omega (arith, all, past))))
+        ];
+        strict = λ f. elim (cases_lt f k) [
+          | inl inside ↦ made.strict f inside
+          | inr past ↦ subst (IsStrictlySortedBy (slice_cmp nat_cmp)) (sym (get_or_past words f [] (omega (arith, size, past)))) no-words
+        ];
+      },
+      λ f n w has. elim (cases_lt f k) [
+        | inl inside ↦ made.placed f n w inside has
+        | inr past ↦ (let none : number_in [] w ≡ Some n = ap (λ (es : Entries). number_in es w) (sym (entries-past numbers f (omega (arith, all, past)))) ∙ has in absurd (cc none))
+      ],
+    )
+
+-- the words that are met in rows are the words of their dictionaries
+pub AreDictionaries-made : (count : ℕ) (rows : List Laid) (empty numbers : WordNumbers) (words : List Words) → length empty.by_field.items ≡ count → HasNone empty → Notes empty numbers (λ f. flat_map (row_words f) rows) → AreWords numbers words → AreDictionaries count rows words
+AreDictionaries-made count rows empty numbers words size none notes are = record {
+  sizes = are.sizes ∙ (notes.sizes ∙ size);
+  same = λ f below. record {
+    strict = are.strict f;
+    kept = λ w has.
+        let n = numbered-some (number_of numbers f w) (notes.known f w has) in
+        subst (λ (ws : Words). Contains ws w) (sym (are.words_are f)) (word-numbered (entries_of numbers f) w n.0 n.1);
+    nothing_else = λ w has.
+        elim (notes.nothing_else f w (number-has (entries_of numbers f) w (subst (λ (ws : Words). Contains ws w) (are.words_are f) has))) [
+          | inl before ↦ (let n = numbered-some (number_of empty f w) before in absurd (cc (sym (none f w) ∙ n.1)))
+          | inr met ↦ met
+        ];
+  };
+}
+
+-- numbers that are put into their places show their words
+pub Shows-ranked : (numbers : WordNumbers) (words : List Words) (ranks : List ℕ) → ArePlaced numbers words ranks → Shows numbers (λ f s. by_words words f (ranked ranks s))
+Shows-ranked numbers words ranks placed = record {
+  whole = λ f n. refl;
+  word = λ f n w is. ap (λ (o : Option (List ℕ)). option_map_or scalar.Word o (scalar.Whole (pos 0))) (placed f n w is);
+  flag = λ f b. refl;
+}
+
+map-after : {X Y Z : Type 0} (f : Y → Z) (g : X → Y) (xs : List X) → map f (map g xs) ≡ map (λ x. f (g x)) xs
+map-after f g [] = refl
+map-after {X} {Y} {Z} f g (x ∷ xs) = ap (λ (zs : List Z). f (g x) ∷ zs) (map-after f g xs)
+
+fields-ranked : (show : Reader) (g : Stored → Stored) (xs : List Stored) (hs : List Held) → map (field_by show (map g xs)) hs ≡ map (field_by (λ f s. show f (g s)) xs) hs
+fields-ranked show g xs [] = refl
+fields-ranked show g xs (h ∷ hs) =
+    let values : map (show h.field) (cut (map g xs) h.span) ≡ map (λ s. show h.field (g s)) (cut xs h.span) = ap (map (show h.field)) (cut-map g xs h.span) ∙ map-after (show h.field) g (cut xs h.span) in
+    (λ i. record { field = h.field; values = values i } ∷ fields-ranked show g xs hs i)
+
+pub rows-ranked : (show : Reader) (g : Stored → Stored) (v w : Values) → w.rows.items ≡ v.rows.items → w.fields.items ≡ v.fields.items → w.stored.items ≡ map g v.stored.items → rows_by show w ≡ rows_by (λ f s. show f (g s)) v
+rows-ranked show g v w rows fields stored_is =
+    let same : fields_by show w ≡ fields_by (λ f s. show f (g s)) v =
+    ap (map (field_by show w.stored.items)) fields ∙ (ap (λ (xs : List Stored). map (field_by show xs) v.fields.items) stored_is ∙ fields-ranked show g v.stored.items v.fields.items) in
+    ap (map (cut (fields_by show w))) rows ∙ ap (λ (fs : List FieldValues). map (cut fs) v.rows.items) same
