@@ -16,7 +16,7 @@ use agg_model::{Failure, List, Refused, Text, Tripped, Usage, Which};
 use std::alloc::{AllocError, Global};
 
 /// The line of an error with these members.
-fn error_line(alloc: Global, members: Object, status: u16) -> Result<Text, AllocError>
+pub(crate) fn error_line(alloc: Global, members: Object, status: u16) -> Result<Text, AllocError>
     ensures { IfOk result (λ t. t ≡ compact_text (object_of
         ((codes "error", object (members_view members.members.entries)) ∷ (codes "status", count status) ∷ []))) }
 {
@@ -111,8 +111,9 @@ pub(crate) fn with_failures(
 }
 
 /// The line of a charge that a breaker refused. `label` says what the bytes were for, `search` or `columns`; `status` is
-/// 429 for a search and the program's exit status for columns. `failures` are the shards that had failed before, which a
-/// search with partial results leaves out.
+/// 429 for a search and for columns that are beyond a limit of a settings line, and the program's exit status for columns
+/// that it can't keep at all. `failures` are the shards that had failed before, which a search with partial results
+/// leaves out.
 pub fn exception(
     alloc: Global,
     tripped: &Tripped,

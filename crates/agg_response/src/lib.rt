@@ -1,5 +1,5 @@
 //! The lines that the program prints, each exactly the text that its definition gives: the answers to bulk actions,
-//! refusals, breakers' exceptions, statistics, and the last line of a run that ends early.
+//! refusals, breakers' exceptions, settings lines, statistics, and the last line of a run that ends early.
 #![tactic(auto)]
 
 mod answers;
@@ -10,6 +10,7 @@ mod json;
 mod keys;
 mod numbers;
 mod search_line;
+mod settings;
 mod statistics;
 #[cfg(test)]
 mod tests;
@@ -17,4 +18,5 @@ mod tests;
 pub use bulk::bulk_line;
 pub use errors::{exception, refusal, script_line, usage_line};
 pub use search_line::response;
+pub use settings::settings_line;
 pub use statistics::stats_line;

@@ -1,4 +1,4 @@
-use crate::{bulk_line, exception, refusal, script_line, stats_line, usage_line};
+use crate::{bulk_line, exception, refusal, script_line, settings_line, stats_line, usage_line};
 use agg_model::{
     ActionKind, Applied, BreakerStats, Failure, Item, ItemEnd, ItemRefusal, List, Refused, Text,
     Totals, Tripped, Usage, Which,
@@ -116,6 +116,19 @@ fn each_refusal_of_a_search_has_its_line(rt: HostRuntime) -> Result<(), Fail> {
     assert!(rt;
         line.as_str()
             == "{\"error\":{\"reason\":\"the search is too wide\",\"type\":\"too_wide_exception\"},\"status\":400}"
+    );
+    Ok(())
+}
+
+#[test]
+fn a_settings_line_is_acknowledged_or_refused(rt: HostRuntime) -> Result<(), Fail> {
+    let line = settings_line(rt.alloc(), None)?;
+    assert!(rt; line.as_str() == "{\"acknowledged\":true}");
+    let name = Text::of(rt.alloc(), "search.max_buckets")?;
+    let line = settings_line(rt.alloc(), Some(&name))?;
+    assert!(rt;
+        line.as_str()
+            == "{\"error\":{\"key\":\"search.max_buckets\",\"type\":\"settings_exception\"},\"status\":400}"
     );
     Ok(())
 }

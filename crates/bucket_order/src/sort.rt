@@ -31,7 +31,9 @@ pub fn sort_by_key(buckets: &mut Vec<Bucket>) -> Result<(), AllocError>
     buckets.sort_by(|a, b| compare_keys(&a.key, &b.key))
 }
 
-/// Puts buckets of composite keys in the order of the sources.
+/// Puts buckets of composite keys in the order of the sources, which is total only on keys with a part for each source.
+/// So it has a condition on keys, by the word that a search's `after` is asked by (`is_composite_of`). All other orders
+/// have none.
 pub fn sort_composites(
     sources: &List<CompositeSource>,
     buckets: &mut Vec<Bucket>,

@@ -43,7 +43,6 @@ use Rattle.terms_agg.specs.Trim.{trimmed}
 use Rattle.terms_agg.proofs.TrimLaws.{trimmed-Terms}
 use Rattle.keyword_documents.specs.SmallForm.{keyword_field}
 use Rattle.agg_evaluation.specs.Finishable.{is_finishable, can_finish, terms_fit}
-use Rattle.agg_evaluation.specs.Conditions.{has_intervals}
 use Rattle.document_terms.specs.Terms.{words_of, counted_bucket, times, term_node}
 use Rattle.document_terms.specs.SmallSearch.{terms_aggregation, IsTermsSearch, HaveKeywords}
 use Rattle.std.proofs.lemmas.List.{length-take}
@@ -213,10 +212,6 @@ module _ (words : List (List ℕ)) where
       let finishable : T (is_finishable agg node) = both (is_tree_of agg node) (terms_fit (parts node)) tree fit in
       both (is_finishable agg node) true finishable tt
 
-have-intervals : (name : List ℕ) → T (list_all has_intervals (terms_aggregation name ∷ []))
-unfolding computing
-have-intervals name = tt
-
 module _ (search : Search) (ds : List Document) (form : IsTermsSearch search) (h : HaveKeywords ds) where
   abbrev shown_words : List (List ℕ)
   shown_words = words_of keyword_field ds
@@ -231,10 +226,9 @@ module _ (search : Search) (ds : List Document) (form : IsTermsSearch search) (h
   can-finish few =
       let is_result = subst (λ nodes. T (pass_each (map is_tree_of search.aggs) nodes)) their-nodes (shard_answer-is_result search (rows_in ds)) in
       let is_tree = subst (λ aggs. T (pass_each (map is_tree_of aggs) (nodes_of shown_words aggs))) form.1.1 is_result in
-      both (list_all has_intervals search.aggs) (pass_each (map is_finishable search.aggs) shard.nodes) (subst (λ aggs. T (list_all has_intervals aggs)) (sym form.1.1) (have-intervals form.1.0))
-      (subst (λ nodes. T (pass_each (map is_finishable search.aggs) nodes)) (sym their-nodes)
+      subst (λ nodes. T (pass_each (map is_finishable search.aggs) nodes)) (sym their-nodes)
       (subst (λ aggs. T (pass_each (map is_finishable aggs) (nodes_of shown_words aggs))) (sym form.1.1)
-      (finishes shown_words form.1.0 (let few_words = length-words keyword_field ds in omega (arith, few, few_words)) is_tree)))
+      (finishes shown_words form.1.0 (let few_words = length-words keyword_field ds in omega (arith, few, few_words)) is_tree))
 
   pub none-out-of-range : out_of_range search (final search shard) ≡ None
   none-out-of-range =

@@ -46,6 +46,8 @@ use Rattle.list_laws.proofs.Each.{sum_by-sorted}
 use Rattle.bucket_order.proofs.SameOrder.{list_all-sorted}
 use Rattle.agg_evaluation.specs.Finishable.{is_finishable, is_finishable_at, is_histogram_key, fits_at, can_finish}
 use Rattle.agg_evaluation.specs.Conditions.{has_interval, has_intervals}
+use Rattle.agg_evaluation.specs.SearchFits.{IsMade}
+use Rattle.agg_evaluation.proofs.MadeSearches.{made_intervals}
 use Rattle.final_reduce.specs.Steps.{key_numbers}
 use Rattle.final_reduce.specs.Planned.{returned_at, gap_count, gaps_of, planned_below, planned_at, planned_of_nothing, member_number, fixed_count}
 use Rattle.bucket_order.specs.Kinds.{child_kinds}
@@ -363,10 +365,8 @@ all-agree (a ∷ rest) has =
     (agrees a parts.0, all-agree rest parts.1)
 
 -- what is planned on the whole is what the final answer has
-pub planned-is-total : (search : Search) (p : Partial) → can_finish search p ≡ true → planned_buckets search p ≡ total_buckets search (final search p)
-planned-is-total search p can =
-    let parts = and_parts _ _ can in
-    ap (λ n. min n greatest_count) (each-counted _ _ _ _ (all-agree search.aggs parts.0) p.nodes parts.1)
+pub planned-is-total : (search : Search) (p : Partial) → IsMade search → can_finish search p ≡ true → planned_buckets search p ≡ total_buckets search (final search p)
+planned-is-total search p made can = ap (λ n. min n greatest_count) (each-counted _ _ _ _ (all-agree search.aggs (made_intervals search made)) p.nodes can)
 
 -- the buckets of an answer over no rows
 module _ (ps : List Plan) where

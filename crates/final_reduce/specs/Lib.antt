@@ -3,6 +3,7 @@ pub mod Counts
 pub mod Paths
 pub mod Planned
 pub mod SampleGaps
+pub mod SampleMapping
 pub mod SampleTerms
 pub mod Selection
 pub mod Steps

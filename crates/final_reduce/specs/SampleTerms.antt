@@ -1,18 +1,20 @@
 -- Terms as the tests have them.
-use Rattle.std.specs.Prelude.{◌≡◌, ℕ, List, [], ⊤}
+use Rattle.std.specs.Prelude.{◌≡◌, ℕ, Bool, true, List, [], ◌∷◌, None}
 use Rattle.agg_model.specs.declared.key.Key.TheVariants.{Word}
 use Rattle.agg_model.specs.declared.partial.Bucket.{Bucket}
 use Rattle.agg_model.specs.declared.aggregation.Kind.{Kind}
-use Rattle.agg_model.specs.Options.{Options, options_of}
+use Rattle.agg_model.specs.declared.aggregation.Kind.TheVariants as kind
+use Rattle.agg_model.specs.declared.aggregation.OrderBy.TheVariants as by
 use Rattle.agg_model.specs.declared.aggregation.Agg.{Agg}
 use Rattle.agg_model.specs.declared.aggregation.Agg.TheOpen.{Agg-F}
 
 abbrev pub returned_bucket : List ℕ → ℕ → ℕ → Bucket
 returned_bucket word count covered = record { key = Word word; count = count; covered = covered; children = [] }
 
-abbrev pub IsTermsKind : Kind → Type 0
-IsTermsKind k = elim (options_of k) [ Options.Terms t ↦ ⊤ | _ ↦ ⊥ ]
+-- the first term by count
+abbrev pub first_by_count : Bool → Kind
+first_by_count descending = kind.Terms 0 1 1 1 (record { by = by.Count; descending = descending } ∷ []) None [] None true
 
--- an aggregation of terms with none below it
-abbrev pub IsTermsAlone : Agg-F Agg → Type 0
-IsTermsAlone a = IsTermsKind a.kind × (a.children ≡ [])
+-- with no aggregation below it
+abbrev pub IsFirstByCount : Bool → Agg-F Agg → Type 0
+IsFirstByCount descending a = (a.kind ≡ first_by_count descending) × (a.children ≡ [])

@@ -2,6 +2,7 @@ ghost use Rattle.std.specs.Prelude.{IfOk, IfErr, IsTrue, ◌≡◌};
 ghost use Rattle.agg_spec.specs.Final.{final as final_answer};
 ghost use Rattle.final_reduce.specs.Causes.{IsCause, IsWithinLimits};
 ghost use Rattle.agg_evaluation.specs.Finishable.{can_finish};
+ghost use Rattle.agg_evaluation.specs.SearchFits.{IsMade};
 ghost use Rattle.final_reduce.specs.declared.finishing.FinalFault.TheVariants.{Memory as OutOfMemory};
 
 use crate::answer::finish_each;
@@ -34,14 +35,15 @@ impl From<AllocError> for FinalFault {
     }
 }
 
-/// The final answer to a search, given the whole of the shard answers.
+/// The final answer to a search that is made for a mapping, given the whole of the shard answers.
 pub fn finish(
     alloc: Global,
     search: &Search,
     max_buckets: u64,
     whole: Partial,
 ) -> Result<Answer, FinalFault>
-    requires { IsTrue (can_finish search.now whole) }
+    requires made { IsMade search.now }
+    requires whole { IsTrue (can_finish search.now whole) }
     ensures answer { IfOk result (λ answer. answer ≡ final_answer search.now whole) }
     ensures within_limits { IfOk result (IsWithinLimits search.now max_buckets) }
     ensures fault { IfErr result (IsCause search.now max_buckets (final_answer search.now whole)) }

@@ -1,15 +1,18 @@
-ghost use Rattle.std.specs.Prelude.{◌≡◌, ◌<◌, [], IfOk, IsTrue, map};
+ghost use Rattle.std.specs.Prelude.{◌≡◌, ◌<◌, ◌^◌, [], None, IfOk, IsTrue, map};
 ghost use Rattle.std.specs.List.{list_all};
 ghost use Rattle.agg_model.specs.declared.aggregation.Agg.{out-Agg};
+ghost use Rattle.agg_model.specs.declared.aggregation.Kind.TheVariants.{Sum};
 ghost use Rattle.agg_model.specs.declared.key.Key.TheVariants.{Whole};
 ghost use Rattle.agg_model.specs.declared.partial.Node.TheVariants.{Keyed};
 ghost use Rattle.agg_evaluation.specs.Finishable.{can_finish, is_histogram_key};
-ghost use Rattle.agg_evaluation.specs.Conditions.{has_interval};
+ghost use Rattle.agg_evaluation.specs.SearchFits.{IsMade};
 ghost use Rattle.final_reduce.specs.SampleGaps.{IsHistogram, counted_bucket, no_bounds, rises};
 
 use crate::finishing::{FinalFault, finish};
 use crate::tests::{Sample, of_one, one};
-use agg_model::{Agg, Answer, Bounds, Bucket, BucketAnswer, Key, Kind, List, Node, Text};
+use agg_model::{
+    Agg, Answer, Bounds, Bucket, BucketAnswer, Key, Kind, List, Node, Order, OrderBy, Text,
+};
 use std::alloc::{AllocError, Global};
 use std::test::Fail;
 
@@ -23,10 +26,14 @@ fn histogram(
 ) -> Result<Agg, AllocError>
     ensures { IfOk result (λ agg. IsHistogram interval offset extended children (out-Agg agg)) }
 {
+    let by_key = Order {
+        by: OrderBy::Key,
+        descending: false,
+    };
     Ok(Agg {
         name: Text::of(alloc, "h")?,
         kind: Kind::Histogram {
-            field: 0,
+            field: 1,
             interval,
             offset,
             min_doc_count: 0,
@@ -36,7 +43,7 @@ fn histogram(
                 max: None,
             },
             keyed: false,
-            order: List::new(alloc),
+            order: one(alloc, by_key)?,
             missing: None,
         },
         children,
@@ -77,9 +84,12 @@ fn of_keys(
     keys: &[(i64, u64)],
 ) -> Result<Sample, AllocError>
     requires positive { 0 < interval }
+    requires below { interval < 2 ^ 63 }
+    requires offset { offset < interval }
     requires ascending { IsTrue (rises keys.now) }
     requires keys { IsTrue (list_all (λ p. is_histogram_key interval offset no_bounds (Whole p.0)) keys.now) }
-    ensures { IfOk result (λ sample. IsTrue (can_finish sample.search sample.whole)) }
+    ensures made { IfOk result (λ sample. IsMade sample.search) }
+    ensures whole { IfOk result (λ sample. IsTrue (can_finish sample.search sample.whole)) }
 {
     let none = Bounds {
         min: None,
@@ -92,7 +102,8 @@ fn of_keys(
 
 /// A histogram with no bucket, from 0 to 10, over a sum.
 fn of_nothing(alloc: Global) -> Result<Sample, AllocError>
-    ensures { IfOk result (λ sample. IsTrue (can_finish sample.search sample.whole)) }
+    ensures made { IfOk result (λ sample. IsMade sample.search) }
+    ensures whole { IfOk result (λ sample. IsTrue (can_finish sample.search sample.whole)) }
 {
     let extended = Bounds {
         min: Some(0),
@@ -104,13 +115,13 @@ fn of_nothing(alloc: Global) -> Result<Sample, AllocError>
 }
 
 fn sum(alloc: Global) -> Result<Agg, AllocError>
-    ensures interval { IfOk result (λ agg. IsTrue (has_interval (out-Agg agg).kind)) }
+    ensures kind { IfOk result (λ agg. (out-Agg agg).kind ≡ Sum 1 None) }
     ensures alone { IfOk result (λ agg. (out-Agg agg).children ≡ []) }
 {
     Ok(Agg {
         name: Text::of(alloc, "s")?,
         kind: Kind::Sum {
-            field: 0,
+            field: 1,
             missing: None,
         },
         children: List::new(alloc),

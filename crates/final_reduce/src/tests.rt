@@ -1,10 +1,11 @@
-ghost use Rattle.std.specs.Prelude.{◌≡◌, ◌+◌, ◌∷◌, [], IfOk, IsTrue, codes};
+ghost use Rattle.std.specs.Prelude.{◌≡◌, ◌+◌, ◌∷◌, [], true, IfOk, IsTrue, codes};
 ghost use Rattle.agg_model.specs.declared.key.Key.TheVariants.{Word};
 ghost use Rattle.agg_model.specs.declared.aggregation.Agg.{out-Agg};
 ghost use Rattle.agg_model.specs.declared.partial.Node.TheVariants.{Keyed};
 ghost use Rattle.agg_evaluation.specs.Finishable.{can_finish, is_finishable};
-ghost use Rattle.agg_evaluation.specs.Conditions.{has_interval, has_intervals};
-ghost use Rattle.final_reduce.specs.SampleTerms.{IsTermsAlone, returned_bucket};
+ghost use Rattle.agg_evaluation.specs.SearchFits.{IsMade, agg_fits};
+ghost use Rattle.final_reduce.specs.SampleMapping.{sample_mapping};
+ghost use Rattle.final_reduce.specs.SampleTerms.{IsFirstByCount, returned_bucket};
 
 use crate::finishing::finish;
 use agg_model::{
@@ -30,9 +31,10 @@ pub(crate) fn one<T: Drop>(alloc: Global, item: T) -> Result<List<T>, AllocError
 
 /// A search for one aggregation, of which the whole has this node.
 pub(crate) fn of_one(alloc: Global, agg: Agg, node: Node) -> Result<Sample, AllocError>
-    requires intervals { IsTrue (has_intervals agg) }
+    requires made { IsTrue (agg_fits sample_mapping true 0 agg) }
     requires node { IsTrue (is_finishable agg node) }
-    ensures { IfOk result (λ sample. IsTrue (can_finish sample.search sample.whole)) }
+    ensures made { IfOk result (λ sample. IsMade sample.search) }
+    ensures whole { IfOk result (λ sample. IsTrue (can_finish sample.search sample.whole)) }
 {
     Ok(Sample {
         search: Search {
@@ -81,10 +83,13 @@ fn both(
     })
 }
 
-fn first_term(alloc: Global, order: Order) -> Result<Agg, AllocError>
-    ensures terms { IfOk result (λ agg. IsTermsAlone (out-Agg agg)) }
-    ensures interval { IfOk result (λ agg. IsTrue (has_interval (out-Agg agg).kind)) }
+fn first_term(alloc: Global, descending: bool) -> Result<Agg, AllocError>
+    ensures { IfOk result (λ agg. IsFirstByCount descending (out-Agg agg)) }
 {
+    let order = Order {
+        by: OrderBy::Count,
+        descending,
+    };
     Ok(Agg {
         name: Text::of(alloc, "t")?,
         kind: Kind::Terms {
@@ -104,16 +109,17 @@ fn first_term(alloc: Global, order: Order) -> Result<Agg, AllocError>
 
 fn sample_of(
     alloc: Global,
-    order: Order,
+    descending: bool,
     a: u32,
     a_covered: u32,
     b: u32,
     b_covered: u32,
     cut: u32,
 ) -> Result<Sample, AllocError>
-    ensures { IfOk result (λ sample. IsTrue (can_finish sample.search sample.whole)) }
+    ensures made { IfOk result (λ sample. IsMade sample.search) }
+    ensures whole { IfOk result (λ sample. IsTrue (can_finish sample.search sample.whole)) }
 {
-    let agg = first_term(alloc, order)?;
+    let agg = first_term(alloc, descending)?;
     let node = both(alloc, a, a_covered, b, b_covered, cut)?;
     of_one(alloc, agg, node)
 }
@@ -135,11 +141,7 @@ fn has_one(node: &NodeAnswer, word: &str, count: u64, errors: (i64, i64), other:
 
 #[test]
 fn two_shards_cut_to_one_term_leave_an_error(rt: HostRuntime) -> Result<(), Fail> {
-    let order = Order {
-        by: OrderBy::Count,
-        descending: true,
-    };
-    let Sample { search, whole } = sample_of(rt.alloc(), order, 3, 3, 3, 3, 3)?;
+    let Sample { search, whole } = sample_of(rt.alloc(), true, 3, 3, 3, 3, 3)?;
     match finish(rt.alloc(), &search, 1, whole) {
         Ok(answer) => match answer.nodes.as_slice() {
             [node] => assert!(rt; has_one(node, "a", 3, (3, 6), 6)),
@@ -152,11 +154,7 @@ fn two_shards_cut_to_one_term_leave_an_error(rt: HostRuntime) -> Result<(), Fail
 
 #[test]
 fn by_rising_count_the_error_is_unknown(rt: HostRuntime) -> Result<(), Fail> {
-    let order = Order {
-        by: OrderBy::Count,
-        descending: false,
-    };
-    let Sample { search, whole } = sample_of(rt.alloc(), order, 1, 1, 2, 2, 6)?;
+    let Sample { search, whole } = sample_of(rt.alloc(), false, 1, 1, 2, 2, 6)?;
     match finish(rt.alloc(), &search, 1, whole) {
         Ok(answer) => match answer.nodes.as_slice() {
             [node] => assert!(rt; has_one(node, "a", 1, (-1, -1), 8)),

@@ -8,13 +8,17 @@ use Rattle.agg_spec.specs.RangeCheck.{out_of_range}
 use Rattle.final_reduce.specs.Causes.{IsCause}
 use Rattle.agg_evaluation.specs.Finishable.{can_finish}
 use Rattle.document_answer.proofs.LimitLaws.{can-finish, none-out-of-range, at-most-ten, whole-is}
+use Rattle.document_answer.proofs.MadeSearch.{is-made}
 use Rattle.document_answer.proofs.answer.answer_of.Goals as goal
 
 pub finish-requires : goal.finish-requires
 finish-requires c =
     let search = c.args.search.now in
-    true_is (can_finish search c.in_ok-partial.partial)
-    (subst (λ p. T (can_finish search p)) (sym c.in_ok-partial.ensures) (can-finish search c.args.documents.now c.requires.search c.requires.documents c.requires.few))
+    record {
+      made = is-made search c.requires.search;
+      whole = true_is (can_finish search c.in_ok-partial.partial)
+          (subst (λ p. T (can_finish search p)) (sym c.in_ok-partial.ensures) (can-finish search c.args.documents.now c.requires.search c.requires.documents c.requires.few));
+    }
 
 pub returns-in-Ok-clause-answer : goal.returns-in-Ok-clause-answer
 returns-in-Ok-clause-answer c =
