@@ -1,61 +1,16 @@
--- The places of a store as its entries: a look-up, a put, and what the live documents weigh after it.
+-- What the live documents of a store weigh and how many there are, after a put too, and the live documents from a place on.
 use Rattle.std.proofs.Common.{add-one, ◌≡◌, ◌≢◌, refl, zero, suc, get_or, drop, slice_get, ℕ, ◌+◌, ◌-◌, ◌^◌, ◌<◌, ◌≤◌, Bool, true, false, ◌||◌, cond, if◌then◌else◌, min, length, List, [], ◌∷◌, ◌++◌, map, Option, None, Some, sym, ◌∙◌, ap, subst, arith}
-use Rattle.std.specs.List.{sum_by, find, list_any, IsDistinct, AllByRecursion}
+use Rattle.std.specs.List.{sum_by}
 use Rattle.std.specs.Option.{option_map, option_map_or, option_and_then, option_to_list}
 use Rattle.std.specs.Str.{bytes_eq}
-use Rattle.std.specs.Cmp.Lexicographic.{nat_list_eq_equiv}
 use Rattle.std.proofs.Math.Seq.{drop-cons}
-use Rattle.std.proofs.lemmas.List.{drop_all}
+use Rattle.std.proofs.lemmas.List.{drop_all, get_or-map, length-map}
 use Rattle.std.proofs.lemmas.List.Sums.{sum_by-append, sum_by-cons}
-use Rattle.indexmap.specs.IndexSet.{replace_key}
-use Rattle.std.specs.Set.{swap_key}
 use Rattle.agg_model.specs.declared.row.Document.{Document}
 use Rattle.agg_reading.specs.Store.{Store, live_at, with_document, live_documents, weight, store_weight}
 use Rattle.agg_documents.specs.declared.slot.Slot.{Slot}
-use Rattle.agg_documents.specs.Slots.{id_of, document_in, same_id, entries_of}
+use Rattle.agg_documents.specs.Slots.{id_of, document_in, entries_of}
 use Rattle.agg_documents.proofs.Weighing.{row_weighs}
-
-either_way : (a b : List ℕ) → bytes_eq a b ≡ bytes_eq b a
-either_way = nat_list_eq_equiv.symm
-
--- ---- look-up
-
-found_step : (b : Bool) (s : Slot) (rest : Option Slot) (live : Option Document) → live ≡ option_and_then document_in rest → (if b then document_in s else live) ≡ option_and_then document_in (cond b (Some s) rest)
-found_step true s rest live h = refl
-found_step false s rest live h = h
-
-pub live_at-found : (k : Slot) (slots : List Slot) → live_at (id_of k) (entries_of slots) ≡ option_and_then document_in (find (same_id k) slots)
-unfolding live_at
-live_at-found k [] = refl
-live_at-found k (s ∷ ss) =
-    ap (λ (b : Bool). if b then document_in s else live_at (id_of k) (entries_of ss)) (either_way (id_of s) (id_of k))
-    ∙ found_step (same_id k s) s (find (same_id k) ss) (live_at (id_of k) (entries_of ss)) (live_at-found k ss)
-
--- ---- put
-
-put_step : (here later : Bool) (k s : Slot) (ss swapped : List Slot) (rest : Store) → entries_of (if later then swapped else ss ++ k ∷ []) ≡ rest →
-    entries_of (if here || later then cond here (k ∷ ss) (s ∷ swapped) else (s ∷ ss) ++ k ∷ []) ≡ (if here then (id_of k, document_in k) ∷ entries_of ss else (id_of s, document_in s) ∷ rest)
-put_step true later k s ss swapped rest h = refl
-put_step false true k s ss swapped rest h = ap (λ (es : Store). (id_of s, document_in s) ∷ es) h
-put_step false false k s ss swapped rest h = ap (λ (es : Store). (id_of s, document_in s) ∷ es) h
-
-pub entries-put : (k : Slot) (slots : List Slot) → entries_of (replace_key same_id slots k) ≡ with_document (id_of k) (document_in k) (entries_of slots)
-unfolding with_document
-entries-put k [] = refl
-entries-put k (s ∷ ss) =
-    put_step (same_id k s) (list_any (same_id k) ss) k s ss (swap_key (same_id k) ss k) (with_document (id_of k) (document_in k) (entries_of ss)) (entries-put k ss)
-    ∙ ap (λ (b : Bool). if b then (id_of k, document_in k) ∷ entries_of ss else (id_of s, document_in s) ∷ with_document (id_of k) (document_in k) (entries_of ss)) (either_way (id_of k) (id_of s))
-
--- ---- distinct ids
-
-apart_from : (k : Slot) (slots : List Slot) → AllByRecursion (λ s. same_id k s ≡ false) slots → AllByRecursion (λ id. bytes_eq (id_of k) id ≡ false) (map (λ e. e.0) (entries_of slots))
-apart_from k [] h = h
-apart_from k (s ∷ ss) h = (h.0, apart_from k ss h.1)
-
-pub ids-distinct : (slots : List Slot) → IsDistinct same_id slots → IsDistinct bytes_eq (map (λ e. e.0) (entries_of slots))
-unfolding IsDistinct
-ids-distinct [] h = h
-ids-distinct (s ∷ ss) h = (apart_from s ss h.0, ids-distinct ss h.1)
 
 -- ---- sums over the live documents
 
@@ -91,6 +46,11 @@ module _ (f : Document → ℕ) where
   unfolding live_at
   live-within id [] = omega arith
   live-within id (e ∷ es) = live_step (bytes_eq e.0 id) e.0 e.1 (live_at id es) es (live-within id es)
+
+  pub at-within : (es : Store) (p : ℕ) (e : List ℕ × Option Document) → p < length es → option_map_or f (get_or es p e).1 0 ≤ measure es
+  at-within [] p e below = absurd (omega (arith, below))
+  at-within (x ∷ es) zero e below = omega (arith, measure-cons x.0 x.1 es)
+  at-within (x ∷ es) (suc p) e below = omega (arith, at-within es p e (omega (arith, below)), measure-cons x.0 x.1 es)
 
 -- ---- the weight and the number of live documents
 
@@ -130,24 +90,20 @@ count-put id o es = omega (arith, count-measure (with_document id o es), count-m
 pub weight-within : (id : List ℕ) (es : Store) → option_map_or weight (live_at id es) 0 ≤ store_weight es
 weight-within id es = omega (arith, weight-measure es, live-within weight id es)
 
--- ---- the weight of what a look-up finds
+-- the document at a place weighs no more than the store
+pub weight-at : (es : Store) (p : ℕ) (e : List ℕ × Option Document) → p < length es → option_map_or weight (get_or es p e).1 0 ≤ store_weight es
+weight-at es p e below = omega (arith, weight-measure es, at-within weight es p e below)
 
-live_at-is : (k s : Slot) (slots : List Slot) → find (same_id k) slots ≡ Some s → live_at (id_of k) (entries_of slots) ≡ document_in s
-live_at-is k s slots found = live_at-found k slots ∙ ap (option_and_then document_in) found
-
-pub weight-none : (k : Slot) (slots : List Slot) → find (same_id k) slots ≡ None → None ≡ option_map weight (live_at (id_of k) (entries_of slots))
-weight-none k slots found = sym (ap (option_map weight) (live_at-found k slots ∙ ap (option_and_then document_in) found))
-
-pub weight-gone : (k s : Slot) (slots : List Slot) → find (same_id k) slots ≡ Some s → document_in s ≡ None → None ≡ option_map weight (live_at (id_of k) (entries_of slots))
-weight-gone k s slots found gone = sym (ap (option_map weight) (live_at-is k s slots found ∙ gone))
-
-pub weight-live : (k s : Slot) (slots : List Slot) (d : Document) (n : ℕ) → find (same_id k) slots ≡ Some s → document_in s ≡ Some d → n ≡ min (weight d) (2 ^ 64 - 1) →
-    store_weight (entries_of slots) < 2 ^ 32 → Some n ≡ option_map weight (live_at (id_of k) (entries_of slots))
-weight-live k s slots d n found live is light =
-    let at : live_at (id_of k) (entries_of slots) ≡ Some d = live_at-is k s slots found ∙ live in
-    let within : weight d ≤ store_weight (entries_of slots) = subst (λ (o : Option Document). option_map_or weight o 0 ≤ store_weight (entries_of slots)) at (weight-within (id_of k) (entries_of slots)) in
+-- the weight of the document of a place, as it is read there
+pub weight-found : (slots : List Slot) (s : Slot) (d : Document) (p n : ℕ) → p < length (entries_of slots) → s ≡ get_or slots p s → Some d ≡ document_in s → n ≡ min (weight d) (2 ^ 64 - 1) →
+    store_weight (entries_of slots) < 2 ^ 32 → Some n ≡ option_map weight (get_or (entries_of slots) p ([], None)).1
+weight-found slots s d p n below is live read light =
+    let entry : Slot → List ℕ × Option Document = λ t. (id_of t, document_in t) in
+    let at : get_or (entries_of slots) p ([], None) ≡ entry s = get_or-map entry slots p s ([], None) (subst (λ (m : ℕ). p < m) (length-map slots entry) below) ∙ ap entry (sym is) in
+    let here : (get_or (entries_of slots) p ([], None)).1 ≡ Some d = ap (λ (e : List ℕ × Option Document). e.1) at ∙ sym live in
+    let within : weight d ≤ store_weight (entries_of slots) = subst (λ (o : Option Document). option_map_or weight o 0 ≤ store_weight (entries_of slots)) here (weight-at (entries_of slots) p ([], None) below) in
     let exact : n ≡ weight d = omega arith in
-    ap Some exact ∙ sym (ap (option_map weight) at)
+    ap Some exact ∙ sym (ap (option_map weight) here)
 
 -- ---- the live documents from a place on
 

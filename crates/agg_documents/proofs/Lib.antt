@@ -1,4 +1,5 @@
 pub mod Dealing
 pub mod Entries
+pub mod Places
 pub mod Putting
 pub mod Weighing

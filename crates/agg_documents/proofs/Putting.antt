@@ -1,15 +1,18 @@
 -- What a put or a delete answers, by the numbers that the store keeps.
-use Rattle.std.proofs.Common.{◌≡◌, refl, ℕ, ◌+◌, ◌-◌, ◌^◌, ◌<◌, ◌≤◌, Bool, true, false, ◌&&◌, if◌then◌else◌, min, nat_lt, length, List, [], Option, None, Some, Ok, sym, ◌∙◌, ap, arith}
+use Rattle.std.proofs.Common.{◌≡◌, refl, ℕ, ◌+◌, ◌-◌, ◌^◌, ◌<◌, ◌≤◌, Bool, true, false, ◌&&◌, if◌then◌else◌, min, nat_lt, get_or, length, List, [], Option, None, Some, Ok, sym, ◌∙◌, ap, arith}
 use Rattle.std.specs.Option.{option_map, option_map_or, unwrap_or, is_some}
 use Rattle.std.proofs.lemmas.Bool.{lt-ltb, le-ltb}
 use Rattle.agg_model.specs.declared.row.Row.{Row}
 use Rattle.agg_model.specs.declared.row.Document.{Document}
 use Rattle.agg_model.specs.declared.bulk.Action.{Action}
+use Rattle.agg_model.specs.declared.bulk.ActionKind.{ActionKind}
 use Rattle.agg_model.specs.declared.bulk.Applied.{Applied}
-use Rattle.agg_model.specs.declared.bulk.Applied.TheVariants.{Created, Updated}
+use Rattle.agg_model.specs.declared.bulk.Applied.TheVariants.{Created, Updated, Deleted, NotFound}
 use Rattle.agg_reading.specs.Reading.{Reading, refuse}
-use Rattle.agg_reading.specs.Store.{Store, live_at, with_document, live_documents, weight, store_weight, is_create, kept, put_row}
+use Rattle.agg_reading.specs.Store.{Store, live_at, with_document, live_documents, weight, store_weight, is_create, kept, put_row, deleted}
+use Rattle.agg_documents.specs.Slots.{ids, place_of}
 use Rattle.agg_documents.proofs.Entries.{one, weight-put, count-put, weight-within}
+use Rattle.agg_documents.proofs.Places.{new-live, found-live}
 
 -- ---- what is known of the document that is replaced, by its weight
 
@@ -29,6 +32,21 @@ pub is_live : (o : Option Document) → is_some (option_map weight o) ≡ is_som
 is_live None = refl
 is_live (Some d) = refl
 
+-- ---- by the place of an id
+
+pub new-is : (id : List ℕ) (es : Store) → place_of id (ids es) ≡ None → None ≡ option_map weight (live_at id es)
+new-is id es new = sym (ap (option_map weight) (new-live id es new))
+
+pub found-is : (id : List ℕ) (es : Store) (p : ℕ) (r : Option ℕ) (d : List ℕ × Option Document) → place_of id (ids es) ≡ Some p → r ≡ option_map weight (get_or es p d).1 → r ≡ option_map weight (live_at id es)
+found-is id es p r d found is = is ∙ sym (ap (option_map weight) (found-live id es p d found))
+
+pub never_create : (kind : ActionKind) → false ≡ (is_create kind && is_some {T = ℕ} None)
+never_create kind = with_false (is_create kind)
+  where
+    with_false : (b : Bool) → false ≡ (b && false)
+    with_false true = refl
+    with_false false = refl
+
 -- ---- delete
 
 pub gone-live : (id : List ℕ) (es : Store) (w live : ℕ) → Some w ≡ option_map weight (live_at id es) → live ≡ length (live_documents es) →
@@ -44,6 +62,27 @@ gone-weight id es w all found is =
     let m = measured (live_at id es) w found in
     let n = weight-put id None es in
     (omega (arith, m.0, n, is), omega (arith, m.0, n, is))
+
+pub deleted-new : (id : List ℕ) (es : Store) → live_at id es ≡ None → (NotFound, es) ≡ deleted id es
+unfolding deleted
+deleted-new id es gone = sym (ap (λ (o : Option Document). if is_some o then (Deleted, with_document id None es) else (NotFound, es)) gone)
+
+no_document : (o : Option Document) → None ≡ option_map weight o → o ≡ None
+no_document None h = refl
+no_document (Some d) h = absurd (cc)
+
+pub deleted-gone : (id : List ℕ) (es : Store) → None ≡ option_map weight (live_at id es) → (NotFound, es) ≡ deleted id es
+deleted-gone id es gone = deleted-new id es (no_document (live_at id es) gone)
+
+some_document : (o : Option Document) (w : ℕ) → Some w ≡ option_map weight o → is_some o ≡ true
+some_document None w h = absurd (cc)
+some_document (Some d) w h = refl
+
+pub deleted-live : (id : List ℕ) (es new : Store) (w : ℕ) → Some w ≡ option_map weight (live_at id es) → new ≡ with_document id None es → (Deleted, new) ≡ deleted id es
+unfolding deleted
+deleted-live id es new w live placed =
+    ap (λ (e : Store). (Deleted, e)) placed
+    ∙ sym (ap (λ (b : Bool). if b then (Deleted, with_document id None es) else (NotFound, es)) (some_document (live_at id es) w live))
 
 -- ---- put
 

@@ -1,6 +1,6 @@
 //! The store of the live documents, and the bulk actions that change it.
 
-ghost use Rattle.std.specs.Prelude.{◌≡◌, ◌&&◌, ◌<◌, ◌≤◌, [], length, map, option_copied, slice_get, sum_by, IfOk, OnOk, OnErr};
+ghost use Rattle.std.specs.Prelude.{◌≡◌, ◌&&◌, ◌<◌, ◌≤◌, [], None, Some, length, map, option_copied, slice_get, slice_index_or, sum_by, IfOk, OnErr};
 ghost use Rattle.std.specs.List.{IsDistinct};
 ghost use Rattle.std.specs.Option.{option_map};
 ghost use Rattle.std.specs.Str.{bytes_eq};
@@ -8,18 +8,19 @@ ghost use Rattle.agg_model.specs.MappingOrder.{IsOrdered};
 ghost use Rattle.agg_reading.specs.Store.{applied, deleted, is_create, live_at, live_documents, put_row, shards_of, store_weight, weight, with_document};
 ghost use Rattle.document_rows.specs.Faults.{Gives};
 ghost use Rattle.document_rows.specs.declared.fault.ItemFault.TheVariants.{Refused};
-ghost use Rattle.agg_documents.specs.Slots.{id_of, document_in};
+ghost use Rattle.agg_documents.specs.Slots.{id_of, document_in, ids, place_of};
 
 use crate::shards::{deal, empty_lists};
 use crate::slot::Slot;
-use crate::weight::weight_of;
+use crate::weight::{row_weight, weight_of};
 use agg_mapping::OrderedMapping;
 use agg_model::item_refusal::{INDEX_FULL, VERSION_CONFLICT};
 use agg_model::limits::WEIGHT_LIMIT;
 use agg_model::{Action, ActionKind, Applied, Document, ItemRefusal, List, Mapping, Row, Text};
 use document_rows::{ItemFault, root_row_of};
-use indexmap::IndexSet;
 use std::alloc::{AllocError, Global};
+use std::collections::BTreeMap;
+use std::collections::btree_map::Entry;
 use std::marker::Model;
 
 fn refused(alloc: Global, number: u8) -> ItemFault
@@ -47,7 +48,9 @@ fn conflicts(kind: ActionKind, live: bool) -> bool
 /// document or with none.
 #[derive(Drop)]
 pub struct Store {
-    slots: IndexSet<Slot>,
+    /// Where each id stands among the slots. Its order is that of the bytes, so that no choice of ids makes it slow.
+    places: BTreeMap<String, usize>,
+    slots: Vec<Slot>,
     live: usize,
     weight: u64,
 }
@@ -65,7 +68,7 @@ impl Model for Store {
     ghost use Rattle.agg_documents.specs.Kept.{IsKept};
     ghost use Rattle.agg_documents.specs.Slots.{entries_of};
 
-    ghost view = { λ s. entries_of s.slots.keys };
+    ghost view = { λ s. entries_of s.slots.items };
 
     ghost invariant = { IsKept };
 }
@@ -76,7 +79,8 @@ impl Store {
         ensures { result ≡ [] }
     {
         Store {
-            slots: IndexSet::new(alloc),
+            places: BTreeMap::new(alloc),
+            slots: Vec::new(alloc),
             live: 0,
             weight: 0,
         }
@@ -111,51 +115,58 @@ impl Store {
         None
     }
 
-    /// What the live document weighs that has the id of a slot.
-    fn live_weight(&self, slot: &Slot) -> Option<u64>
-        ensures { result ≡ option_map weight (live_at (id_of slot.now) self.now) }
+    /// Where an id stands, counted from 0; none where it is new.
+    fn find(&self, id: &str) -> Option<usize>
+        ensures { result ≡ place_of id.now (ids self.now) }
     {
-        let kept = self.slots.get(slot)?;
-        let document = kept.document()?;
+        self.places.get(id).copied()
+    }
+
+    /// What the live document at a place weighs; none where it has no document.
+    fn live_weight(&self, place: usize) -> Option<u64>
+        requires { place < length self.now }
+        ensures { result ≡ option_map weight (slice_index_or self.now place ([], None)).1 }
+    {
+        let document = self.slots[place].document()?;
         Some(weight_of(document))
     }
 
-    /// Puts a slot in the place of its id, or at the end where the id is new; after want of memory the store is as
-    /// before. The numbers are those of the store after it.
-    fn place(&mut self, slot: Slot, live: usize, weight: u64) -> Result<(), AllocError>
+    /// Puts a slot in the place of its id. The numbers are those of the store after it.
+    fn replace(&mut self, place: usize, slot: Slot, live: usize, weight: u64)
+        requires place { place_of (id_of slot) (ids self.old) ≡ Some place }
         requires live { live ≡ length (live_documents (with_document (id_of slot) (document_in slot) self.old)) }
         requires weight { weight ≡ store_weight (with_document (id_of slot) (document_in slot) self.old) }
         requires light { weight < WEIGHT_LIMIT }
-        ensures placed { OnOk result (self.new ≡ with_document (id_of slot) (document_in slot) self.old) }
-        ensures as_before { OnErr result (self.new ≡ self.old) }
+        ensures { self.new ≡ with_document (id_of slot) (document_in slot) self.old }
     {
-        self.slots.replace(slot)?;
+        self.slots[place] = slot;
         self.live = live;
         self.weight = weight;
-        Ok(())
     }
 
     /// Takes the document of an id out. The id keeps its place.
     #[tactic(auto, unfolding(agg_reading::specs::Store::deleted))]
-    fn delete(&mut self, id: Text) -> Result<Applied, AllocError>
-        ensures deleted { IfOk result (λ what. (what, self.new) ≡ deleted id self.old) }
-        ensures as_before { OnErr result (self.new ≡ self.old) }
+    fn delete(&mut self, id: Text) -> Applied
+        ensures { (result, self.new) ≡ deleted id self.old }
     {
-        let slot = Slot::Gone(id);
-        match self.live_weight(&slot) {
-            None => Ok(Applied::NotFound),
+        let Some(place) = self.find(id.as_str()) else {
+            return Applied::NotFound;
+        };
+        match self.live_weight(place) {
+            None => Applied::NotFound,
             Some(weight) => {
                 let live = self.live - 1;
                 let weight = self.weight - weight;
-                self.place(slot, live, weight)?;
-                Ok(Applied::Deleted)
+                self.replace(place, Slot::Gone(id), live, weight);
+                Applied::Deleted
             }
         }
     }
 
-    /// Puts the document of an `index` or `create` with this root row.
+    /// Puts the document of an `index` or `create` whose id has this place.
     #[tactic(auto, unfolding(agg_reading::specs::Store::put_row))]
-    fn put(&mut self, action: Action, root: Row) -> Result<Applied, ItemFault>
+    fn put_again(&mut self, place: usize, action: Action, root: Row) -> Result<Applied, ItemFault>
+        requires { place_of action.id (ids self.old) ≡ Some place }
         ensures put { Gives (λ what. (what, self.new)) result (put_row action root self.old) }
         ensures as_before { OnErr result (self.new ≡ self.old) }
     {
@@ -167,8 +178,7 @@ impl Store {
         } = action;
         let document = Document { id, routing, root };
         let added = weight_of(&document);
-        let slot = Slot::Live(document);
-        let replaced = self.live_weight(&slot);
+        let replaced = self.live_weight(place);
         if conflicts(kind, replaced.is_some()) {
             return Err(refused(*self.slots.allocator(), VERSION_CONFLICT));
         }
@@ -180,19 +190,62 @@ impl Store {
         match replaced {
             Some(_) => {
                 let live = self.live;
-                self.place(slot, live, weight)?;
+                self.replace(place, Slot::Live(document), live, weight);
                 Ok(Applied::Updated)
             }
             None => {
                 let live = self.live + 1;
-                self.place(slot, live, weight)?;
+                self.replace(place, Slot::Live(document), live, weight);
                 Ok(Applied::Created)
             }
         }
     }
 
-    /// Does one bulk action on documents of this mapping. The time is that of reading its source and of going through the
-    /// new document and the one that it replaces, whatever the number of documents.
+    /// Puts the document of an `index` or `create` with this root row. Its id is looked up once.
+    ///
+    /// Whether a new id would be refused is known before the look-up: what it finds free is always taken.
+    #[tactic(auto, unfolding(agg_reading::specs::Store::put_row))]
+    fn put(&mut self, action: Action, root: Row) -> Result<Applied, ItemFault>
+        ensures put { Gives (λ what. (what, self.new)) result (put_row action root self.old) }
+        ensures as_before { OnErr result (self.new ≡ self.old) }
+    {
+        let alloc = *self.slots.allocator();
+        let total = self.weight.saturating_add(row_weight(&root));
+        if total >= WEIGHT_LIMIT {
+            return match self.find(action.id.as_str()) {
+                Some(place) => self.put_again(place, action, root),
+                None => Err(refused(alloc, INDEX_FULL)),
+            };
+        }
+        let key = String::from_str(alloc, action.id.as_str())?;
+        self.slots.reserve(1)?;
+        match self.places.entry(key) {
+            Err(_) => Err(ItemFault::Memory),
+            Ok(Entry::Occupied(entry)) => {
+                let place = *entry.get();
+                self.put_again(place, action, root)
+            }
+            Ok(Entry::Vacant(entry)) => {
+                let Action {
+                    kind: _,
+                    id,
+                    routing,
+                    source: _,
+                } = action;
+                let place = self.slots.len();
+                // There is room for it.
+                let _ = self.slots.push(Slot::Live(Document { id, routing, root }));
+                entry.insert(place);
+                self.live += 1;
+                self.weight = total;
+                Ok(Applied::Created)
+            }
+        }
+    }
+
+    /// Does one bulk action on documents of this mapping. The time is that of reading its source, of going through the
+    /// new document and the one that it replaces, and of one look-up of the id, which takes the logarithm of the number
+    /// of ids, whatever the ids are.
     ///
     /// A document's own refusals come first. Then comes `VERSION_CONFLICT`, exactly where a `create` names an id with a
     /// live document, and then `INDEX_FULL`, exactly where the weights of the live documents would add up to
@@ -205,7 +258,7 @@ impl Store {
         ensures as_before { OnErr result (self.new ≡ self.old) }
     {
         match action.kind {
-            ActionKind::Delete => Ok(self.delete(action.id)?),
+            ActionKind::Delete => Ok(self.delete(action.id)),
             ActionKind::Index | ActionKind::Create => {
                 let alloc = *self.slots.allocator();
                 let mapping = OrderedMapping::of(mapping);
@@ -224,6 +277,7 @@ impl Store {
         ensures light { IfOk result (λ lists. sum_by (sum_by weight) lists < WEIGHT_LIMIT) }
     {
         let Store {
+            places: _,
             slots,
             live: _,
             weight: _,

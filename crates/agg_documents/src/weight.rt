@@ -37,8 +37,9 @@ fn values_weight(fields: &List<FieldValues>) -> u64
     weight
 }
 
+/// The weight of a row with all rows within it.
 #[cycle(weight)]
-fn row_weight(row: &Row) -> u64
+pub(crate) fn row_weight(row: &Row) -> u64
     ensures { result ≡ min (row_weight row.now) u64.MAX }
 {
     let mut weight = values_weight(&row.values).saturating_add(1);

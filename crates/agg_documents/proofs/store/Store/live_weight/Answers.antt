@@ -1,24 +1,14 @@
-use Rattle.std.proofs.Common.{sym, ◌∙◌, ap, arith}
+use Rattle.std.proofs.Common.{length, ◌<◌, sym, ap, subst, arith}
 use Rattle.std.specs.Option.{option_map}
-use Rattle.agg_reading.specs.Store.{Store, live_at, weight}
-use Rattle.agg_documents.specs.Slots.{id_of}
-use Rattle.agg_documents.proofs.Entries.{weight-none, weight-gone, weight-live}
+use Rattle.std.proofs.Common.{get_or, [], None, ◌∙◌}
+use Rattle.agg_reading.specs.Store.{Store, weight, store_weight}
+use Rattle.agg_documents.specs.Slots.{entries_of}
+use Rattle.agg_documents.proofs.Entries.{weight-found}
 use Rattle.agg_documents.proofs.store.Store.live_weight.Goals as goal
-
-pub returns-in_err-kept : goal.returns-in_err-kept
-returns-in_err-kept c =
-    c.from_residual.ensures
-    ∙ (weight-none c.args.slot.now c.self.inside.slots.keys (sym c.in_err-kept.ensures.key)
-    ∙ ap (λ (es : Store). option_map weight (live_at (id_of c.args.slot.now) es)) c.self.view_is)
-
-pub returns-in_err-document : goal.returns-in_err-document
-returns-in_err-document c =
-    c.from_residual-in_err-document.ensures
-    ∙ (weight-gone c.args.slot.now c.in_ok-kept.kept.now c.self.inside.slots.keys (sym c.in_ok-kept.ensures.key) (sym c.in_err-document.ensures)
-    ∙ ap (λ (es : Store). option_map weight (live_at (id_of c.args.slot.now) es)) c.self.view_is)
 
 pub returns : goal.returns
 returns c =
-    weight-live c.args.slot.now c.in_ok-kept.kept.now c.self.inside.slots.keys c.in_ok-document.document.now c.weight_of.result
-    (sym c.in_ok-kept.ensures.key) (sym c.in_ok-document.ensures) c.weight_of.ensures (omega (arith, c.self.invariant.weight, c.self.invariant.light))
-    ∙ ap (λ (es : Store). option_map weight (live_at (id_of c.args.slot.now) es)) c.self.view_is
+    weight-found c.self.inside.slots.items c.index.result.now c.in_ok-document.document.now c.args.place c.weight_of.result
+    (subst (λ (es : Store). c.args.place < length es) (sym c.self.view_is) c.requires) c.index.ensures c.in_ok-document.ensures c.weight_of.ensures
+    (omega (arith, c.self.invariant.weight, c.self.invariant.light))
+    ∙ ap (λ (es : Store). option_map weight (get_or es c.args.place ([], None)).1) c.self.view_is
