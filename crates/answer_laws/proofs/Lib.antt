@@ -25,3 +25,4 @@ mod Refutations
 mod WaveExamples
 pub mod Reduced
 mod PartialWaves
+pub mod Untripped
