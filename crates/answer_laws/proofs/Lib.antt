@@ -26,3 +26,4 @@ mod WaveExamples
 pub mod Reduced
 mod PartialWaves
 pub mod Untripped
+mod RoomExamples

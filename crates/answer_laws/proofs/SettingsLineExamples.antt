@@ -14,7 +14,7 @@ use Rattle.agg_settings.specs.Changes.{changed}
 use Rattle.agg_settings.specs.Settings.{settings_of}
 use Rattle.agg_reading.specs.Script.{loaded}
 use Rattle.agg_spec.specs.Outcome.{Request}
-use Rattle.agg_spec.specs.Output.{Script, answered, script_from, whole_lines}
+use Rattle.agg_spec.specs.Output.{answered, script_from, whole_lines}
 use Rattle.agg_spec.specs.Rounds.{Round}
 use Rattle.agg_spec.specs.Wave.{MayAnswerWave}
 use Rattle.agg_spec.specs.Written.{told}
