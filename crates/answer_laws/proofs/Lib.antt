@@ -27,3 +27,6 @@ pub mod Reduced
 mod PartialWaves
 pub mod Untripped
 mod RoomExamples
+pub mod WaveCounts
+pub mod LineCounts
+pub mod ChangesKeep
