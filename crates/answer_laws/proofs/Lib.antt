@@ -25,3 +25,8 @@ mod Refutations
 mod WaveExamples
 pub mod Reduced
 mod PartialWaves
+pub mod Untripped
+mod RoomExamples
+pub mod WaveCounts
+pub mod LineCounts
+pub mod ChangesKeep

@@ -19,6 +19,7 @@ pub page-is_last : (index : Index) (columns : ℕ) (words : Settings) (r : Reque
     → page_after index columns r (a ∷ []) ≡ None → ArePages index columns (r ∷ []) (round words r a ∷ [])
 page-is_last index columns words r a e = (refl, subst (λ (o : Option Request). ArePages index columns (option_to_list o ++ []) []) (sym e) tt)
 
+-- a bound on the one item of a list
 pub all_within : (n m : ℕ) → n ≤ m → All (λ p. p ≤ m) (n ∷ [])
 all_within n m p zero d h = p
 all_within n m p (suc k) d h = let e : ⊥ = omega arith in absurd e

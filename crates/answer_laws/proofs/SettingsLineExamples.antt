@@ -1,6 +1,6 @@
 -- Outputs of scripts with settings lines, from the bytes of the words and of the input to the bytes that are written, by one worker.
-use Rattle.std.specs.Prelude.{◌≡◌, refl, ℕ, true, false, List, [], ◌∷◌, length, Option, Some, None, Ok, codes}
-use Rattle.std.proofs.Common.{inl}
+use Rattle.std.specs.Prelude.{◌≡◌, refl, ℕ, true, false, List, [], ◌∷◌, length, take, Option, Some, None, Ok, codes}
+use Rattle.std.proofs.Common.{inl, lit≤}
 use Rattle.clap.specs.Walk.{Text}
 use Rattle.serde_json.specs.Data.{Data, object, string, number, unsigned, member, no_members}
 use Rattle.agg_model.specs.declared.query.Query.TheVariants.{All}
@@ -12,14 +12,20 @@ use Rattle.agg_model.specs.declared.outcome.Outcome.TheVariants as ended
 use Rattle.agg_model.specs.declared.settings.Settings.{Settings}
 use Rattle.agg_settings.specs.Changes.{changed}
 use Rattle.agg_settings.specs.Settings.{settings_of}
+use Rattle.agg_reading.specs.Script.{loaded}
 use Rattle.agg_spec.specs.Outcome.{Request}
+use Rattle.agg_spec.specs.Output.{answered, script_from, whole_lines}
+use Rattle.agg_spec.specs.Rounds.{Round}
+use Rattle.agg_spec.specs.Wave.{MayAnswerWave}
+use Rattle.agg_spec.specs.Written.{told}
+use Rattle.answer_laws.proofs.Rounds.{all_within}
 use Rattle.agg_spec.specs.Index.{Index}
 use Rattle.agg_spec.specs.Requests.{LoadedScript, Segment}
 use Rattle.agg_spec.specs.Solo.{idle, solo_answer}
 use Rattle.agg_spec.specs.Statistics.{solo_totals}
 use Rattle.agg_spec.proofs.Samples.{words, by_count, leaf, search_of, stats, default_limits, settings, request_limit}
 use Rattle.answer_laws.proofs.Scripts.{all_created, document, automatic, index_of, asked, script, round}
-use Rattle.answer_laws.proofs.Runs.{Writes, Reads, by_words, ends_well}
+use Rattle.answer_laws.proofs.Runs.{Writes, Reads, by_words, all_lines, ends_well, ends_stopped}
 use Rattle.agg_settings.proofs.Computing.{computing as words_computing}
 use Rattle.agg_settings.proofs.ComputingLines.{computing as lines_computing}
 use Rattle.agg_reading.proofs.Computing.{computing as reading_computing}
@@ -147,3 +153,36 @@ unknown_name_add_up = refl
 unknown_name : Writes changed (settings_of true unknown_name_words) unknown_name_input (length unknown_name_input) 0 (codes "{\"errors\":false,\"items\":[{\"index\":{\"_id\":\"_auto_0\",\"_index\":\"i\",\"result\":\"created\",\"status\":201}},{\"index\":{\"_id\":\"_auto_1\",\"_index\":\"i\",\"result\":\"created\",\"status\":201}}],\"took\":0}\n{\"error\":{\"key\":\"x\",\"type\":\"settings_exception\"},\"status\":400}\n{\"breakers\":{\"fielddata\":{\"estimated_size_in_bytes\":19,\"granted_size_in_bytes\":19,\"limit_size_in_bytes\":429496729,\"overhead_percent\":103,\"tripped\":0},\"inflight_requests\":{\"estimated_size_in_bytes\":0,\"granted_size_in_bytes\":0,\"limit_size_in_bytes\":1073741824,\"overhead_percent\":200,\"tripped\":0},\"parent\":{\"estimated_size_in_bytes\":19,\"granted_size_in_bytes\":19,\"limit_size_in_bytes\":751619276,\"overhead_percent\":100,\"tripped\":0},\"request\":{\"estimated_size_in_bytes\":0,\"granted_size_in_bytes\":0,\"limit_size_in_bytes\":644245094,\"overhead_percent\":100,\"tripped\":0}}}\n")
 unfolding computing lines_computing
 unknown_name = by_words unknown_name_words_are_read (ends_well changed unknown_name_settings unknown_name_input (length unknown_name_input) unknown_name_script ([] ∷ [] ∷ []) (codes "{\"errors\":false,\"items\":[{\"index\":{\"_id\":\"_auto_0\",\"_index\":\"i\",\"result\":\"created\",\"status\":201}},{\"index\":{\"_id\":\"_auto_1\",\"_index\":\"i\",\"result\":\"created\",\"status\":201}}],\"took\":0}\n{\"error\":{\"key\":\"x\",\"type\":\"settings_exception\"},\"status\":400}\n{\"breakers\":{\"fielddata\":{\"estimated_size_in_bytes\":19,\"granted_size_in_bytes\":19,\"limit_size_in_bytes\":429496729,\"overhead_percent\":103,\"tripped\":0},\"inflight_requests\":{\"estimated_size_in_bytes\":0,\"granted_size_in_bytes\":0,\"limit_size_in_bytes\":1073741824,\"overhead_percent\":200,\"tripped\":0},\"parent\":{\"estimated_size_in_bytes\":19,\"granted_size_in_bytes\":19,\"limit_size_in_bytes\":751619276,\"overhead_percent\":100,\"tripped\":0},\"request\":{\"estimated_size_in_bytes\":0,\"granted_size_in_bytes\":0,\"limit_size_in_bytes\":644245094,\"overhead_percent\":100,\"tripped\":0}}}\n") unknown_name_totals unknown_name_is_read refl (record { form = refl; each = tt }, (record { form = refl; each = tt }, tt)) unknown_name_add_up refl refl)
+
+-- listeners are told of the answers in the second and the fourth line, and not of the settings line between them
+settings_lines_are_not_told : told (all_lines changed raised_limit_settings raised_limit_input (length raised_limit_input) raised_limit_script
+    ((round (request_limit 4865) terms exception ∷ []) ∷ (round (request_limit 4866) terms response ∷ []) ∷ []) [] raised_limit_totals)
+    ≡ record { line = 2; status = 429; bytes = 239 } ∷ record { line = 4; status = 200; bytes = 316 } ∷ []
+unfolding computing lines_computing
+settings_lines_are_not_told = refl
+
+-- Two searches side by side: a settings line ends a wave of one, whose answer stands where the source fails behind it. The search
+-- behind the settings line is a short wave, and is not answered.
+abbrev side_by_side : Settings
+side_by_side = record (settings default_limits) { width = 2 }
+
+abbrev short_wave_input : List ℕ
+short_wave_input = codes "{\"index\":\"i\",\"mappings\":{\"properties\":{\"b\":{\"type\":\"boolean\"},\"n\":{\"type\":\"long\"},\"t\":{\"type\":\"keyword\"}}},\"settings\":{\"number_of_shards\":1}}\n\n{\"index\":{}}\n{\"t\":\"a\"}\n{\"index\":{}}\n{\"t\":\"b\"}\n\n{}\n{\"aggs\":{\"t\":{\"terms\":{\"field\":\"t\"}}}}\n{\"persistent\":{\"search.max_buckets\":1}}\n{}\n{\"aggs\":{\"t\":{\"terms\":{\"field\":\"t\"}}}}\n"
+
+abbrev short_wave_script : LoadedScript
+short_wave_script = script two_words (all_created 2) 19 (ends_with (Some (setting (codes "persistent") (codes "search.max_buckets") (number (unsigned 1)))) ∷ ends_with None ∷ [])
+
+short_wave_is_read : script_from side_by_side (loaded (whole_lines (take (length short_wave_input) short_wave_input))) ≡ answered short_wave_script
+unfolding computing reading_computing
+short_wave_is_read = refl
+
+abbrev wave_of_one : Round
+wave_of_one = round side_by_side terms response
+
+wave_of_one_may_be_answered : MayAnswerWave side_by_side two_words 19 (terms ∷ []) (response ∷ [])
+unfolding computing
+wave_of_one_may_be_answered = ((tt, (refl, record { at_request = all_within _ 644245094 (lit≤ tt); at_parent = all_within _ 751619276 (lit≤ tt) }, record { at_request = lit≤ tt; at_parent = lit≤ tt })), tt)
+
+short_wave_before_a_settings_line : Writes changed (Ok side_by_side) short_wave_input (length short_wave_input) 3 (codes "{\"errors\":false,\"items\":[{\"index\":{\"_id\":\"_auto_0\",\"_index\":\"i\",\"result\":\"created\",\"status\":201}},{\"index\":{\"_id\":\"_auto_1\",\"_index\":\"i\",\"result\":\"created\",\"status\":201}}],\"took\":0}\n{\"_shards\":{\"failed\":0,\"skipped\":0,\"successful\":1,\"total\":1},\"aggregations\":{\"t\":{\"buckets\":[{\"doc_count\":1,\"key\":\"a\"},{\"doc_count\":1,\"key\":\"b\"}],\"doc_count_error_upper_bound\":0,\"sum_other_doc_count\":0}},\"hits\":{\"hits\":[],\"max_score\":null,\"total\":{\"relation\":\"eq\",\"value\":2}},\"status\":200,\"timed_out\":false,\"took\":0}\n{\"acknowledged\":true}\n")
+unfolding computing lines_computing
+short_wave_before_a_settings_line = ends_stopped changed side_by_side short_wave_input (length short_wave_input) short_wave_script ((wave_of_one ∷ []) ∷ [] ∷ []) (codes "{\"errors\":false,\"items\":[{\"index\":{\"_id\":\"_auto_0\",\"_index\":\"i\",\"result\":\"created\",\"status\":201}},{\"index\":{\"_id\":\"_auto_1\",\"_index\":\"i\",\"result\":\"created\",\"status\":201}}],\"took\":0}\n{\"_shards\":{\"failed\":0,\"skipped\":0,\"successful\":1,\"total\":1},\"aggregations\":{\"t\":{\"buckets\":[{\"doc_count\":1,\"key\":\"a\"},{\"doc_count\":1,\"key\":\"b\"}],\"doc_count_error_upper_bound\":0,\"sum_other_doc_count\":0}},\"hits\":{\"hits\":[],\"max_score\":null,\"total\":{\"relation\":\"eq\",\"value\":2}},\"status\":200,\"timed_out\":false,\"took\":0}\n{\"acknowledged\":true}\n") refl short_wave_is_read (record { form = refl; each = ((refl, wave_of_one_may_be_answered), tt) }, (record { form = refl; each = tt }, tt)) refl refl

@@ -2,3 +2,4 @@
 pub mod Held
 pub mod Scans
 pub mod Reduced
+pub mod LineCounts

@@ -1,6 +1,6 @@
 //! Laws of the definitions of answers. Each function has a law as its contract, over all values of the definitions, and does nothing.
-ghost use Rattle.std.specs.List.{AllByRecursion};
-ghost use Rattle.std.specs.Prelude.{◌≡◌, ◌≤◌, ◌∷◌, ◌++◌, ◌+◌, ◌*◌, [], ℕ, flat_map, IsTrue, length, List, None, Ok, Result, Some};
+ghost use Rattle.std.specs.List.{AllByRecursion, list_all};
+ghost use Rattle.std.specs.Prelude.{◌≡◌, ◌≤◌, ◌∷◌, ◌++◌, ◌+◌, ◌*◌, [], ℕ, false, flat_map, IsTrue, length, List, None, Ok, Result, Some};
 ghost use Rattle.agg_model.specs.declared.aggregation.Search.{Search};
 ghost use Rattle.agg_model.specs.declared.breaker.Child.TheVariants as child;
 ghost use Rattle.agg_model.specs.declared.breaker.Limits.{Limits};
@@ -10,18 +10,23 @@ ghost use Rattle.agg_model.specs.declared.partial.Partial.{Partial};
 ghost use Rattle.agg_model.specs.declared.settings.Settings.{Settings};
 ghost use Rattle.agg_model.specs.declared.settings.Usage.{Usage};
 ghost use Rattle.agg_evaluation.specs.SearchFits.{search_fits};
-ghost use Rattle.agg_spec.specs.Answers.{ArePages, Change, IsAllowed};
-ghost use Rattle.agg_spec.specs.Charges.{lowered, Run};
+ghost use Rattle.agg_settings.specs.Changes.{changed};
+ghost use Rattle.agg_spec.specs.Answers.{ArePages, Change, IsAllowed, Recent};
+ghost use Rattle.agg_spec.specs.Charges.{lowered, no_amounts, Run};
+ghost use Rattle.agg_spec.specs.Complete.{HasRoom, IsPlain};
 ghost use Rattle.agg_spec.specs.Failures.{AreFailures, unfailed};
 ghost use Rattle.agg_spec.specs.Index.{Index};
 ghost use Rattle.agg_spec.specs.Outcome.{answer_of, Request, response_length};
-ghost use Rattle.agg_spec.specs.Output.{IsOutput};
+ghost use Rattle.agg_spec.specs.Output.{HasAnswers, IsOutput};
 ghost use Rattle.agg_spec.specs.Pages.{is_paged};
 ghost use Rattle.agg_spec.specs.Reduction.{after_batches, after_last, after_tasks, begun, merge_steps, Task, task_of, task_steps};
-ghost use Rattle.agg_spec.specs.Rounds.{Round};
-ghost use Rattle.agg_spec.specs.Solo.{after_requests, outcome_with, solo_run};
-ghost use Rattle.agg_spec.specs.Written.{answer, Line};
+ghost use Rattle.agg_spec.specs.Requests.{LoadedScript, Segment};
+ghost use Rattle.agg_spec.specs.Rounds.{plain_answer, Round};
+ghost use Rattle.agg_spec.specs.Solo.{after_requests, idle, outcome_with, solo_answer, solo_run};
+ghost use Rattle.agg_spec.specs.Statistics.{is_solo};
+ghost use Rattle.agg_spec.specs.Written.{answer, has_memory, Line};
 ghost use Rattle.answer_laws.specs.Held.{costs_of, GivesBackHeld, HoldsMore, HoldsResults, IsPaid};
+ghost use Rattle.answer_laws.specs.LineCounts.{entry_count, KeepsWaves};
 ghost use Rattle.answer_laws.specs.Reduced.{TellsTheWhole};
 ghost use Rattle.answer_laws.specs.Scans.{IsAnsweredByAll, searches_of};
 ghost use Rattle.count_laws.specs.CompositeGroups.{composite_groups};
@@ -37,6 +42,15 @@ pub fn no_more_failures_than_shards()
 pub fn each_search_of_a_round_has_one_answer()
     ensures { (index : Index) (columns : ℕ) (round : Round) → IsAllowed index columns round →
         length round.answers ≡ length round.requests }
+{}
+
+/// Where searches run in waves, what answers some segments is one line for the bulk actions, one for each search and one for
+/// each settings line, with any number of workers. A settings line changes no waves.
+pub fn each_entry_of_a_script_has_one_line()
+    ensures lines { (change : Change) (words : Settings) (script : LoadedScript) (segments : List Segment) (written : List Line)
+        (at_end : Recent) → KeepsWaves change words → words.scan ≡ false → 1 ≤ words.width →
+        HasAnswers change words script segments written at_end → length written ≡ 1 + entry_count segments }
+    ensures kept { (words : Settings) → KeepsWaves changed words }
 {}
 
 /// With any number of workers, an answer of a round that is a response or the refusal of a body is the outcome of the whole
@@ -112,4 +126,15 @@ pub fn rounds_of_a_scan_have_all_groups()
         flat_map (page_groups index.shards) (searches_of rounds) ≡ composite_groups index.shards request }
     ensures answers { (index : Index) (request : Search) →
         answer_of index request (unfailed index []) ≡ answer_of_shards request index.shards }
+{}
+
+/// Where one worker runs one search at a time, a search of which no breaker refuses a charge is answered by the whole
+/// reduction with no shard left out. So is each search of an allowed round that has room and in which none wants memory.
+pub fn searches_that_have_room_are_answered_in_full()
+    ensures search { (settings : Settings) (index : Index) (columns : ℕ) (request : Request) →
+        (solo_run settings index (idle columns) request).run.trips ≡ no_amounts →
+        solo_answer settings index (idle columns) request ≡ plain_answer index settings request }
+    ensures round { (index : Index) (columns : ℕ) (round : Round) → IsTrue (is_solo round.settings) →
+        HasRoom index columns round → IsAllowed index columns round →
+        IsTrue (list_all (λ a. has_memory a.outcome) round.answers) → IsPlain index columns round }
 {}
