@@ -11,4 +11,4 @@ mod tests;
 
 pub use fault::{ScriptFault, ScriptRefusal};
 pub use header::{Header, header_of};
-pub use line::{is_empty_line, next_line, refused_here, take_line};
+pub use line::{is_empty_line, next_line, refused, refused_here, take_line};

@@ -24,7 +24,7 @@ pub fn is_empty_line(line: &[u8]) -> bool
 }
 
 /// The refusal of a line, without a pointer.
-pub(crate) fn refused(alloc: Global, number: u8, line: u64) -> ScriptFault
+pub fn refused(alloc: Global, number: u8, line: u64) -> ScriptFault
     ensures { result ≡ Refused (record { number = number; line = line; path = [] }) }
 {
     ScriptFault::Refused(ScriptRefusal {
