@@ -1,2 +1,3 @@
+mod FittingLemmas
 mod SectionLemmas
 mod StepLemmas

@@ -10,7 +10,7 @@ use Rattle.agg_reading.specs.declared.fault.RequestFault.{RequestFault}
 use Rattle.agg_reading.specs.declared.fault.RequestFault.TheVariants as reading
 use Rattle.agg_reading.specs.declared.parts.Heading.{Heading}
 use Rattle.agg_reading.specs.declared.parts.IndexLine.{IndexLine}
-use Rattle.agg_reading.specs.Lines.{Place, Script}
+use Rattle.agg_reading.specs.Lines.{Place, Script, start}
 use Rattle.agg_reading.specs.Refusals.{is_refusal, action_refusals}
 use Rattle.agg_reading.specs.Script.{Loading, Loaded, loaded, actions, source_of, with_action, after, done_at, is_delete}
 use Rattle.agg_reading.specs.Store.{Store, applied}
@@ -87,3 +87,7 @@ LoadsAt bytes (Err fault) place left read = Ends bytes fault read
 
 abbrev pub Loads : {S : Type 0} {g : Ghosts S} → List ℕ → Result Sections ScriptFault → Lines S g → Type 0
 Loads bytes result reader = LoadsAt bytes result (place_of reader) (rest_of reader) (bytes_read reader)
+
+-- what was loaded, without what follows it
+abbrev pub loaded_of : IndexLine → Store → Loaded
+loaded_of index store = record { index = index; store = store; items = []; place = start; rest = [] }

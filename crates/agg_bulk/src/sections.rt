@@ -1,16 +1,18 @@
 //! The first two sections of a script.
-ghost use Rattle.std.specs.Prelude.{◌≡◌, ◌≤◌, ℕ, List, None, Ok, Err, IfOk, OnOk};
+ghost use Rattle.std.specs.Prelude.{◌≡◌, ◌≤◌, ℕ, List, None, Ok, Err, IfOk, OnOk, IsTrue};
 ghost use Rattle.agg_base.specs.Lines.{source_of, source_name, kept, unread};
 ghost use Rattle.agg_base.specs.Outside.{Rose};
 ghost use Rattle.agg_model.specs.declared.limits.TheConstants.{MAX_ACTIONS, MAX_SHARDS};
 ghost use Rattle.agg_model.specs.MappingOrder.{IsOrdered};
+ghost use Rattle.agg_model.specs.Contexts.{parents_before};
+ghost use Rattle.fitting_laws.specs.Stores.{IsFitting, IsIndexed};
 ghost use Rattle.agg_reading.specs.Lines.{start};
 ghost use Rattle.agg_reading.specs.Script.{loaded, actions, begun};
 ghost use Rattle.agg_reading.specs.Script.{sections as sections_from};
 ghost use Rattle.agg_reading.specs.declared.parts.IndexLine.{IndexLine as AnyIndexLine};
 ghost use Rattle.script_lines.specs.Steps.{place_of, rest_of};
 ghost use Rattle.script_lines.specs.declared.fault.ScriptFault.TheVariants.{Read};
-ghost use Rattle.agg_bulk.specs.Loading.{GoesOn, Steps, Loads};
+ghost use Rattle.agg_bulk.specs.Loading.{GoesOn, Steps, Loads, loaded_of};
 
 use crate::actions::next_action;
 use crate::items::apply;
@@ -40,6 +42,7 @@ fn index_line<S: Source>(alloc: Global, lines: &mut Lines<'_, S>) -> Result<Inde
     ensures script { (bytes : List ℕ) → GoesOn bytes loaded lines.old → Steps bytes result (λ index. sections_from index (place_of lines.new)) lines.new }
     ensures ordered { IfOk result (λ index. IsOrdered index.mapping) }
     ensures shards { IfOk result (λ index. (1 ≤ index.shards) × (index.shards ≤ MAX_SHARDS)) }
+    ensures paths { IfOk result (λ index. IsTrue (parents_before index.mapping)) }
     ensures fault { result ≡ Err Read → Rose (S.faults (source_of lines.old)) (S.faults (source_of lines.new)) }
     ensures never_falls { S.faults (source_of lines.old) ≤ S.faults (source_of lines.new) }
     ensures kept { OnOk result (kept lines.new ≡ None) }
@@ -84,6 +87,7 @@ fn bulk_actions<S: Source>(
     requires ordered { IsOrdered index.mapping }
     ensures script { (bytes : List ℕ) → GoesOn bytes (actions (begun index) (place_of lines.old)) lines.old → Loads bytes result lines.new }
     ensures index { IfOk result (λ sections. sections.index ≡ index) }
+    ensures fitting { IfOk result (λ sections. IsFitting sections.index.mapping sections.store) }
     ensures fault { result ≡ Err Read → Rose (S.faults (source_of lines.old)) (S.faults (source_of lines.new)) }
     ensures never_falls { S.faults (source_of lines.old) ≤ S.faults (source_of lines.new) }
     ensures kept { OnOk result (kept lines.new ≡ None) }
@@ -112,8 +116,7 @@ pub fn load_sections<S: Source>(
     requires kept { kept lines.old ≡ None }
     requires start { place_of lines.old ≡ start }
     ensures script { (bytes : List ℕ) → unread lines.old ≡ Some bytes → Loads bytes result lines.new }
-    ensures ordered { IfOk result (λ sections. IsOrdered sections.index.mapping) }
-    ensures shards { IfOk result (λ sections. (1 ≤ sections.index.shards) × (sections.index.shards ≤ MAX_SHARDS)) }
+    ensures indexed { IfOk result (λ sections. IsIndexed (loaded_of sections.index sections.store)) }
     ensures fault { result ≡ Err Read → Rose (S.faults (source_of lines.old)) (S.faults (source_of lines.new)) }
     ensures never_falls { S.faults (source_of lines.old) ≤ S.faults (source_of lines.new) }
     ensures kept { OnOk result (kept lines.new ≡ None) }

@@ -1,6 +1,8 @@
 use Rattle.std.proofs.Common.{rules, arith, ◌≡◌, ◌∙◌, length, refl, sym, ap}
 use Rattle.std.proofs.lemmas.Result.{err_from_is_err_and}
 use Rattle.agg_reading.specs.Store.{applied}
+use Rattle.fitting_laws.proofs.Stores.{applied_fits}
+use Rattle.agg_bulk.proofs.FittingLemmas.{empty_fits, still_fits}
 use Rattle.script_lines.specs.Steps.{place_of}
 use Rattle.agg_bulk.specs.Loading.{loading_of}
 use Rattle.agg_bulk.proofs.SectionLemmas.{as_loading, begun_is, one_more_item, all_loaded}
@@ -13,6 +15,7 @@ loop-items-init g c = record {
   same_source = refl;
   index = refl;
   few = let none : length c.new-items.result ≡ 0 = ap length c.new-items.ensures in omega arith;
+  fitting = empty_fits _ _ c.new-store.ensures;
   so_far = λ bytes goes_on. as_loading _ _ _ _ _ _ _ goes_on (begun_is _ _ _ c.new-store.ensures c.new-items.ensures);
 }
 
@@ -40,6 +43,9 @@ loop-items-preserved g c =
       same_source = c.in_ok-action.ensures.same_source ∙ before.same_source;
       index = before.index;
       few = omega (arith, more, c.len.ensures, room refl);
+      fitting =
+          still_fits c.in-Some.action (applied c.args.index.mapping c.in-Some.action c.loop-items.store) c.args.index c.loop-items.store _ c.loop-items.items _ (c.in_ok-apply.ensures c.args.index)
+          (applied_fits c.args.index.mapping c.in-Some.action c.loop-items.store before.fitting) before.fitting;
       so_far = λ bytes goes_on.
           let read = rw c.in-Some.is at c.in_ok-action.ensures.script bytes (loading_of c.args.index c.loop-items.store c.loop-items.items) (sym c.as_str.ensures) (sym c.len.ensures) (before.so_far bytes goes_on) in
           as_loading _ _ _ _ _ _ _ read (c.in_ok-apply.ensures c.args.index);
@@ -49,3 +55,6 @@ pub returns-clause-script : goal.returns-clause-script
 returns-clause-script g c bytes goes_on =
     let read = rw c.in_default.is at c.in_ok-action.ensures.script bytes (loading_of c.args.index c.loop-items.store c.loop-items.items) (sym c.as_str.ensures) (sym c.len.ensures) (c.loop-items.invariant.so_far bytes goes_on) in
     all_loaded bytes (loading_of c.args.index c.loop-items.store c.loop-items.items) (place_of c.next_action.new.lines) _ _ _ read
+
+pub returns-clause-fitting : goal.returns-clause-fitting
+returns-clause-fitting g c = c.loop-items.invariant.fitting

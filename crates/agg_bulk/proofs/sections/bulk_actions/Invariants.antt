@@ -2,6 +2,7 @@ use Rattle.std.proofs.Common.{◌≡◌, ◌≤◌, ℕ, List, None, ◌+◌, �
 use Rattle.agg_base.specs.Lines.{source_of, source_name, kept}
 use Rattle.agg_model.specs.declared.limits.TheConstants.{MAX_ACTIONS}
 use Rattle.agg_reading.specs.Script.{actions, begun}
+use Rattle.fitting_laws.specs.Stores.{IsFitting}
 use Rattle.script_lines.specs.Steps.{place_of}
 use Rattle.agg_bulk.specs.Loading.{GoesOn, loading_of}
 use Rattle.agg_bulk.proofs.sections.bulk_actions.Given as goal
@@ -13,6 +14,7 @@ pub record Doing (g : goal.Over) (l : goal.Live-loop-items g) : Type 0 where
   pub same_source : source_name l.lines ≡ source_name l.fn.lines
   pub index : l.index ≡ l.fn.index
   pub few : length l.items ≤ MAX_ACTIONS
+  pub fitting : IsFitting l.index.mapping l.store
   pub so_far : (bytes : List ℕ) → GoesOn bytes (actions (begun l.fn.index) (place_of l.fn.lines)) l.fn.lines → GoesOn bytes (actions (loading_of l.index l.store l.items) (place_of l.lines)) l.lines
 
 abbrev pub invariant-loop-items : goal.invariant-loop-items

@@ -1,5 +1,10 @@
-use Rattle.std.proofs.Common.{◌∙◌, ℕ, List, sym, ap, subst}
+use Rattle.std.proofs.Common.{true, ◌≡◌, ◌∙◌, ℕ, List, sym, ap, subst}
 use Rattle.std.proofs.lemmas.Result.{err_from_is_err_and}
+use Rattle.std.specs.Prelude.{IfOk}
+use Rattle.agg_model.specs.Contexts.{parents_before}
+use Rattle.agg_reading.specs.Reading.{Reading}
+use Rattle.agg_reading.specs.declared.parts.IndexLine.{IndexLine}
+use Rattle.fitting_laws.proofs.MappingOrder.{mapping_lined}
 use Rattle.agg_reading.specs.IndexLine.{index_line_at}
 use Rattle.agg_mapping.specs.Faults.{refused_at, StandsAt}
 use Rattle.agg_mapping.specs.declared.fault.MapFault.TheVariants as map_fault
@@ -24,3 +29,6 @@ returns-in-Err-Refused-clause-script g c bytes goes_on =
     let refused = rw c.in-Err-Refused.field-0-is at c.in-Err-Refused.ensures.refused in
     rw c.line_number.ensures
     (index_refused bytes _ _ _ _ _ _ taken c.in-Err-Refused.path (subst (λ (t : List ℕ). StandsAt (refused_at (index_line_at t)) (map_fault.Refused c.in-Err-Refused.path)) c.as_slice.ensures refused))
+
+pub returns-in-Ok-clause-paths : goal.returns-in-Ok-clause-paths
+returns-in-Ok-clause-paths g c = subst (λ (r : Reading IndexLine). IfOk r (λ l. parents_before l.mapping ≡ true)) c.in-Ok.ensures.line (mapping_lined c.as_slice.result.now)
