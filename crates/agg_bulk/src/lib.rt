@@ -4,9 +4,11 @@
 #![tactic(auto)]
 
 mod actions;
+mod index;
 mod items;
 mod sections;
 #[cfg(test)]
 mod tests;
 
+pub use index::{LoadedIndex, load_index};
 pub use sections::{Sections, load_sections};
