@@ -1,9 +1,9 @@
 -- What a clause sees of a reader of lines.
-use Rattle.std.specs.Prelude.{◌≡◌, ◌<◌, ◌≤◌, ℕ, ◌+◌, ◌-◌, List, [], ◌∷◌, ◌++◌, Option, Some, None, slice_range, vec_len}
+use Rattle.std.specs.Prelude.{◌≡◌, ◌<◌, ◌≤◌, ℕ, ◌+◌, ◌-◌, List, [], ◌∷◌, ◌++◌, length, Bool, true, Option, Some, None, slice_range, vec_len}
 use Rattle.std.specs.Borrow.{GName}
 use Rattle.std.specs.Io.KnownBytes.{prepend_known, IsAtEnd}
 use Rattle.agg_model.specs.Lines.{newline}
-use Rattle.agg_base.specs.Cut.{fault_of}
+use Rattle.agg_base.specs.Cut.{IsPlain, fault_of}
 use Rattle.agg_base.specs.declared.lines.LineEnd.{LineEnd}
 use Rattle.agg_base.specs.declared.lines.LineEnd.TheVariants.{Newline, Input}
 use Rattle.agg_base.specs.declared.lines.LineFault.{LineFault}
@@ -42,19 +42,30 @@ handed lines = lines.handed
 abbrev pub kept : {S : Type 0} {g : Ghosts S} → Lines S g → Option LineFault
 kept lines = lines.kept
 
+-- the source said that nothing more comes
+abbrev pub has_ended : {S : Type 0} {g : Ghosts S} → Lines S g → Bool
+has_ended lines = lines.is_ended
+
+-- What was read and is not handed out is the front of a line, without its newline: `bytes_read` bytes of the input hold no
+-- further whole line.
+abbrev pub IsFrontOfLine : {S : Type 0} {g : Ghosts S} → Lines S g → Type 0
+IsFrontOfLine {g = g} lines =
+    (front : List ℕ) × IsPlain front × (unread lines ≡ prepend_known front (g.left (source_of lines))) × (bytes_read lines ≡ position lines + length front)
+
 -- no line was handed out
 abbrev pub Stays : {S : Type 0} {g : Ghosts S} → Lines S g → Lines S g → Type 0
 Stays old new = (unread new ≡ unread old) × (position new ≡ position old) × (handed new ≡ handed old)
 
 -- what a piece of a line leaves: a longer front of the line, the whole line before its newline, or all that was left
 abbrev pub Took : {S : Type 0} {g : Ghosts S} → Lines S g → Lines S g → Option LineEnd → Type 0
-Took old new None = (unread new ≡ unread old) × (vec_len old.line < vec_len new.line) × (bytes_read old ≤ bytes_read new)
+Took old new None =
+    (unread new ≡ unread old) × (vec_len old.line < vec_len new.line) × (has_ended new ≡ has_ended old) × (bytes_read old ≤ bytes_read new)
 Took old new (Some Newline) =
     (unread old ≡ prepend_known (new.line.items ++ newline ∷ []) (to_come new))
     × (fault_of (position old) (vec_len new.line) (vec_len new.line + 1) ≡ None)
     × (bytes_read old ≤ bytes_read new + 1)
 Took {g = g} old new (Some Input) =
-    (unread new ≡ unread old) × IsAtEnd (to_come new) × IsAtEnd (g.left (source_of new)) × (bytes_read old ≤ bytes_read new)
+    (unread new ≡ unread old) × IsAtEnd (to_come new) × IsAtEnd (g.left (source_of new)) × (has_ended new ≡ true) × (bytes_read old ≤ bytes_read new)
 
 -- what only the handing out of a line changes; a newline that was gone over is not yet counted
 abbrev pub KeepsCounts : {S : Type 0} {g : Ghosts S} → Lines S g → Lines S g → Type 0

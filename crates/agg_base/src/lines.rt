@@ -131,6 +131,8 @@ pub struct Lines<'a, S: Source> {
     position: u64,
     handed: u64,
     kept: Option<LineFault>,
+    // The source said that nothing more comes, and is not asked again.
+    is_ended: bool,
     ghost ordered: { start ≤ end },
     ghost inside: { end ≤ length buffer.items },
     ghost block: { length buffer.items ≡ BLOCK },
@@ -138,10 +140,12 @@ pub struct Lines<'a, S: Source> {
     ghost short: { vec_len line ≤ MAX_LINE },
     ghost within: { position + vec_len line ≤ MAX_INPUT },
     ghost counted: { handed ≤ position },
+    ghost used_up: { is_ended ≡ true → start ≡ end },
+    ghost ended: { is_ended ≡ true → (rest : List ℕ) → S.left source.now ≡ Some rest → rest ≡ [] },
 }
 
 impl<'a, S: Source> Lines<'a, S> {
-    ghost use Rattle.agg_base.specs.Lines.{source_of, source_name, to_come, unread, position, bytes_read, handed, kept, Stays, Took, KeepsCounts};
+    ghost use Rattle.agg_base.specs.Lines.{source_of, source_name, to_come, unread, position, bytes_read, handed, kept, has_ended, IsFrontOfLine, Stays, Took, KeepsCounts};
 
     /// The lines of what `source` has left, of which nothing is read yet. It takes no memory.
     pub fn new(alloc: Global, source: &'a mut S, block: Block) -> Lines<'a, S>
@@ -152,6 +156,7 @@ impl<'a, S: Source> Lines<'a, S> {
         ensures bytes_read { bytes_read result ≡ 0 }
         ensures handed { handed result ≡ 0 }
         ensures kept { kept result ≡ None }
+        ensures not_ended { has_ended result ≡ false }
     {
         let Block { bytes } = block;
         Lines {
@@ -163,6 +168,7 @@ impl<'a, S: Source> Lines<'a, S> {
             position: 0,
             handed: 0,
             kept: None,
+            is_ended: false,
         }
     }
 
@@ -185,7 +191,8 @@ impl<'a, S: Source> Lines<'a, S> {
     /// The next line, without its newline, or none at the end of the input. A last line needs no newline.
     ///
     /// A fault is kept: it is the answer of every later call, which reads nothing more. Nothing is lost by it: the bytes
-    /// that are not handed out stay as they were.
+    /// that are not handed out stay as they were. Nor is anything read once the source has said that nothing more comes,
+    /// so no read fails behind a last line without newline.
     pub fn next_line(&mut self, alloc: Global) -> Result<Option<Bytes>, LineFault>
         // What is answered, where no fault is kept and the source tells what it has left.
         ensures answer { kept self.old ≡ None → IfSome (unread self.old) (λ rest. Answers (next_of (position self.old) rest) result) }
@@ -197,6 +204,13 @@ impl<'a, S: Source> Lines<'a, S> {
         ensures read { kept self.old ≡ None → result ≡ Err LineFault.Read → Rose (S.faults (source_of self.old)) (S.faults (source_of self.new)) }
         ensures line_too_long { kept self.old ≡ None → result ≡ Err LineFault.LineTooLong → position self.old + MAX_LINE < bytes_read self.new }
         ensures input_too_long { kept self.old ≡ None → result ≡ Err LineFault.InputTooLong → MAX_INPUT < bytes_read self.new }
+
+        // Where the source failed, all whole lines of what was read are handed out.
+        ensures front { kept self.old ≡ None → result ≡ Err LineFault.Read → IsFrontOfLine self.new }
+        ensures not_ended { kept self.old ≡ None → result ≡ Err LineFault.Read → has_ended self.old ≡ false }
+        ensures last_line { IfOk result (λ next. IfSome next (λ line. position self.new ≡ position self.old + length line → has_ended self.new ≡ true)) }
+        ensures ended { IfOk result (λ next. IfNone next (has_ended self.new ≡ true)) }
+        ensures stays_ended { has_ended self.old ≡ true → has_ended self.new ≡ true }
 
         // A fault is kept and answered again.
         ensures kept { kept self.new ≡ result_err result }
@@ -238,6 +252,7 @@ impl<'a, S: Source> Lines<'a, S> {
         ensures position { self.new.position ≡ self.old.position + whole_of (vec_len self.old.line) is_ended }
         ensures handed { self.new.handed ≡ self.old.handed + 1 }
         ensures kept { self.new.kept ≡ self.old.kept }
+        ensures ended { has_ended self.new ≡ has_ended self.old }
     {
         let line = mem::replace(&mut self.line, Vec::new(alloc));
         self.position += line.len() as u64 + u64::from(is_ended);
@@ -248,6 +263,9 @@ impl<'a, S: Source> Lines<'a, S> {
     /// Brings the next line into `line`, and goes over its newline.
     fn gather(&mut self) -> Result<LineEnd, LineFault>
         ensures took { IfOk result (λ end. Took self.old self.new (Some end)) }
+        ensures used_up { result ≡ Err LineFault.Read → self.new.start ≡ self.new.end }
+        ensures not_ended { result ≡ Err LineFault.Read → has_ended self.old ≡ false }
+        ensures stays_ended { has_ended self.old ≡ true → has_ended self.new ≡ true }
         ensures err { OnErr result (unread self.new ≡ unread self.old) }
         ensures bytes_read { OnErr result (bytes_read self.old ≤ bytes_read self.new) }
         ensures answer { IfErr result (λ fault. IfSome (unread self.old) (λ rest. Answers (next_of (position self.old) rest) (Err fault))) }
@@ -267,6 +285,9 @@ impl<'a, S: Source> Lines<'a, S> {
     /// Takes the next piece of the line from the block, and answers how the line ends, if the piece is its last.
     fn step(&mut self) -> Result<Option<LineEnd>, LineFault>
         ensures took { IfOk result (Took self.old self.new) }
+        ensures used_up { result ≡ Err LineFault.Read → self.new.start ≡ self.new.end }
+        ensures not_ended { result ≡ Err LineFault.Read → has_ended self.old ≡ false }
+        ensures stays_ended { has_ended self.old ≡ true → has_ended self.new ≡ true }
         ensures err { OnErr result (unread self.new ≡ unread self.old) }
         ensures bytes_read { OnErr result (bytes_read self.old ≤ bytes_read self.new) }
         ensures answer { IfErr result (λ fault. IfSome (unread self.old) (λ rest. Answers (next_of (position self.old) rest) (Err fault))) }
@@ -297,6 +318,11 @@ impl<'a, S: Source> Lines<'a, S> {
         ensures to_come { to_come self.new ≡ to_come self.old }
         ensures read { IfErr result (λ fault. fault ≡ LineFault.Read) }
         ensures fault { OnErr result (Rose (S.faults (source_of self.old)) (S.faults (source_of self.new))) }
+        ensures used_up { OnErr result (self.new.start ≡ self.new.end) }
+        ensures not_ended { OnErr result (has_ended self.old ≡ false) }
+        ensures ended { result ≡ Ok false → has_ended self.new ≡ true }
+        ensures goes_on { IfOk result (λ is_ahead. IsTrue is_ahead → has_ended self.new ≡ has_ended self.old) }
+        ensures stays_ended { has_ended self.old ≡ true → has_ended self.new ≡ true }
         ensures never_falls { S.faults (source_of self.old) ≤ S.faults (source_of self.new) }
         ensures line { self.new.line ≡ self.old.line }
         ensures counts { KeepsCounts self.old self.new }
@@ -305,10 +331,14 @@ impl<'a, S: Source> Lines<'a, S> {
         if self.start < self.end {
             return Ok(true);
         }
+        if self.is_ended {
+            return Ok(false);
+        }
         match self.source.read(self.buffer.as_mut_slice()) {
             Ok(given) => {
                 self.start = 0;
                 self.end = given;
+                self.is_ended = given == 0;
                 Ok(given > 0)
             }
             Err(Failed) => Err(LineFault::Read),

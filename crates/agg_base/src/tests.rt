@@ -67,6 +67,15 @@ fn a_failed_read_ends_the_lines(rt: HostRuntime) -> Result<(), Fail> {
 }
 
 #[test]
+fn no_read_fails_behind_the_end(rt: HostRuntime) -> Result<(), Fail> {
+    let mut source = source_of(rt.alloc(), b"one\ntwo", 7, &[2])?;
+    let (all, fault) = barred(rt.alloc(), &mut source)?;
+    assert_eq!(rt; all.as_slice(), b"one|two|".as_slice());
+    assert_eq!(rt; fault, None);
+    Ok(())
+}
+
+#[test]
 fn a_sink_takes_what_it_has_room_for(rt: HostRuntime) -> Result<(), Fail> {
     let mut sink = MemorySink::new(rt.alloc(), 5, 2, Numbers::new(rt.alloc()))?;
     assert_eq!(rt; write_all(&mut sink, b"abc"), Ok(()));

@@ -70,5 +70,6 @@ returns-clause-took g c =
           ∙ ap (λ (t : List ℕ). prepend_known was.line.items (prepend_known (slice_range t now.start now.end) left)) c.as_slice.ensures.value
           ∙ ap (prepend_known was.line.items) c.fill.ensures.to_come,
       omega (arith, c.in_ok-place.ensures.grown, ap (λ v. vec_len v) c.fill.ensures.line, all, long, is_ahead),
+      c.in_ok-fill.ensures.goes_on c.if-not-branch.false,
       omega (arith, c.fill.ensures.bytes_read, c.in_ok-place.ensures.grown, ap (λ v. vec_len v) c.fill.ensures.line, used),
     )

@@ -1,0 +1,4 @@
+mod IndexLemmas
+mod FittingLemmas
+mod SectionLemmas
+mod StepLemmas

@@ -1,0 +1,68 @@
+//! The index of what was loaded.
+ghost use Rattle.std.specs.Prelude.{◌≡◌, ◌≤◌, ℕ, List, None, Some, Err, IfOk, OnOk};
+ghost use Rattle.agg_base.specs.Lines.{source_of, source_name, kept, unread};
+ghost use Rattle.agg_base.specs.Outside.{Rose};
+ghost use Rattle.agg_reading.specs.Lines.{start};
+ghost use Rattle.agg_spec.specs.Requests.{loaded_index};
+ghost use Rattle.fitting_laws.specs.Stores.{IsIndexed};
+ghost use Rattle.script_lines.specs.Steps.{place_of};
+ghost use Rattle.script_lines.specs.declared.fault.ScriptFault.TheVariants.{Read};
+ghost use Rattle.agg_bulk.specs.Indexing.{index_of, Indexes};
+ghost use Rattle.agg_bulk.specs.Loading.{loaded_of};
+
+use crate::sections::{Sections, load_sections};
+use agg_base::{Lines, Source};
+use agg_documents::Store;
+use agg_model::{Item, List};
+use agg_reading::IndexLine;
+use script_lines::ScriptFault;
+use shard_columns::Index;
+use std::alloc::{AllocError, Global};
+
+/// An index with the items of the bulk actions that made it.
+#[derive(Drop)]
+pub struct LoadedIndex {
+    pub index: Index,
+    /// In the order of the actions.
+    pub items: List<Item>,
+}
+
+/// The index of what was loaded: its shards have the documents that the routings choose.
+pub(crate) fn index_from(alloc: Global, line: IndexLine, store: Store) -> Result<Index, AllocError>
+    requires { IsIndexed (loaded_of line store) }
+    ensures { IfOk result (λ index. index_of index ≡ loaded_index (loaded_of line store)) }
+{
+    let documents = store.into_shards(line.shards)?;
+    let IndexLine {
+        name,
+        mapping,
+        shards: _,
+    } = line;
+    Index::build(alloc, name, mapping, &documents)
+}
+
+/// Reads the first two sections of a script, from its start, and builds the index of what they leave, in time n log n.
+///
+/// A script that breaks a rule is refused with one of `agg_model::script_refusal`, at the first line that breaks one. Where
+/// the source fails, the whole lines of what was read are refused as a script. A bulk action that is refused is an item, and
+/// changes nothing.
+pub fn load_index<S: Source>(
+    alloc: Global,
+    lines: &mut Lines<'_, S>,
+) -> Result<LoadedIndex, ScriptFault>
+    requires kept { kept lines.old ≡ None }
+    requires start { place_of lines.old ≡ start }
+    ensures script { (bytes : List ℕ) → unread lines.old ≡ Some bytes → Indexes bytes result lines.new }
+    ensures fault { result ≡ Err Read → Rose (S.faults (source_of lines.old)) (S.faults (source_of lines.new)) }
+    ensures never_falls { S.faults (source_of lines.old) ≤ S.faults (source_of lines.new) }
+    ensures kept { OnOk result (kept lines.new ≡ None) }
+    ensures same_source { source_name lines.new ≡ source_name lines.old }
+{
+    let Sections {
+        index,
+        store,
+        items,
+    } = load_sections(alloc, lines)?;
+    let index = index_from(alloc, index, store)?;
+    Ok(LoadedIndex { index, items })
+}

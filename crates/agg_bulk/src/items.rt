@@ -1,0 +1,34 @@
+//! What becomes of each bulk action.
+ghost use Rattle.std.specs.Prelude.{◌≡◌, OnOk};
+ghost use Rattle.agg_model.specs.MappingOrder.{IsOrdered};
+ghost use Rattle.agg_reading.specs.Script.{after};
+ghost use Rattle.agg_reading.specs.Store.{applied};
+ghost use Rattle.agg_reading.specs.declared.parts.IndexLine.{IndexLine};
+ghost use Rattle.agg_bulk.specs.Loading.{loading_of};
+
+use agg_documents::Store;
+use agg_model::{Action, Copying, Item, ItemEnd, List, Mapping};
+use document_rows::ItemFault;
+use std::alloc::{AllocError, Global};
+
+/// Does one bulk action, and adds its item.
+pub(crate) fn apply(
+    alloc: Global,
+    mapping: &Mapping,
+    store: &mut Store,
+    items: &mut List<Item>,
+    action: Action,
+) -> Result<(), AllocError>
+    requires { IsOrdered mapping.now }
+    ensures { OnOk result ((index : IndexLine) → after action (applied mapping.now action store.old) (loading_of index store.old items.old) ≡ loading_of index store.new items.new) }
+{
+    let kind = action.kind;
+    let id = action.id.copy(alloc)?;
+    let end = match store.apply(mapping, action) {
+        Ok(applied) => ItemEnd::Applied(applied),
+        Err(ItemFault::Refused(refusal)) => ItemEnd::Refused(refusal),
+        Err(ItemFault::Memory) => return Err(AllocError),
+    };
+    items.push(Item { kind, id, end })?;
+    Ok(())
+}

@@ -1,0 +1,14 @@
+//! Loading: the first two sections of a script, from its index line to the empty line behind its bulk actions, to an
+//! index with the charge of its columns (Elasticsearch Reference 8, 'Create index API', 'Bulk API', 'Circuit breaker
+//! settings').
+#![tactic(auto)]
+
+mod actions;
+mod index;
+mod items;
+mod sections;
+#[cfg(test)]
+mod tests;
+
+pub use index::{LoadedIndex, load_index};
+pub use sections::{Sections, load_sections};

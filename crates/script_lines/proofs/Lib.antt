@@ -1,0 +1,3 @@
+pub mod HandedLemmas
+mod HeaderLemmas
+pub mod LineLemmas
