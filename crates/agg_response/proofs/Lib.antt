@@ -1,5 +1,5 @@
 pub mod NoFloat
-pub mod BulkText
+pub mod BulkTokens
 pub mod WholeNumbers
 pub mod Levels
 pub mod Places

@@ -11,9 +11,9 @@ ghost use Rattle.agg_spec.specs.RangeCheck.{checker, check_each, check_bucket, i
 ghost use Rattle.agg_response.specs.Buckets.{bucket_tree, own_members};
 
 use crate::buckets::with_bucket;
-use crate::json::{Array, Json, Object, count_value};
 use crate::keys::{composite_value, key_number};
 use crate::numbers::{average_value, integer_value, optional_value, wide_value};
+use crate::values::{Array, Json, Object, count_value};
 use agg_model::{Agg, BucketAnswer, CompositeSource, Kind, List, Metric, NodeAnswer, Text};
 use std::alloc::{AllocError, Global};
 

@@ -8,9 +8,9 @@ ghost use Rattle.agg_spec.specs.Json.{with_members, count};
 ghost use Rattle.agg_spec.specs.RangeCheck.{key_in_range};
 ghost use Rattle.agg_response.specs.Buckets as tree;
 
-use crate::json::Object;
 use crate::keys::{composite_value, with_term_key};
 use crate::numbers::integer_value;
+use crate::values::Object;
 use agg_model::{BucketAnswer, Kind};
 use std::alloc::{AllocError, Global};
 

@@ -1,15 +1,15 @@
 //! The line that answers bulk actions.
-ghost use Rattle.std.specs.Prelude.{◌≡◌, ◌++◌, ◌∷◌, [], IfOk, OnOk, IsTrue, codes, string_bytes, map, false, true, if◌then◌else◌};
+ghost use Rattle.std.specs.Prelude.{◌≡◌, ◌++◌, ◌∷◌, [], IfOk, OnOk, codes, map, false, true};
 ghost use Rattle.std.specs.List.{list_any};
-ghost use Rattle.serde_json.specs.Data.{string};
-ghost use Rattle.serde_json.specs.View.{view, members_view, items_of};
-ghost use Rattle.serde_json.specs.Written.{compact_text, comma_if, items_text};
-ghost use Rattle.agg_spec.specs.Json.{with_members, object_of, count};
+ghost use Rattle.serde_json.specs.Data.{string, boolean};
+ghost use Rattle.agg_spec.specs.Json.{object_of, count};
 ghost use Rattle.agg_spec.specs.BulkLine as definition;
+ghost use Rattle.agg_response.specs.Tokens.{Adds, member_tokens, value_tokens, values_tokens};
 
-use crate::json::{Json, Object, flag_value};
+use crate::values::{Object, flag_value};
 use agg_model::item_refusal::{INDEX_FULL, STRICT_MAPPING, VERSION_CONFLICT};
 use agg_model::{ActionKind, Applied, Item, ItemEnd, ItemRefusal, List, Text};
+use json::Writer;
 use std::alloc::{AllocError, Global};
 
 fn action_name(kind: ActionKind) -> &'static str
@@ -60,54 +60,6 @@ fn refusal_status(number: u8) -> u64
     if number == VERSION_CONFLICT { 409 } else { 400 }
 }
 
-/// The error of a refused item. A refusal of the action, and not of its document, has no path.
-fn refusal_value(alloc: Global, refusal: &ItemRefusal) -> Result<Json, AllocError>
-    ensures { IfOk result (λ j. view j.value ≡ object_of ((codes "number", count refusal.now.number)
-        ∷ (definition.refusal_path refusal.now ++ (codes "type", string (definition.refusal_type refusal.now.number)) ∷ []))) }
-{
-    let members = Object::new(alloc).with_count(alloc, "number", u64::from(refusal.number))?;
-    let located = if refusal.number == VERSION_CONFLICT || refusal.number == INDEX_FULL {
-        members
-    } else {
-        members.with_text(alloc, "path", refusal.path.as_str())?
-    };
-    Ok(
-        located
-            .with_text(alloc, "type", refusal_type(refusal.number))?
-            .into_json(),
-    )
-}
-
-/// How an item ended, put behind the members that say which item it is.
-fn with_end(alloc: Global, members: Object, end: &ItemEnd) -> Result<Object, AllocError>
-    ensures { IfOk result (λ o. members_view o.members.entries
-        ≡ with_members (definition.end_members end.now) (members_view members.members.entries)) }
-{
-    match end {
-        ItemEnd::Applied(applied) => members
-            .with_text(alloc, "result", applied_name(*applied))?
-            .with_count(alloc, "status", applied_status(*applied)),
-        ItemEnd::Refused(refusal) => members
-            .with(alloc, "error", refusal_value(alloc, refusal)?)?
-            .with_count(alloc, "status", refusal_status(refusal.number)),
-    }
-}
-
-/// One item.
-fn item_value(alloc: Global, index: &Text, item: &Item) -> Result<Json, AllocError>
-    ensures { IfOk result (λ j. view j.value ≡ definition.item_value index.now item.now) }
-{
-    let members = Object::new(alloc)
-        .with_text(alloc, "_id", item.id.as_str())?
-        .with_text(alloc, "_index", index.as_str())?;
-    let ended = with_end(alloc, members, &item.end)?;
-    Ok(
-        Object::new(alloc)
-            .with(alloc, action_name(item.kind), ended.into_json())?
-            .into_json(),
-    )
-}
-
 /// Whether an item was refused.
 fn has_refusal(items: &List<Item>) -> bool
     ensures { result ≡ list_any (λ i. definition.is_refusal i.end) items.now }
@@ -120,66 +72,121 @@ fn has_refusal(items: &List<Item>) -> bool
     false
 }
 
-/// Writes an item behind those that stand in the text, `later` where there are some.
-fn push_item(
-    alloc: Global,
-    text: &mut String,
-    later: bool,
-    index: &Text,
-    item: &Item,
-) -> Result<(), AllocError>
-    ensures { OnOk result (string_bytes text.new
-        ≡ string_bytes text.old ++ (comma_if later ++ compact_text (definition.item_value index.now item.now))) }
+/// Writes a member, a text.
+fn write_text(out: &mut Writer, name: &str, text: &str) -> Result<(), AllocError>
+    ensures { OnOk result (Adds out.old out.new (member_tokens ((name.now, string text.now) ∷ []))) }
 {
-    if later {
-        text.push_str(",")?;
+    out.key(name)?;
+    out.string(text)?;
+    Ok(())
+}
+
+/// Writes a member, a count.
+fn write_count(out: &mut Writer, name: &str, n: u64) -> Result<(), AllocError>
+    ensures { OnOk result (Adds out.old out.new (member_tokens ((name.now, count n) ∷ []))) }
+{
+    out.key(name)?;
+    out.u64(n)?;
+    Ok(())
+}
+
+/// Writes the path of a refusal. A refusal of the action, and not of its document, has none.
+fn write_path(out: &mut Writer, refusal: &ItemRefusal) -> Result<(), AllocError>
+    ensures { OnOk result (Adds out.old out.new (member_tokens (definition.refusal_path refusal.now))) }
+{
+    if refusal.number == VERSION_CONFLICT || refusal.number == INDEX_FULL {
+        Ok(())
+    } else {
+        write_text(out, "path", refusal.path.as_str())
     }
-    let written = item_value(alloc, index, item)?.text(alloc)?;
-    text.push_str(written.as_str())?;
+}
+
+/// Writes the error of a refused item.
+fn write_error(out: &mut Writer, refusal: &ItemRefusal) -> Result<(), AllocError>
+    ensures { OnOk result (Adds out.old out.new (value_tokens (object_of ((codes "number", count refusal.now.number)
+        ∷ (definition.refusal_path refusal.now ++ (codes "type", string (definition.refusal_type refusal.now.number)) ∷ []))))) }
+{
+    out.begin_object()?;
+    write_count(out, "number", u64::from(refusal.number))?;
+    write_path(out, refusal)?;
+    write_text(out, "type", refusal_type(refusal.number))?;
+    out.end_object()?;
+    Ok(())
+}
+
+/// Writes how an item ended, behind the members that say which item it is.
+fn write_end(out: &mut Writer, end: &ItemEnd) -> Result<(), AllocError>
+    ensures { OnOk result (Adds out.old out.new (member_tokens (definition.end_members end.now))) }
+{
+    match end {
+        ItemEnd::Applied(applied) => {
+            write_text(out, "result", applied_name(*applied))?;
+            write_count(out, "status", applied_status(*applied))?;
+            Ok(())
+        }
+        ItemEnd::Refused(refusal) => {
+            out.key("error")?;
+            write_error(out, refusal)?;
+            write_count(out, "status", refusal_status(refusal.number))?;
+            Ok(())
+        }
+    }
+}
+
+/// Writes one item.
+fn write_item(out: &mut Writer, index: &Text, item: &Item) -> Result<(), AllocError>
+    ensures { OnOk result (Adds out.old out.new (value_tokens (definition.item_value index.now item.now))) }
+{
+    out.begin_object()?;
+    out.key(action_name(item.kind))?;
+    out.begin_object()?;
+    write_text(out, "_id", item.id.as_str())?;
+    write_text(out, "_index", index.as_str())?;
+    write_end(out, &item.end)?;
+    out.end_object()?;
+    out.end_object()?;
     Ok(())
 }
 
 /// Writes all items and the bracket behind them.
-fn push_items(
-    alloc: Global,
-    text: &mut String,
-    index: &Text,
-    items: &List<Item>,
-) -> Result<(), AllocError>
-    ensures { OnOk result (string_bytes text.new
-        ≡ string_bytes text.old ++ items_text false (items_of (map (definition.item_value index.now) items.now))) }
+fn write_items(out: &mut Writer, index: &Text, items: &List<Item>) -> Result<(), AllocError>
+    ensures { OnOk result (Adds out.old out.new (values_tokens (map (definition.item_value index.now) items.now))) }
 {
-    let mut later = false;
     for item in items.as_slice() {
-        push_item(alloc, text, later, index, item)?;
-        later = true;
+        write_item(out, index, item)?;
     }
-    text.push_str("]")?;
+    out.end_array()?;
     Ok(())
 }
 
-/// What stands before the items.
-fn front(refused: bool) -> &'static str
-    ensures { result.now ≡ (if refused
-        then codes "{\"errors\":true,\"items\":["
-        else codes "{\"errors\":false,\"items\":[") }
+/// Writes the line with all the items. An input has up to 1,048,576 items, so they are written one after another, and
+/// there is never a value of them all.
+fn write_line(out: &mut Writer, index: &Text, items: &List<Item>) -> Result<(), AllocError>
+    ensures { OnOk result (Adds out.old out.new (value_tokens (object_of (
+        (codes "errors", boolean (list_any (λ i. definition.is_refusal i.end) items.now))
+        ∷ (codes "items", definition.items_value index.now items.now false) ∷ (codes "took", count 0) ∷ [])))) }
 {
-    if refused {
-        "{\"errors\":true,\"items\":["
-    } else {
-        "{\"errors\":false,\"items\":["
-    }
+    out.begin_object()?;
+    out.key("errors")?;
+    out.boolean(has_refusal(items))?;
+    out.key("items")?;
+    out.begin_array()?;
+    write_items(out, index, items)?;
+    write_count(out, "took", 0)?;
+    out.end_object()?;
+    Ok(())
 }
 
-/// The line with all the items. An input has up to 1,048,576 items, so they are written one after another, and there
-/// is never a value of them all.
+/// The line with all the items.
 fn listed(alloc: Global, index: &Text, items: &List<Item>) -> Result<Text, AllocError>
     ensures { IfOk result (λ t. t ≡ definition.bulk_line index.now items.now false) }
 {
-    let mut text = String::from_str(alloc, front(has_refusal(items)))?;
-    push_items(alloc, &mut text, index, items)?;
-    text.push_str(",\"took\":0}")?;
-    Ok(Text::from_string(text))
+    let mut out = Writer::new(Vec::new(alloc));
+    write_line(&mut out, index, items)?;
+    match String::from_utf8(out.into_inner()) {
+        Ok(text) => Ok(Text::from_string(text)),
+        Err(_) => unreachable!(),
+    }
 }
 
 /// The line with the number of the items.

@@ -7,7 +7,7 @@ ghost use Rattle.agg_spec.specs.Json.{array_of, object_of, count, with_members};
 ghost use Rattle.agg_spec.specs.EndLines as definition;
 ghost use Rattle.agg_spec.specs.ErrorLines.{breaker_name as name_of_breaker, durability as durability_of, breaker_reason, breaker_members as members_of_breaker, failure_value, failures_member, exception_line, refusal_members as members_of_refusal, refusal_line};
 
-use crate::json::{Array, Json, Object};
+use crate::values::{Array, Json, Object};
 use agg_model::script_refusal::{
     BAD_HEADER, BAD_INDEX_LINE, INPUT_TOO_LONG, LINE_TOO_LONG, MALFORMED_ACTION, MISSING_BODY,
     MISSING_SECTION, MISSING_SOURCE, NOT_BUILT, TOO_MANY_DOCUMENTS, UPDATE_NOT_SUPPORTED,

@@ -6,8 +6,8 @@ ghost use Rattle.agg_spec.specs.AnswerTree as tree;
 ghost use Rattle.agg_spec.specs.Json.{with_members};
 ghost use Rattle.agg_spec.specs.RangeCheck.{key_in_range};
 
-use crate::json::{Json, Object, flag_value, text_value};
 use crate::numbers::{null_value, wide_value};
+use crate::values::{Json, Object, flag_value, text_value};
 use agg_model::{CompositeSource, Key, List};
 use std::alloc::{AllocError, Global};
 

@@ -6,7 +6,6 @@ mod answers;
 mod buckets;
 mod bulk;
 mod errors;
-mod json;
 mod keys;
 mod numbers;
 mod search_line;
@@ -14,6 +13,7 @@ mod settings;
 mod statistics;
 #[cfg(test)]
 mod tests;
+mod values;
 
 pub use bulk::bulk_line;
 pub use errors::{exception, refusal, script_line, usage_line};

@@ -7,7 +7,7 @@ ghost use Rattle.agg_spec.specs.Average as average;
 ghost use Rattle.agg_spec.specs.Json.{whole_number};
 ghost use Rattle.agg_spec.specs.RangeCheck.{is_in_range};
 
-use crate::json::{Json, text_value};
+use crate::values::{Json, text_value};
 use serde_json::Value;
 use std::alloc::{AllocError, Global};
 

@@ -9,8 +9,8 @@ ghost use Rattle.agg_spec.specs.Response as definition;
 
 use crate::answers::with_answers;
 use crate::errors::with_failures;
-use crate::json::{Array, Json, Object, flag_value, text_value};
 use crate::numbers::null_value;
+use crate::values::{Array, Json, Object, flag_value, text_value};
 use agg_model::{Answer, Failure, List, Mapping, Search, Text};
 use std::alloc::{AllocError, Global};
 

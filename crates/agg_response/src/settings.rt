@@ -4,7 +4,7 @@ ghost use Rattle.std.specs.Option.{option_copied};
 ghost use Rattle.agg_spec.specs.Written as definition;
 
 use crate::errors::error_line;
-use crate::json::{Object, flag_value};
+use crate::values::{Object, flag_value};
 use agg_model::Text;
 use std::alloc::{AllocError, Global};
 

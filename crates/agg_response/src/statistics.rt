@@ -5,7 +5,7 @@ ghost use Rattle.agg_model.specs.declared.breaker.Which.TheVariants.{Request};
 ghost use Rattle.agg_spec.specs.StatisticsLine.{breaker_member, statistics_line};
 
 use crate::errors::breaker_name;
-use crate::json::{Json, Object};
+use crate::values::{Json, Object};
 use agg_model::{BreakerStats, Text, Totals, Which};
 use std::alloc::{AllocError, Global};
 

@@ -3,7 +3,7 @@ use Rattle.std.proofs.Common.{◌∙◌, ap}
 use Rattle.serde_json.specs.View.{view, members_view}
 use Rattle.serde_json.specs.Written.{members_have_float}
 use Rattle.agg_response.proofs.NoFloat.{members_have_float-put}
-use Rattle.agg_response.proofs.json.Object.with.Goals as goal
+use Rattle.agg_response.proofs.values.Object.with.Goals as goal
 
 pub invariant_of-result : goal.invariant_of-result
 invariant_of-result c = record {

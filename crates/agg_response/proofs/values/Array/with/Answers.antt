@@ -4,7 +4,7 @@ use Rattle.std.proofs.lemmas.List.{map-append}
 use Rattle.serde_json.specs.View.{view, items_of, items_view}
 use Rattle.serde_json.specs.Written.{items_have_float}
 use Rattle.agg_response.proofs.NoFloat.{items_have_float-append}
-use Rattle.agg_response.proofs.json.Array.with.Goals as goal
+use Rattle.agg_response.proofs.values.Array.with.Goals as goal
 
 pub invariant_of-result : goal.invariant_of-result
 invariant_of-result c = record {
