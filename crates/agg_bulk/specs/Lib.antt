@@ -1,2 +1,3 @@
+pub mod ColumnBytes
 pub mod Indexing
 pub mod Loading

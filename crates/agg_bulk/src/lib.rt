@@ -4,11 +4,13 @@
 #![tactic(auto)]
 
 mod actions;
+mod columns;
 mod index;
 mod items;
 mod sections;
 #[cfg(test)]
 mod tests;
 
+pub use columns::columns_charge;
 pub use index::{LoadedIndex, load_index};
 pub use sections::{Sections, load_sections};
