@@ -4,7 +4,9 @@
 #![tactic(auto)]
 
 mod actions;
+mod charging;
 mod columns;
+mod end;
 mod index;
 mod items;
 mod sections;
@@ -12,5 +14,6 @@ mod sections;
 mod tests;
 
 pub use columns::columns_charge;
+pub use end::LoadEnd;
 pub use index::{LoadedIndex, load_index};
 pub use sections::{Sections, load_sections};
