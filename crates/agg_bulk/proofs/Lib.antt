@@ -1,3 +1,4 @@
+mod ColumnLemmas
 mod IndexLemmas
 mod FittingLemmas
 mod SectionLemmas

@@ -1,2 +1,4 @@
+pub mod Charging
+pub mod ColumnBytes
 pub mod Indexing
 pub mod Loading

@@ -4,11 +4,16 @@
 #![tactic(auto)]
 
 mod actions;
+mod charging;
+mod columns;
+mod end;
 mod index;
 mod items;
 mod sections;
 #[cfg(test)]
 mod tests;
 
+pub use columns::columns_charge;
+pub use end::LoadEnd;
 pub use index::{LoadedIndex, load_index};
 pub use sections::{Sections, load_sections};
