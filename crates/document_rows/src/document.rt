@@ -24,13 +24,13 @@ fn row_of_members(
 ) -> Result<Row, ItemFault>
     ensures { Gives (λ r. r) result (root_at mapping.now (members_view found.now.entries)) }
 {
-    let begun = Walked {
+    let mut walked = Walked {
         row: RowDraft::new(alloc),
         met: 0,
         path: String::new(alloc),
     };
-    let ended = members(alloc, mapping, 0, begun, found)?;
-    Ok(ended.row.finish(alloc)?)
+    members(alloc, mapping, 0, &mut walked, found)?;
+    Ok(walked.row.finish(alloc)?)
 }
 
 /// The root row that a value gives: `SOURCE_NOT_OBJECT` where it is none.

@@ -118,32 +118,24 @@ impl RowDraft {
     }
 
     /// One more value of a field, behind those before.
-    pub(crate) fn with_value(
-        self,
+    pub(crate) fn add_value(
+        &mut self,
         alloc: Global,
         field: u32,
         value: Scalar,
-    ) -> Result<Self, AllocError>
-        ensures { IfOk result (λ d. d ≡ record { values = with_value field value self.values; children = self.children }) }
+    ) -> Result<(), AllocError>
+        ensures { OnOk result (self.new ≡ record { values = with_value field value self.old.values; children = self.old.children }) }
     {
-        let RowDraft {
-            mut values,
-            children,
-        } = self;
-        append(alloc, &mut values, field, value)?;
-        Ok(RowDraft { values, children })
+        append(alloc, &mut self.values, field, value)?;
+        Ok(())
     }
 
     /// One more row beneath at a nested path, behind those before.
-    pub(crate) fn with_row(self, alloc: Global, path: u32, row: Row) -> Result<Self, AllocError>
-        ensures { IfOk result (λ d. d ≡ record { values = self.values; children = with_row path row self.children }) }
+    pub(crate) fn add_row(&mut self, alloc: Global, path: u32, row: Row) -> Result<(), AllocError>
+        ensures { OnOk result (self.new ≡ record { values = self.old.values; children = with_row path row self.old.children }) }
     {
-        let RowDraft {
-            values,
-            mut children,
-        } = self;
-        append(alloc, &mut children, path, row)?;
-        Ok(RowDraft { values, children })
+        append(alloc, &mut self.children, path, row)?;
+        Ok(())
     }
 
     /// The row, walked to its end: the values of each field ascending, and each word once.
