@@ -1,3 +1,4 @@
+mod EndLemmas
 mod ColumnLemmas
 mod IndexLemmas
 mod FittingLemmas

@@ -9,6 +9,7 @@ mod columns;
 mod end;
 mod index;
 mod items;
+mod loading;
 mod sections;
 #[cfg(test)]
 mod tests;
@@ -16,4 +17,5 @@ mod tests;
 pub use columns::columns_charge;
 pub use end::LoadEnd;
 pub use index::{LoadedIndex, load_index};
+pub use loading::{Loaded, load};
 pub use sections::{Sections, load_sections};
