@@ -3,27 +3,28 @@ use Rattle.std.specs.Map.{lookup}
 use Rattle.std.specs.BTreeMap.{is_at, insert_entry}
 use Rattle.std.specs.BTreeMap.Entry.{entry_value, map_with_value}
 use Rattle.std.specs.Ordering.{nat_cmp}
+use Rattle.document_rows.specs.Drafts.{with_item}
 use Rattle.document_rows.proofs.Items.{item_put}
 use Rattle.document_rows.proofs.draft.append.Goals as goal
 
 pub returns-in_ok-push-in-Ok-Occupied : goal.returns-in_ok-push-in-Ok-Occupied
 returns-in_ok-push-in-Ok-Occupied g c =
     let entries = c.args.lists.now.entries in
-    let kept : c.lists-in-Ok-Occupied-2-1.given.0 ≡ map_with_value c.in-Ok-Occupied.field-0 c.push.new.self = search rules in
     let found : Some c.into_mut.result.now ≡ lookup (is_at (nat_cmp c.args.place)) entries =
     sym c.into_mut.ensures.value ∙ ap entry_value (sym c.in-Ok-Occupied.field-0-is) ∙ c.in-Ok-Occupied.ensures.value in
-    ap (λ m. m.entries) kept
-    ∙ c.in-Ok-Occupied.ensures.update.1 c.push.new.self
+    let placed : (map_with_value c.in-Ok-Occupied.field-0 c.push.new.self).entries ≡ with_item c.args.place c.args.item entries =
+    c.in-Ok-Occupied.ensures.update.1 c.push.new.self
     ∙ ap (insert_entry nat_cmp entries c.args.place) (c.in_ok-push-in-Ok-Occupied.ensures.ok ∙ ap (λ o. unwrap_or o [] ++ c.args.item ∷ []) found)
-    ∙ item_put c.args.place c.args.item entries c.in-Ok-Occupied.ensures.ordered
+    ∙ item_put c.args.place c.args.item entries c.in-Ok-Occupied.ensures.ordered in
+    search (rules, placed)
 
 pub returns-in_ok-push-in-Ok-Vacant : goal.returns-in_ok-push-in-Ok-Vacant
 returns-in_ok-push-in-Ok-Vacant g c =
     let entries = c.args.lists.now.entries in
-    let kept : c.lists-in-Ok-Vacant-2-1.given.0 ≡ map_with_value c.in-Ok-Vacant.field-0 c.from_vec.result = search rules in
     let absent : None ≡ lookup (is_at (nat_cmp c.args.place)) entries = sym (rw c.in-Ok-Vacant.field-0-is at c.in-Ok-Vacant.ensures.found) in
-    ap (λ m. m.entries) kept
-    ∙ c.in-Ok-Vacant.ensures.update.1 c.from_vec.result
+    let placed : (map_with_value c.in-Ok-Vacant.field-0 c.from_vec.result).entries ≡ with_item c.args.place c.args.item entries =
+    c.in-Ok-Vacant.ensures.update.1 c.from_vec.result
     ∙ ap (insert_entry nat_cmp entries c.args.place)
     (c.from_vec.ensures ∙ c.in_ok-push-in-Ok-Vacant.ensures.items ∙ ap (λ xs. xs ++ c.args.item ∷ []) c.in_ok-first-in-Ok-Vacant.ensures.items ∙ ap (λ o. unwrap_or o [] ++ c.args.item ∷ []) absent)
-    ∙ item_put c.args.place c.args.item entries c.in-Ok-Vacant.ensures.ordered
+    ∙ item_put c.args.place c.args.item entries c.in-Ok-Vacant.ensures.ordered in
+    search (rules, placed)
