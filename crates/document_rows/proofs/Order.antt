@@ -1,14 +1,14 @@
 -- A stable sort of values of one kind, with each word kept once, is what the definition makes of them.
-use Rattle.std.specs.Prelude.{◌≡◌, refl, ℕ, ℤ, pos, Bool, true, false, ◌&&◌, List, [], ◌∷◌, cond, ⊤}
+use Rattle.std.specs.Prelude.{◌≡◌, refl, ℕ, suc, ◌<◌, ℤ, pos, Bool, true, false, ◌&&◌, List, [], ◌∷◌, cond, length, slice_index_or, ⊤}
 use Rattle.std.specs.declared.cmp.Ordering.{Ordering}
 use Rattle.std.specs.declared.cmp.Ordering.TheVariants.{Less, Equal, Greater}
 use Rattle.std.specs.Ordering.{nat_cmp, int_cmp, bool_cmp, is_lt, is_le, is_eq, ordering_reverse, ordering_then, match_ordering}
 use Rattle.std.specs.Cmp.{IsTotalOrder, bool_cmp_total}
 use Rattle.std.specs.Cmp.Lexicographic.{slice_cmp, texts_ties, same_text}
 use Rattle.std.specs.Fn.{Called}
-use Rattle.std.specs.List.{list_all, dedup, dedup_from}
+use Rattle.std.specs.List.{list_all, dedup, dedup_from, AllAdjacentBelow}
 use Rattle.std.specs.List.Sorted.{IsSortedByClosure, IsStableByClosure}
-use Rattle.std.proofs.Common.{sym, ◌∙◌, ap, subst, arith, ⊎_elim}
+use Rattle.std.proofs.Common.{sym, ◌∙◌, ap, subst, arith, ⊎_elim, add-one}
 use Rattle.std.proofs.lemmas.Bool.{cases_Bool, true≢false, false≢true, and_parts}
 use Rattle.std.proofs.lemmas.Cmp.{on_total, then_total, nat_cmp_total, int_cmp_total, nat_list_cmp_total}
 use Rattle.agg_model.specs.declared.mapping.FieldKind.{FieldKind}
@@ -265,3 +265,32 @@ ranks kind (x ∷ xs) e = let parts = and_parts (is_of_kind kind x) (list_all (i
 pub finished_from_sort : {F : Type 0} {g : Mut F (Bor Scalar × (Bor Scalar × Unit {0})) Ordering} {f : F} (xs ys : List Scalar) → IsOneKind xs → IsSortedByClosure g f ys → IsStableByClosure g f xs ys
     → ((a : Bor Scalar × (Bor Scalar × Unit {0})) (r : Ordering) (f' : F) → Called g f a r f' → (r ≡ scalar_order a.0.now a.1.0.now) × (f' ≡ f)) → dedup same_word ys ≡ finished_values xs
 finished_from_sort xs ys one up stable calls = ap (dedup same_word) (sorted_from_sort_by scalar_order order_total xs ys up stable calls) ∙ joined_is (rank_of one.0) xs (ranks one.0 xs one.1)
+
+-- ---- values that each stand below the next are left as they are
+
+abbrev Rises : List Scalar → Type 0
+Rises xs = (k : ℕ) (d : Scalar) → suc k < length xs → below (slice_index_or xs k d) (slice_index_or xs (suc k) d) ≡ true
+
+below_most : (o : Ordering) → is_lt o ≡ true → is_le o ≡ true
+below_most Less e = refl
+below_most Equal e = refl
+below_most Greater e = absurd (false≢true e)
+
+sorted_stands : (xs : List Scalar) → Rises xs → sorted scalar_order xs ≡ xs
+sorted_stands [] up = refl
+sorted_stands (x ∷ []) up = refl
+sorted_stands (x ∷ y ∷ ys) up =
+    ap (insert_sorted scalar_order x) (sorted_stands (y ∷ ys) (λ k d within. up (suc k) d (omega (arith, within))))
+    ∙ ap (λ b. put b x y ys) (below_most (scalar_order x y) (up 0 x (omega arith)))
+
+joined_stands : (r : ℕ) (xs : List Scalar) → OfRank r xs → Rises xs → dedup same_word xs ≡ xs
+joined_stands r [] rs up = refl
+joined_stands r (x ∷ []) rs up = refl
+joined_stands r (x ∷ y ∷ ys) rs up =
+    ap (λ b. cond b (joined_from x ys) (x ∷ joined_from y ys)) (above_differs y x (rs.1.0 ∙ sym rs.0) (up 0 x (omega arith)))
+    ∙ ap (λ zs. x ∷ zs) (joined_stands r (y ∷ ys) rs.1 (λ k d within. up (suc k) d (omega (arith, within))))
+
+pub finished_from_rising : (xs : List Scalar) → IsOneKind xs → AllAdjacentBelow (λ x y. true ≡ below x y) xs (length xs) → xs ≡ finished_values xs
+finished_from_rising xs one up =
+    let rises : Rises xs = λ k d within. let here = up k d (omega (arith, within)) in sym (rw add-one at here) in
+    sym (ap (dedup same_word) (sorted_stands xs rises) ∙ joined_stands (rank_of one.0) xs (ranks one.0 xs one.1) rises) ∙ joined_is (rank_of one.0) xs (ranks one.0 xs one.1)

@@ -12,6 +12,7 @@ use crate::values::in_order;
 use agg_model::{Children, FieldValues, List, Row, Scalar};
 use std::alloc::{AllocError, Global};
 use std::collections::BTreeMap;
+use std::collections::btree_map::Entry;
 use std::marker::Model;
 
 /// The number of items at a place.
@@ -24,7 +25,7 @@ fn count<T>(lists: &BTreeMap<u32, List<T>>, place: u32) -> usize
     }
 }
 
-/// Puts an item behind those that stand at its place.
+/// Puts an item behind those that stand at its place. The place is looked up once.
 fn append<T: Drop>(
     alloc: Global,
     lists: &mut BTreeMap<u32, List<T>>,
@@ -33,14 +34,20 @@ fn append<T: Drop>(
 ) -> Result<(), AllocError>
     ensures { OnOk result (lists.new.entries ≡ with_item place item lists.old.entries) }
 {
-    if let Some(found) = lists.get_mut(&place) {
-        found.push(item)?;
-        return Ok(());
+    match lists.entry(place) {
+        Err(_) => Err(AllocError),
+        Ok(Entry::Occupied(entry)) => {
+            entry.into_mut().push(item)?;
+            Ok(())
+        }
+        Ok(Entry::Vacant(entry)) => {
+            // Most fields of a document have one value.
+            let mut first = Vec::with_capacity(alloc, 1)?;
+            first.push(item)?;
+            entry.insert(List::from_vec(first));
+            Ok(())
+        }
     }
-    let mut first = List::new(alloc);
-    first.push(item)?;
-    lists.insert(place, first)?;
-    Ok(())
 }
 
 /// The values of each field, walked to the end.

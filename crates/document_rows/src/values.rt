@@ -41,11 +41,15 @@ fn is_same_word(a: &Scalar, b: &Scalar) -> bool
     }
 }
 
-/// The values of a field, ascending, and each word once.
+/// The values of a field, ascending, and each word once. Values that each stand below the next, as a single one does,
+/// stay as they are.
 pub(crate) fn in_order(values: List<Scalar>) -> Result<List<Scalar>, AllocError>
     requires { IsOneKind values }
     ensures { IfOk result (λ vs. vs ≡ finished_values values) }
 {
+    if values.as_slice().is_sorted_by(|a, b| compare(a, b).is_lt()) {
+        return Ok(values);
+    }
     let mut values = values.into_vec();
     values.sort_by(|a, b| compare(a, b))?;
     values.dedup_by(|a, b| is_same_word(a, b));

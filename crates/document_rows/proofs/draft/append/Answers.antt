@@ -1,22 +1,30 @@
-use Rattle.std.proofs.Common.{sym, ◌∙◌, ap, [], ◌∷◌, ◌++◌}
-use Rattle.std.specs.Map.{set_value}
+use Rattle.std.proofs.Common.{rules, ◌≡◌, sym, ◌∙◌, ap, [], ◌∷◌, ◌++◌, Some, None, unwrap_or}
+use Rattle.std.specs.Map.{lookup}
 use Rattle.std.specs.BTreeMap.{is_at, insert_entry}
-use Rattle.std.specs.Option.{option_copied_mut}
+use Rattle.std.specs.BTreeMap.Entry.{entry_value, map_with_value}
 use Rattle.std.specs.Ordering.{nat_cmp}
-use Rattle.document_rows.proofs.Items.{item_found, item_new}
+use Rattle.document_rows.specs.Drafts.{with_item}
+use Rattle.document_rows.proofs.Items.{item_put}
 use Rattle.document_rows.proofs.draft.append.Goals as goal
 
-pub returns-in-Some : goal.returns-in-Some
-returns-in-Some g c =
+pub returns-in_ok-push-in-Ok-Occupied : goal.returns-in_ok-push-in-Ok-Occupied
+returns-in_ok-push-in-Ok-Occupied g c =
     let entries = c.args.lists.now.entries in
-    (c.get_mut.follows.holds c.push.new.self).0
-    ∙ ap (set_value (is_at (nat_cmp c.args.place)) entries) c.in_ok-push.ensures.ok
-    ∙ item_found c.args.place c.args.item entries c.in-Some.found.now c.get_mut.ensures.ordered c.in-Some.ensures.value
+    let found : Some c.into_mut.result.now ≡ lookup (is_at (nat_cmp c.args.place)) entries =
+    sym c.into_mut.ensures.value ∙ ap entry_value (sym c.in-Ok-Occupied.field-0-is) ∙ c.in-Ok-Occupied.ensures.value in
+    let placed : (map_with_value c.in-Ok-Occupied.field-0 c.push.new.self).entries ≡ with_item c.args.place c.args.item entries =
+    c.in-Ok-Occupied.ensures.update.1 c.push.new.self
+    ∙ ap (insert_entry nat_cmp entries c.args.place) (c.in_ok-push-in-Ok-Occupied.ensures.ok ∙ ap (λ o. unwrap_or o [] ++ c.args.item ∷ []) found)
+    ∙ item_put c.args.place c.args.item entries c.in-Ok-Occupied.ensures.ordered in
+    search (rules, placed)
 
-pub returns : goal.returns
-returns g c =
+pub returns-in_ok-push-in-Ok-Vacant : goal.returns-in_ok-push-in-Ok-Vacant
+returns-in_ok-push-in-Ok-Vacant g c =
     let entries = c.args.lists.now.entries in
-    c.in_ok-insert.ensures.entries
-    ∙ ap (λ m. insert_entry nat_cmp m.entries c.args.place c.push-2.new.self) c.get_mut.follows.holds-at-none
-    ∙ ap (insert_entry nat_cmp entries c.args.place) (c.in_ok-push-2.ensures.ok ∙ ap (λ xs. xs ++ c.args.item ∷ []) c.new-first.ensures)
-    ∙ item_new c.args.place c.args.item entries (ap option_copied_mut (sym c.in_default.is) ∙ c.get_mut.ensures.value)
+    let absent : None ≡ lookup (is_at (nat_cmp c.args.place)) entries = sym (rw c.in-Ok-Vacant.field-0-is at c.in-Ok-Vacant.ensures.found) in
+    let placed : (map_with_value c.in-Ok-Vacant.field-0 c.from_vec.result).entries ≡ with_item c.args.place c.args.item entries =
+    c.in-Ok-Vacant.ensures.update.1 c.from_vec.result
+    ∙ ap (insert_entry nat_cmp entries c.args.place)
+    (c.from_vec.ensures ∙ c.in_ok-push-in-Ok-Vacant.ensures.items ∙ ap (λ xs. xs ++ c.args.item ∷ []) c.in_ok-first-in-Ok-Vacant.ensures.items ∙ ap (λ o. unwrap_or o [] ++ c.args.item ∷ []) absent)
+    ∙ item_put c.args.place c.args.item entries c.in-Ok-Vacant.ensures.ordered in
+    search (rules, placed)
