@@ -89,7 +89,8 @@ fn value(
     value: &Value,
 ) -> Result<(), ItemFault>
     requires role { IsRoleIn mapping.now role }
-    ensures value { Gives (λ _. state_of walked.new) result (value_at mapping.now role context (string_bytes walked.old.path) (state_of walked.old) (view value.now)) }
+    ensures value { Gives (λ _. state_of walked.new) result
+        (value_at mapping.now role context (string_bytes walked.old.path) (state_of walked.old) (view value.now)) }
     ensures path { OnOk result (string_bytes walked.new.path ≡ string_bytes walked.old.path) }
 {
     match value {
@@ -111,7 +112,8 @@ fn items(
     items: &Vec<Value>,
 ) -> Result<(), ItemFault>
     requires role { IsRoleIn mapping.now role }
-    ensures value { Gives (λ _. state_of walked.new) result (items_at mapping.now role context (string_bytes walked.old.path) (state_of walked.old) (items_view items.now.items)) }
+    ensures value { Gives (λ _. state_of walked.new) result
+        (items_at mapping.now role context (string_bytes walked.old.path) (state_of walked.old) (items_view items.now.items)) }
     ensures path { OnOk result (string_bytes walked.new.path ≡ string_bytes walked.old.path) }
 {
     for item in items {
@@ -131,7 +133,8 @@ fn object(
     members: &Map<String, Value>,
 ) -> Result<(), ItemFault>
     requires role { IsRoleIn mapping.now role }
-    ensures value { Gives (λ _. state_of walked.new) result (value_at mapping.now role context (string_bytes walked.old.path) (state_of walked.old) (object (members_view members.now.entries))) }
+    ensures value { Gives (λ _. state_of walked.new) result
+        (value_at mapping.now role context (string_bytes walked.old.path) (state_of walked.old) (object (members_view members.now.entries))) }
     ensures path { OnOk result (string_bytes walked.new.path ≡ string_bytes walked.old.path) }
 {
     match role {
@@ -151,7 +154,8 @@ fn inner(
     walked: &mut Walked,
     found: &Map<String, Value>,
 ) -> Result<(), ItemFault>
-    ensures value { Gives (λ _. state_of walked.new) result (members_at mapping.now context (string_bytes walked.old.path ++ 46 ∷ []) (state_of walked.old) (members_view found.now.entries)) }
+    ensures value { Gives (λ _. state_of walked.new) result
+        (members_at mapping.now context (string_bytes walked.old.path ++ 46 ∷ []) (state_of walked.old) (members_view found.now.entries)) }
     ensures path { OnOk result (string_bytes walked.new.path ≡ string_bytes walked.old.path) }
 {
     let end = walked.path.len();
@@ -173,7 +177,8 @@ fn nested(
     members: &Map<String, Value>,
 ) -> Result<(), ItemFault>
     requires { place < length mapping.now.nested }
-    ensures value { Gives (λ _. state_of walked.new) result (nested_at mapping.now place (string_bytes walked.old.path) (state_of walked.old) (members_view members.now.entries)) }
+    ensures value { Gives (λ _. state_of walked.new) result
+        (nested_at mapping.now place (string_bytes walked.old.path) (state_of walked.old) (members_view members.now.entries)) }
     ensures path { OnOk result (string_bytes walked.new.path ≡ string_bytes walked.old.path) }
 {
     if walked.met >= MAX_NESTED_OBJECTS {
@@ -197,7 +202,8 @@ fn member(
     walked: &mut Walked,
     found: &Value,
 ) -> Result<(), ItemFault>
-    ensures value { Gives (λ _. state_of walked.new) result (member_at mapping.now context (string_bytes walked.old.path) (state_of walked.old) (view found.now)) }
+    ensures value { Gives (λ _. state_of walked.new) result
+        (member_at mapping.now context (string_bytes walked.old.path) (state_of walked.old) (view found.now)) }
     ensures path { OnOk result (string_bytes walked.new.path ≡ string_bytes walked.old.path) }
 {
     match role_of(&*mapping, context, walked.path.as_bytes()) {
@@ -220,7 +226,8 @@ pub(crate) fn members(
     walked: &mut Walked,
     members: &Map<String, Value>,
 ) -> Result<(), ItemFault>
-    ensures value { Gives (λ _. state_of walked.new) result (members_at mapping.now context (string_bytes walked.old.path) (state_of walked.old) (members_view members.now.entries)) }
+    ensures value { Gives (λ _. state_of walked.new) result
+        (members_at mapping.now context (string_bytes walked.old.path) (state_of walked.old) (members_view members.now.entries)) }
     ensures path { OnOk result (string_bytes walked.new.path ≡ string_bytes walked.old.path) }
 {
     let end = walked.path.len();
