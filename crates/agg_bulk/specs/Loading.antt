@@ -43,7 +43,8 @@ Ends bytes Read read = IsRefused (loaded (whole_lines (take read bytes)))
 Ends bytes Memory read = ⊤
 
 -- what a step of loading answers
-abbrev pub StepsAt : {X : Type 0} → List ℕ → Result X ScriptFault → (X → List Line → Script Loaded) → Option (List ℕ) → ℕ → Bool → ℕ → Type 0
+abbrev pub StepsAt : {X : Type 0} → List ℕ → Result X ScriptFault → (X → List Line → Script Loaded) → Option (List ℕ) → ℕ → Bool → ℕ
+    → Type 0
 StepsAt bytes (Ok x) after left count ended read = GoesOnAt bytes (after x) left count ended
 StepsAt bytes (Err fault) after left count ended read = Ends bytes fault read
 

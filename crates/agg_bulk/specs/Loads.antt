@@ -29,7 +29,8 @@ end_of fault.Memory = Memory
 abbrev pub EndsLoading : Limits → List ℕ → LoadEnd → ℕ → Type 0
 EndsLoading limits bytes (Script r) read = Ends bytes (fault.Refused r) read
 EndsLoading limits bytes Read read = Ends bytes fault.Read read
-EndsLoading limits bytes (Columns t) read = (defined : Defined) × (loaded (lines bytes) ≡ Ok defined) × (columns_refusal limits (columns_charge (loaded_index defined)) ≡ Some t)
+EndsLoading limits bytes (Columns t) read =
+    (defined : Defined) × (loaded (lines bytes) ≡ Ok defined) × (columns_refusal limits (columns_charge (loaded_index defined)) ≡ Some t)
 EndsLoading limits bytes Memory read = Ends bytes fault.Memory read
 
 abbrev pub LoadsAt : Limits → List ℕ → Result Loaded LoadEnd → Place → Option (List Line) → ℕ → Type 0

@@ -47,7 +47,9 @@ fn next_heading<S: Source>(
     taken: usize,
 ) -> Result<Option<Heading>, ScriptFault>
     requires { kept lines.old ≡ None }
-    ensures script { (bytes : List ℕ) (now : Loading) → now.index.name ≡ index.now → now.actions ≡ taken → GoesOn bytes (actions now (place_of lines.old)) lines.old → Steps bytes result (after_heading now (place_of lines.new)) lines.new }
+    ensures script { (bytes : List ℕ) (now : Loading) → now.index.name ≡ index.now → now.actions ≡ taken →
+        GoesOn bytes (actions now (place_of lines.old)) lines.old →
+        Steps bytes result (after_heading now (place_of lines.new)) lines.new }
     ensures room { IfOk result (λ heading. IsTrue (is_some heading) → taken < MAX_ACTIONS) }
     ensures fault { result ≡ Err Read → Rose (S.faults (source_behind lines.old)) (S.faults (source_behind lines.new)) }
     ensures never_falls { S.faults (source_behind lines.old) ≤ S.faults (source_behind lines.new) }
@@ -70,7 +72,9 @@ fn next_heading<S: Source>(
 /// Reads the source line of an action that is no delete.
 fn source_line<S: Source>(alloc: Global, lines: &mut Lines<'_, S>) -> Result<Bytes, ScriptFault>
     requires { kept lines.old ≡ None }
-    ensures script { (bytes : List ℕ) (now : Loading) (heading : AnyHeading) → GoesOn bytes (source_of heading now (place_of lines.old)) lines.old → Steps bytes result (λ text. actions (with_action heading text now) (place_of lines.new)) lines.new }
+    ensures script { (bytes : List ℕ) (now : Loading) (heading : AnyHeading) →
+        GoesOn bytes (source_of heading now (place_of lines.old)) lines.old →
+        Steps bytes result (λ text. actions (with_action heading text now) (place_of lines.new)) lines.new }
     ensures fault { result ≡ Err Read → Rose (S.faults (source_behind lines.old)) (S.faults (source_behind lines.new)) }
     ensures never_falls { S.faults (source_behind lines.old) ≤ S.faults (source_behind lines.new) }
     ensures kept { OnOk result (kept lines.new ≡ None) }
@@ -108,7 +112,9 @@ fn source<S: Source>(
     kind: ActionKind,
 ) -> Result<Bytes, ScriptFault>
     requires { kept lines.old ≡ None }
-    ensures script { (bytes : List ℕ) (now : Loading) (heading : AnyHeading) → heading.kind ≡ kind → GoesOn bytes (after_line heading now (place_of lines.old)) lines.old → Steps bytes result (λ text. actions (with_action heading text now) (place_of lines.new)) lines.new }
+    ensures script { (bytes : List ℕ) (now : Loading) (heading : AnyHeading) → heading.kind ≡ kind →
+        GoesOn bytes (after_line heading now (place_of lines.old)) lines.old →
+        Steps bytes result (λ text. actions (with_action heading text now) (place_of lines.new)) lines.new }
     ensures fault { result ≡ Err Read → Rose (S.faults (source_behind lines.old)) (S.faults (source_behind lines.new)) }
     ensures never_falls { S.faults (source_behind lines.old) ≤ S.faults (source_behind lines.new) }
     ensures kept { OnOk result (kept lines.new ≡ None) }
@@ -128,7 +134,9 @@ pub(crate) fn next_action<S: Source>(
     taken: usize,
 ) -> Result<Option<Action>, ScriptFault>
     requires { kept lines.old ≡ None }
-    ensures script { (bytes : List ℕ) (now : Loading) → now.index.name ≡ index.now → now.actions ≡ taken → GoesOn bytes (actions now (place_of lines.old)) lines.old → Steps bytes result (after_action now (place_of lines.new)) lines.new }
+    ensures script { (bytes : List ℕ) (now : Loading) → now.index.name ≡ index.now → now.actions ≡ taken →
+        GoesOn bytes (actions now (place_of lines.old)) lines.old →
+        Steps bytes result (after_action now (place_of lines.new)) lines.new }
     ensures room { IfOk result (λ action. IsTrue (is_some action) → taken < MAX_ACTIONS) }
     ensures fault { result ≡ Err Read → Rose (S.faults (source_behind lines.old)) (S.faults (source_behind lines.new)) }
     ensures never_falls { S.faults (source_behind lines.old) ≤ S.faults (source_behind lines.new) }

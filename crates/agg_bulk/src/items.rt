@@ -20,7 +20,8 @@ pub(crate) fn apply(
     action: Action,
 ) -> Result<(), AllocError>
     requires { IsOrdered mapping.now }
-    ensures { OnOk result ((index : IndexLine) → after action (applied mapping.now action store.old) (loading_of index store.old items.old) ≡ loading_of index store.new items.new) }
+    ensures { OnOk result ((index : IndexLine) →
+        after action (applied mapping.now action store.old) (loading_of index store.old items.old) ≡ loading_of index store.new items.new) }
 {
     let kind = action.kind;
     let id = action.id.copy(alloc)?;

@@ -39,7 +39,8 @@ pub struct Sections {
 fn index_line<S: Source>(alloc: Global, lines: &mut Lines<'_, S>) -> Result<IndexLine, ScriptFault>
     requires kept { kept lines.old ≡ None }
     requires start { place_of lines.old ≡ start }
-    ensures script { (bytes : List ℕ) → GoesOn bytes loaded lines.old → Steps bytes result (λ index. sections_from index (place_of lines.new)) lines.new }
+    ensures script { (bytes : List ℕ) → GoesOn bytes loaded lines.old →
+        Steps bytes result (λ index. sections_from index (place_of lines.new)) lines.new }
     ensures ordered { IfOk result (λ index. IsOrdered index.mapping) }
     ensures shards { IfOk result (λ index. (1 ≤ index.shards) × (index.shards ≤ MAX_SHARDS)) }
     ensures paths { IfOk result (λ index. IsTrue (parents_before index.mapping)) }
@@ -63,7 +64,9 @@ fn index_line<S: Source>(alloc: Global, lines: &mut Lines<'_, S>) -> Result<Inde
 /// Reads the empty line behind the index line.
 fn empty_line<S: Source>(alloc: Global, lines: &mut Lines<'_, S>) -> Result<(), ScriptFault>
     requires { kept lines.old ≡ None }
-    ensures script { (bytes : List ℕ) (index : AnyIndexLine) → GoesOn bytes (sections_from index (place_of lines.old)) lines.old → Steps bytes result (λ _. actions (begun index) (place_of lines.new)) lines.new }
+    ensures script { (bytes : List ℕ) (index : AnyIndexLine) →
+        GoesOn bytes (sections_from index (place_of lines.old)) lines.old →
+        Steps bytes result (λ _. actions (begun index) (place_of lines.new)) lines.new }
     ensures fault { result ≡ Err Read → Rose (S.faults (source_of lines.old)) (S.faults (source_of lines.new)) }
     ensures never_falls { S.faults (source_of lines.old) ≤ S.faults (source_of lines.new) }
     ensures kept { OnOk result (kept lines.new ≡ None) }
