@@ -49,6 +49,7 @@ action_going heading source now g =
 
 mutual
   unfolding actions source_of
+
   actions_done : (now : Loading) (place : Place) (ls : List Line) → Going now → IfOk (actions now place ls) Done
   actions_done now place [] g = tt
   actions_done now place (l ∷ ls) g =
