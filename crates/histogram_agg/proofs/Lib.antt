@@ -1,0 +1,4 @@
+mod Starts
+mod Distinct
+mod Rows
+mod Values

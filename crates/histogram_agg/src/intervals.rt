@@ -1,0 +1,34 @@
+//! The intervals of a histogram.
+ghost use Rattle.std.specs.Prelude.{◌≡◌, ◌<◌};
+ghost use Rattle.agg_model.specs.declared.key.Key.TheVariants.{Whole};
+ghost use Rattle.agg_evaluation.specs.Keys.{interval_start as start_of_interval, is_between as is_between_bounds};
+
+use agg_model::Bounds;
+
+/// Where the keys of a histogram lie: each is a multiple of the interval above or below the offset, within the hard bounds.
+#[derive(Clone, Copy)]
+pub(crate) struct Spacing {
+    pub(crate) interval: u64,
+    pub(crate) offset: u64,
+    pub(crate) hard: Bounds,
+}
+
+/// The key of a number: the start of its interval, rounded down for negative numbers too. The interval is not 0.
+pub fn interval_start(interval: u64, offset: u64, number: i64) -> i128
+    requires positive { 0 < interval }
+    ensures { result ≡ start_of_interval interval offset number }
+{
+    let number = i128::from(number);
+    let offset = i128::from(offset);
+    number - (number - offset).rem_euclid(i128::from(interval))
+}
+
+/// Whether a key lies within the bounds that are given.
+pub(crate) fn is_between(bounds: Bounds, key: i128) -> bool
+    ensures { result ≡ is_between_bounds bounds (Whole key) }
+{
+    bounds.min.is_none_or(|least| i128::from(least) <= key)
+        && bounds
+            .max
+            .is_none_or(|greatest| key <= i128::from(greatest))
+}
