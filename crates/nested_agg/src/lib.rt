@@ -2,6 +2,8 @@
 //! nested aggregation'): those within the rows that it is handed, or those around them.
 #![tactic(auto)]
 
+mod around;
 mod beneath;
 
+pub use around::rows_around;
 pub use beneath::rows_beneath;
