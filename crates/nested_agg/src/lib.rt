@@ -4,6 +4,8 @@
 
 mod around;
 mod beneath;
+mod nesting;
 
 pub use around::rows_around;
 pub use beneath::rows_beneath;
+pub use nesting::under;
