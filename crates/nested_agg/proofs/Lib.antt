@@ -1,0 +1,5 @@
+pub mod Lists
+pub mod Apart
+pub mod Chosen
+pub mod Intervals
+pub mod Steps
