@@ -5,6 +5,8 @@
 mod around;
 mod beneath;
 mod nesting;
+#[cfg(test)]
+mod tests;
 
 pub use around::rows_around;
 pub use beneath::rows_beneath;
