@@ -15,7 +15,8 @@ fn around(shard: &Shard, row: u32, context: u32) -> Option<u32>
     requires in_range { row < length shard.now.rows }
     requires apart { IsApart shard.now.rows }
     ensures number { IfSome result (λ outer. outer < length shard.now.rows) }
-    ensures only { (n : ℕ) → n < length shard.now.rows → is_around_row context (row_of shard.now.rows row) (row_of shard.now.rows n) ≡ option_map_or (λ outer. n == outer) result false }
+    ensures only { (n : ℕ) → n < length shard.now.rows →
+        is_around_row context (row_of shard.now.rows row) (row_of shard.now.rows n) ≡ option_map_or (λ outer. n == outer) result false }
 {
     let mut inner = row;
     while shard.context(inner) != context {

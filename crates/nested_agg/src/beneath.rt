@@ -15,7 +15,8 @@ pub fn rows_beneath(
     rows: &List<u32>,
 ) -> Result<List<u32>, AllocError>
     requires in_range { All (λ n. n < length shard.now.rows) rows.now }
-    ensures rows { IfOk result (λ found. map (row_of shard.now.rows) found ≡ flat_map (beneath shard.now.rows (path + 1)) (map (row_of shard.now.rows) rows.now)) }
+    ensures rows { IfOk result (λ found. map (row_of shard.now.rows) found
+        ≡ flat_map (beneath shard.now.rows (path + 1)) (map (row_of shard.now.rows) rows.now)) }
     ensures in_range { IfOk result (λ found. All (λ n. n < length shard.now.rows) found) }
 {
     let mut found = List::new(alloc);

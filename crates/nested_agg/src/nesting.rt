@@ -29,7 +29,8 @@ pub fn under(
     requires apart { IsApart shard.now.rows }
     requires in_range { All (λ n. n < length shard.now.rows) rows.now }
     requires ascending { IsStrictlyIncreasing rows.now }
-    ensures rows { IfOk result (λ found. map (row_of shard.now.rows) found ≡ counted_under shard.now.rows (roots shard.now.rows) kind.now (map (row_of shard.now.rows) rows.now)) }
+    ensures rows { IfOk result (λ found. map (row_of shard.now.rows) found
+        ≡ counted_under shard.now.rows (roots shard.now.rows) kind.now (map (row_of shard.now.rows) rows.now)) }
     ensures in_range { IfOk result (λ found. All (λ n. n < length shard.now.rows) found) }
 {
     match kind {
