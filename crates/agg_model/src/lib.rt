@@ -23,8 +23,6 @@ mod query;
 mod row;
 pub mod script_refusal;
 mod settings;
-#[cfg(test)]
-mod tests;
 mod text;
 
 pub use aggregation::{Agg, Bounds, CompositeSource, Kind, Order, OrderBy, Search};

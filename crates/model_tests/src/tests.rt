@@ -1,11 +1,6 @@
-use crate::aggregation::{Agg, CompositeSource, Kind, Search};
-use crate::boxed::Boxed;
-use crate::bytes::Bytes;
-use crate::copying::Copying;
-use crate::key::Key;
-use crate::list::List;
-use crate::query::{Probe, Query};
-use crate::text::Text;
+use agg_model::{
+    Agg, Boxed, Bytes, CompositeSource, Copying, Key, Kind, List, Probe, Query, Search, Text,
+};
 use std::alloc::{AllocError, Global};
 use std::test::Fail;
 
