@@ -1,6 +1,6 @@
 -- What the reduction of parts that cost s together makes of a pass (Elasticsearch Reference 8, 'Circuit breaker settings': the
 -- request circuit breaker).
-use Rattle.std.specs.Prelude.{◌≡◌, ℕ, ◌+◌, ◌-◌, ◌≤◌}
+use Rattle.std.specs.Prelude.{ℕ, ◌+◌, ◌-◌}
 use Rattle.agg_model.specs.declared.breaker.Limits.{Limits}
 use Rattle.agg_model.specs.declared.breaker.Child.TheVariants as child
 use Rattle.agg_model.specs.declared.breaker.Which.{Which}

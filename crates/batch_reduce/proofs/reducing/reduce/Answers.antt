@@ -1,4 +1,3 @@
-use Rattle.std.specs.Prelude.{◌≡◌, ◌≤◌, ◌-◌}
 use Rattle.std.proofs.Common.{sym, ◌∙◌, arith}
 use Rattle.agg_model.specs.declared.breaker.Which.TheVariants.{Request}
 use Rattle.agg_evaluation.specs.Cost.{cost}
@@ -12,14 +11,14 @@ pub returns-in-Ok-clause-holds : goal.returns-in-Ok-clause-holds
 returns-in-Ok-clause-holds c =
     let m = c.in-Ok.merged in
     elim c.then-len-eq1.branch [
-      then-len-eq1-via-then-len-eq1 w ↦ same-holds c.args.pass.now.view (cost_of_parts c.args.parts) (cost m) (one-costs c.args.parts m (sym c.len.ensures ∙ w.if-len-eq1.true) (λ p e. (let same = c.in-Ok.ensures.one p e in cc)))
+      | then-len-eq1-via-then-len-eq1 w ↦ same-holds c.args.pass.now.view (cost_of_parts c.args.parts) (cost m) (one-costs c.args.parts m (sym c.len.ensures ∙ w.if-len-eq1.true) (λ p e. (let same = c.in-Ok.ensures.one p e in cc)))
       | then-len-eq1-via-else-len-eq1+then-total-eq0 w ↦ same-holds c.args.pass.now.view (cost_of_parts c.args.parts) (cost m) (free-costs c.args.parts m c.requires.some c.requires.parts c.in-Ok.ensures.whole (sym c.cost_of_all-total.ensures ∙ w.if-total-eq0.true))
     ]
 
 pub returns-in-Err-clause-holds : goal.returns-in-Err-clause-holds
 returns-in-Err-clause-holds c =
     elim c.then-len-eq1.branch [
-      then-len-eq1-via-then-len-eq1 w ↦ (let one = one-part c.args.parts (sym c.len.ensures ∙ w.if-len-eq1.true) in let no = c.in-Err.ensures.one one.0 one.1 in cc)
+      | then-len-eq1-via-then-len-eq1 w ↦ (let one = one-part c.args.parts (sym c.len.ensures ∙ w.if-len-eq1.true) in let no = c.in-Err.ensures.one one.0 one.1 in cc)
       | then-len-eq1-via-else-len-eq1+then-total-eq0 w ↦ same-holds c.args.pass.now.view (cost_of_parts c.args.parts) 0 (sym w.if-total-eq0.true ∙ c.cost_of_all-total.ensures)
     ]
 
