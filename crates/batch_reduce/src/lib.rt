@@ -4,6 +4,8 @@
 
 mod merging;
 mod reducing;
+#[cfg(test)]
+mod tests;
 
 pub use agg_model::Tripped;
 pub use reducing::{ReduceEnd, reduce};

@@ -32,6 +32,8 @@ pub fn begin(words: &Words, pass: &mut Pass, wanted: u64) -> Result<(), Tripped>
     ensures cap { pass.new.view.cap ≡ pass.old.view.cap }
     ensures held { OnOk result (hold_of pass.new.view which.Request ≡ hold_of pass.old.view which.Request + wanted) }
     ensures held_at_parent { OnOk result (pass.new.view.accounts.parent.hold ≡ pass.old.view.accounts.parent.hold + wanted) }
+    ensures gone { OnErr result (hold_of pass.new.view which.Request ≡ hold_of pass.old.view which.Request) }
+    ensures gone_at_parent { OnErr result (pass.new.view.accounts.parent.hold ≡ pass.old.view.accounts.parent.hold) }
 {
     charge(words, pass, Child::Request, wanted)?;
     Ok(())
@@ -61,6 +63,8 @@ pub fn settle(words: &Words, pass: &mut Pass, held: u64, wanted: u64) -> Result<
     ensures cap { pass.new.view.cap ≡ pass.old.view.cap }
     ensures held { OnOk result (hold_of pass.new.view which.Request + held ≡ hold_of pass.old.view which.Request + wanted) }
     ensures held_at_parent { OnOk result (pass.new.view.accounts.parent.hold + held ≡ pass.old.view.accounts.parent.hold + wanted) }
+    ensures gone { OnErr result (hold_of pass.new.view which.Request + held ≡ hold_of pass.old.view which.Request) }
+    ensures gone_at_parent { OnErr result (pass.new.view.accounts.parent.hold + held ≡ pass.old.view.accounts.parent.hold) }
 {
     if wanted > held {
         return raise(words, pass, held, wanted);
@@ -90,9 +94,11 @@ fn raise(words: &Words, pass: &mut Pass, held: u64, wanted: u64) -> Result<(), T
     ensures cap { pass.new.view.cap ≡ pass.old.view.cap }
     ensures held { OnOk result (hold_of pass.new.view which.Request + held ≡ hold_of pass.old.view which.Request + wanted) }
     ensures held_at_parent { OnOk result (pass.new.view.accounts.parent.hold + held ≡ pass.old.view.accounts.parent.hold + wanted) }
+    ensures gone { OnErr result (hold_of pass.new.view which.Request + held ≡ hold_of pass.old.view which.Request) }
+    ensures gone_at_parent { OnErr result (pass.new.view.accounts.parent.hold + held ≡ pass.old.view.accounts.parent.hold) }
 {
     if let Err(tripped) = charge(words, pass, Child::Request, wanted - held) {
-        give_back(words, pass, Child::Request, held);
+        give_up(words, pass, held);
         return Err(tripped);
     }
     Ok(())
