@@ -8,6 +8,7 @@ use Rattle.agg_model.specs.declared.breaker.Which.TheVariants.{Parent}
 use Rattle.agg_model.specs.declared.breaker.Tripped.{Tripped}
 use Rattle.breaker_words.specs.declared.trial.Trial.TheVariants.{Rest}
 use Rattle.breaker_words.specs.declared.view.View.{View}
+use Rattle.breaker_words.specs.Accounts.{account}
 use Rattle.breaker_words.specs.Breakers.{amount_at, counter_value}
 use Rattle.agg_model.specs.Breakers.{which_of, limit_of}
 use Rattle.breaker_words.specs.Views.{hold_of, granted_of, trips_of, most_of, seen_of}
@@ -36,6 +37,9 @@ pub record IsTripped (l : Limits) (v : View) (c : Child) (a : ℕ) (t : Tripped)
   pub most : (x : Which) → most_of u x ≤ max (most_of v x) (hold_of v x + a)
   pub seen : (x : Which) → seen_of v x ≤ seen_of u x
   pub seen_there : t.wanted ≤ seen_of u t.which
+  -- the breakers at which no step was made are as they were
+  pub untouched : (x : Which) → x ≢ which_of c → x ≢ Parent → account u.accounts x ≡ account v.accounts x
+  pub untouched_parent : t.which ≢ Parent → u.accounts.parent ≡ v.accounts.parent
 
 -- a charge of a at the child c was granted by the child and the parent
 pub record IsCharged (l : Limits) (v : View) (c : Child) (a : ℕ) (u : View) : Type 0 where
@@ -52,6 +56,7 @@ pub record IsCharged (l : Limits) (v : View) (c : Child) (a : ℕ) (u : View) : 
   -- neither saw a total above its limit
   pub seen_child : seen_of u (which_of c) ≤ max (seen_of v (which_of c)) (limit_of l (which_of c))
   pub seen_parent : seen_of u Parent ≤ max (seen_of v Parent) l.parent
+  pub untouched : (x : Which) → x ≢ which_of c → x ≢ Parent → account u.accounts x ≡ account v.accounts x
 
 -- an amount of a was given back at the child c and at the parent
 pub record IsGivenBack (v : View) (c : Child) (a : ℕ) (u : View) : Type 0 where

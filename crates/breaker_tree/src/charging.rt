@@ -3,6 +3,7 @@ ghost use Rattle.std.specs.Prelude.{◌≡◌, ◌+◌, ◌≤◌, IfErr, IfOk, 
 ghost use Rattle.agg_model.specs.Breakers.{which_of};
 ghost use Rattle.breaker_words.specs.Views.{hold_of};
 ghost use Rattle.breaker_words.specs.Passes.{IsOf};
+ghost use Rattle.breaker_words.specs.Soundness.{IsBounded};
 ghost use Rattle.breaker_tree.specs.Charge.{IsTripped, IsCharged, IsGivenBack, answer_alone};
 
 use agg_model::{Child, Tripped, Which};
@@ -26,6 +27,9 @@ pub fn charge(words: &Words, pass: &mut Pass, child: Child, amount: u64) -> Resu
     ensures err { IfErr result (λ t. IsTripped words.now.limits pass.old.view child amount t pass.new.view) }
     ensures ok { IfOk result (λ _. IsCharged words.now.limits pass.old.view child amount pass.new.view) }
     ensures whole { pass.old.view.cap ≡ pass.old.view.total → result ≡ answer_alone words.now.limits pass.old.view child amount }
+
+    // What the pass held before is within the limits.
+    ensures bounded { IsBounded words.now.limits pass.old.view }
 
     // What the conditions of the next charge speak of.
     ensures trial { pass.new.view.trial ≡ Trial.Rest }

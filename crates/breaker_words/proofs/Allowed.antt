@@ -1,6 +1,7 @@
 -- Each step of a pass keeps the rule, since it is one move.
 use Rattle.std.proofs.Common.{◌≡◌, ℕ, ◌+◌, ◌-◌, ◌≤◌, true, List, [], ◌∷◌, ◌++◌, sym, refl, ap, ◌∙◌, subst, get_or, ◌%◌, ◌^◌}
-use mathlib.Core.Option.{none}
+use mathlib.Core.Option.{none, some}
+use lib.ListN.{get_elem?}
 use Rattle.agg_model.specs.declared.breaker.Limits.{Limits}
 use Rattle.agg_model.specs.declared.breaker.Child.{Child}
 use Rattle.agg_model.specs.declared.breaker.Which.{Which}
@@ -13,11 +14,12 @@ use Rattle.breaker_words.specs.Views.{hold_of, most_of, spent_view}
 use Rattle.breaker_words.specs.Trials.{is_returning}
 use Rattle.breaker_words.specs.AfterStep.{after_try_child, after_take_back_child, after_try_parent, after_take_back_parent, after_give_parent, after_give_child, after_set_ceiling, after_split, split_off, after_join}
 use Rattle.breaker_words.specs.Moves.{BreakerState, Move, look, set_ceiling, split, join, try_child, take_back_child, try_parent, take_back_parent, give_parent, give_child, move, run, opened}
-use Rattle.breaker_words.specs.Soundness.{IsNear}
+use Rattle.breaker_words.specs.Soundness.{IsNear, IsBounded}
 use Rattle.std.proofs.lemmas.List.Sums.{fold-append}
 use Rattle.atomic_table.specs.Table.{Me, step, keeps, stepped, Allows, Splits, Joins}
 use Rattle.breaker_words.specs.Steps.{IsReached, TriesChild, TakesBackChild, TriesParent, TakesBackParent, GivesParent, GivesChild, SetsCeiling, Looks}
 use Rattle.breaker_words.proofs.Runs.{sound_run}
+use Rattle.breaker_words.proofs.Bounds.{bounded_run}
 use Rattle.breaker_words.specs.Atomic.{Running}
 use Rattle.breaker_words.proofs.OneMove.{same_child, try_step, parent_step, take_step, take_parent_step, give_parent_step, give_child_step, ceil_step, split_step, join_step, look_step}
 
@@ -29,6 +31,10 @@ reached : (l : Limits) (s : Running) (r : IsReached l s) (m : Move) (ws : List �
     → IsReached l (record { words = ws; homes = s.homes; views = vs })
 reached l s r m ws vs at = let now : run l (r.0 ++ m ∷ []) ≡ move l (run l r.0) m = fold-append (move l) (opened l) r.0 (m ∷ []) in
     (r.0 ++ m ∷ [], (at.0 ∙ ap (λ (k : BreakerState). words_of k.word_of k.ceiling) (sym now), at.1 ∙ ap (λ (k : BreakerState). k.passes) (sym now)))
+
+-- what holds of each pass that the moves made
+bounded : (l : Limits) (s : Running) → IsReached l s → (id : ℕ) (v : View) → get_elem? s.views id ≡ some v → v.limits ≡ l → IsBounded v.limits v
+bounded l s r id v at_home of = subst (λ y. IsBounded y v) (sym of) (bounded_run l r.0 id v (ap (λ vs. get_elem? vs id) (sym r.1.1) ∙ at_home))
 
 along : (me : M) (v : View) → me ≡ (v, []) → (P : M → Type 0) → P (v, []) → P me
 along me v e P h = subst P (sym e) h
@@ -44,7 +50,7 @@ allows_try l slots id me p a v c e q rest pos room of = along_at me v p (place (
       keeps,
       tt,
       subst (λ y. IsReached l (stepped s (place (which_of c)) ((n + a) % 18446744073709551616) id [] (after_try_child y v c a (n + a)) keeps)) (sym of) (reached l s r (try_child id c a) _ _ g.0),
-      λ d q. let is = same_child c d q in ((λ i. (after_try_child v.limits v (is i) a (n + a), [])), subst (λ z. IsNear v (which_of z) n) is g.1),
+      λ d q. let is = same_child c d q in ((λ i. (after_try_child v.limits v (is i) a (n + a), [])), subst (λ z. IsNear v (which_of z) n) is g.1, bounded l s r id v at_home of),
     ))
 
 pub allows_parent : (l : Limits) (slots id : ℕ) (me : M) (a : ℕ) (v : View) → me ≡ (v, []) → a ≡ v.amount → v.trial ≡ ChildGranted → v.limits ≡ l
@@ -79,10 +85,10 @@ pub allows_ceil : (l : Limits) (slots id : ℕ) (me : M) (t : ℕ) (v : View) �
 allows_ceil l slots id me t v e rest living whole pos room top = along me v e (λ z. Allows (IsReached l) slots id z 4 (λ _. t) (SetsCeiling (step slots 4 t 0 none) z))
     (λ s r _ at_home fits. (after_set_ceiling v t, keeps, tt, reached l s r (set_ceiling id t) _ _ (ceil_step l (run l r.0) (sound_run l r.0) s r.1 id v at_home t rest living whole pos room top), refl))
 
-pub allows_look : (l : Limits) (slots id : ℕ) (me : M) (p : ℕ) (v : View) → me ≡ (v, [])
+pub allows_look : (l : Limits) (slots id : ℕ) (me : M) (p : ℕ) (v : View) → me ≡ (v, []) → v.limits ≡ l
     → Allows (IsReached l) slots id me p (λ n. n) (Looks (step slots p 0 0 none) me)
-allows_look l slots id me p v e = along me v e (λ z. Allows (IsReached l) slots id z p (λ n. n) (Looks (step slots p 0 0 none) z))
-    (λ s r _ at_home fits. let g = look_step l (run l r.0) (sound_run l r.0) s r.1 id v at_home p in (v, keeps, tt, reached l s r (look id Request) _ _ g.0, (refl, g.1, g.2, g.3)))
+allows_look l slots id me p v e of = along me v e (λ z. Allows (IsReached l) slots id z p (λ n. n) (Looks (step slots p 0 0 none) z))
+    (λ s r _ at_home fits. let g = look_step l (run l r.0) (sound_run l r.0) s r.1 id v at_home p in (v, keeps, tt, reached l s r (look id Request) _ _ g.0, (refl, g.1, g.2, g.3, bounded l s r id v at_home of)))
 
 pub splits : (l : Limits) (id : ℕ) (x v : View) (z : ℕ) → x ≡ v → v.trial ≡ Rest → 1 ≤ v.total → ((y : Which) → most_of v y + z ≤ v.cap) → Splits {S = Unit {0}} (IsReached l) id x (after_split x z) (split_off x z)
 splits l id x v z e rest living room = subst (λ y. Splits {S = Unit {0}} (IsReached l) id y (after_split y z) (split_off y z)) (sym e) (λ s r at_home. reached l s r (split id z) _ _ (split_step l (run l r.0) (sound_run l r.0) s r.1 id v at_home z rest living room))

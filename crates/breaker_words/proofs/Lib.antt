@@ -3,6 +3,7 @@ pub mod OnePass
 pub mod Steps
 pub mod Runs
 pub mod OneMove
+pub mod Bounds
 pub mod Allowed
 pub mod LivePasses
 pub mod Counts

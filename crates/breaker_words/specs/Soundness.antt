@@ -9,7 +9,7 @@ use Rattle.agg_model.specs.declared.breaker.Which.{Which}
 use Rattle.breaker_words.specs.declared.view.View.{View}
 use Rattle.agg_model.specs.Breakers.{which_of, limit_of}
 use Rattle.breaker_words.specs.Accounts.{children_in}
-use Rattle.breaker_words.specs.Views.{hold_of, most_of, seen_of, spent_view}
+use Rattle.breaker_words.specs.Views.{hold_of, granted_of, trips_of, most_of, seen_of, spent_view}
 use Rattle.breaker_words.specs.Trials.{HasAmount, child_standing, child_only, standing_of, in_force_of}
 use Rattle.breaker_words.specs.Moves.{BreakerState}
 
@@ -44,3 +44,9 @@ pub record IsSound (l : Limits) (s : BreakerState) : Type 0 where
 -- a word as the pass may find it: at least what it has standing there, and at most the others' caps above that
 abbrev pub IsNear : View → Which → ℕ → Type 0
 IsNear v x n = (standing_of v x ≤ n) × (0 < v.cap → n + v.cap ≤ standing_of v x + v.total)
+
+-- what a pass holds at a breaker is within its limit, and its counters are not above where they stop
+pub record IsBounded (l : Limits) (v : View) : Type 0 where
+  pub holds : (x : Which) → hold_of v x ≤ limit_of l x
+  pub granted : (x : Which) → granted_of v x ≤ 18446744073709551615
+  pub trips : (x : Which) → trips_of v x ≤ 18446744073709551615

@@ -12,7 +12,7 @@ use Rattle.breaker_words.specs.Views.{most_of, seen_of}
 use Rattle.breaker_words.specs.AfterStep.{after_set_ceiling, after_try_child, after_take_back_child, after_try_parent, after_take_back_parent, after_give_parent, after_give_child}
 use Rattle.breaker_words.specs.Moves.{Move, run}
 use Rattle.breaker_words.specs.Atomic.{Running, IsStateOf}
-use Rattle.breaker_words.specs.Soundness.{IsNear}
+use Rattle.breaker_words.specs.Soundness.{IsNear, IsBounded}
 
 -- the rule: some list of moves from the opening makes them
 abbrev pub IsReached : Limits → Running → Type 0
@@ -23,7 +23,7 @@ abbrev pub StepTells : Type 1
 StepTells = Step (Unit {0}) → Me (Unit {0}) View → ℕ → Me (Unit {0}) View → Type 0
 
 abbrev pub TriesChild : StepTells
-TriesChild s v n w = (c : Child) → s.word ≡ place (which_of c) → (w ≡ (after_try_child v.0.limits v.0 c s.first (n + s.first), [])) × IsNear v.0 (which_of c) n
+TriesChild s v n w = (c : Child) → s.word ≡ place (which_of c) → (w ≡ (after_try_child v.0.limits v.0 c s.first (n + s.first), [])) × IsNear v.0 (which_of c) n × IsBounded v.0.limits v.0
 
 abbrev pub TakesBackChild : StepTells
 TakesBackChild s v n w = w ≡ (after_take_back_child v.0, [])
@@ -50,3 +50,4 @@ Looks s v n w =
     × (v.0.cap ≤ v.0.total)
     × ((x : Which) → s.word ≡ place x → IsNear v.0 x n)
     × (v.0.cap ≡ v.0.total → 0 < v.0.cap → (x : Which) → seen_of v.0 x ≤ most_of v.0 x)
+    × IsBounded v.0.limits v.0

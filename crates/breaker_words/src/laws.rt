@@ -17,7 +17,7 @@ ghost use Rattle.breaker_words.specs.Views.{hold_of, granted_of, trips_of, most_
 ghost use Rattle.breaker_words.specs.Trials.{is_returning};
 ghost use Rattle.breaker_words.specs.AfterStep.{after_set_ceiling, after_split, split_off, after_join, after_try_child, after_take_back_child, after_try_parent, after_take_back_parent, after_give_parent, after_give_child};
 ghost use Rattle.breaker_words.specs.Moves.{BreakerState, Move, look, set_ceiling, split, join, try_child, take_back_child, try_parent, take_back_parent, give_parent, give_child, opened, move, run};
-ghost use Rattle.breaker_words.specs.Soundness.{IsSound};
+ghost use Rattle.breaker_words.specs.Soundness.{IsBounded, IsSound};
 ghost use Rattle.breaker_words.specs.Counts.{sum_over_moves, amount_granted, refusals, untaken_refusals};
 ghost use Rattle.breaker_words.specs.Atomic.{Running, IsStateOf, IsPassAfter, word_plus, word_minus, after_atomic, with_views};
 ghost use Rattle.breaker_words.specs.Steps.{IsReached};
@@ -30,6 +30,11 @@ pub fn soundness()
 /// What all passes hold together at a breaker never passes its limit.
 pub fn holds_within_limits()
     ensures { (l : Limits) (ms : List Move) (x : Which) → sum_by (λ v. hold_of v x) (run l ms).passes ≤ limit_of l x }
+{}
+
+/// Each pass holds no more than the limits, and its granted totals and trips are at most 2^64 - 1.
+pub fn each_pass_is_bounded()
+    ensures { (l : Limits) (ms : List Move) (i : ℕ) (v : View) → get_elem? (run l ms).passes i ≡ some v → IsBounded l v }
 {}
 
 /// The granted totals of all passes at a breaker are together the sum of the amounts that the moves granted there,

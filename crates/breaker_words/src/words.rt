@@ -6,7 +6,7 @@ ghost use Rattle.agg_model.specs.Breakers.{which_of, limit_of};
 ghost use Rattle.breaker_words.specs.Views.{first_view, hold_of, granted_of, trips_of, most_of, seen_of};
 ghost use Rattle.breaker_words.specs.Trials.{is_returning};
 ghost use Rattle.breaker_words.specs.AfterStep.{after_try_child, after_take_back_child, after_try_parent, after_take_back_parent, after_give_parent, after_give_child, after_set_ceiling, after_split, split_off, after_join};
-ghost use Rattle.breaker_words.specs.Soundness.{IsNear};
+ghost use Rattle.breaker_words.specs.Soundness.{IsNear, IsBounded};
 ghost use Rattle.breaker_words.specs.Passes.{WordsModel, PassModel, IsOf, with_view, IsLive};
 
 use crate::breaker::{CEILING, PARENT, limit_of, place_of, which_of};
@@ -157,6 +157,7 @@ pub fn try_child(words: &Words, pass: &mut Pass, child: Child, amount: u64) -> S
     ensures granted { result.granted ≡ nat_le result.total (limit_of words.now.limits (which_of child)) }
     ensures least { hold_of pass.old.view (which_of child) + amount ≤ result.total }
     ensures most { result.total + pass.old.view.cap ≤ hold_of pass.old.view (which_of child) + amount + pass.old.view.total }
+    ensures bounded { IsBounded words.now.limits pass.old.view }
 {
     let which = which_of(child);
     let found = words
@@ -286,6 +287,8 @@ pub fn look(words: &Words, pass: &mut Pass, which: Which) -> u64
     ensures same { pass.new ≡ pass.old }
     ensures near { IsNear pass.old.view which result }
     ensures whole { pass.old.view.cap ≡ pass.old.view.total → result ≡ hold_of pass.old.view which }
+    // What the pass holds is within the limits.
+    ensures bounded { IsBounded words.now.limits pass.old.view }
     // No trial of this pass saw more than it had standing itself.
     ensures seen { pass.old.view.cap ≡ pass.old.view.total → (x : Which) → seen_of pass.old.view x ≤ most_of pass.old.view x }
 {

@@ -19,7 +19,7 @@ pub load-requires : goal.load-requires
 load-requires c = (
   search rules,
   omega (arith, c.words.invariant.0),
-  allows_look _ _ _ _ _ (after_join c.pass.inside.known c.args.other.view) (search rules),
+  allows_look _ _ _ _ _ (after_join c.pass.inside.known c.args.other.view) (search rules) (search rules),
 )
 
 pub invariant_of-pass : goal.invariant_of-pass
