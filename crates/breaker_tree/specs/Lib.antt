@@ -1,2 +1,3 @@
 pub mod Charge
+pub mod Reopening
 pub mod Statistics

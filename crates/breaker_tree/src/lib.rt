@@ -3,10 +3,12 @@
 #![tactic(auto)]
 
 mod charging;
+mod reopening;
 mod statistics;
 #[cfg(test)]
 mod tests;
 
 pub use agg_model::{BreakerStats, Totals, Tripped};
 pub use charging::{charge, give_back};
+pub use reopening::{Reopened, reopen};
 pub use statistics::{close, stats};
