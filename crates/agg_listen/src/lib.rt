@@ -1,0 +1,10 @@
+//! Who is told of an answer once its line is written: listeners, which say each time whether they stay.
+#![tactic(auto)]
+
+mod list_listener;
+mod listener;
+#[cfg(test)]
+mod tests;
+
+pub use list_listener::ListListener;
+pub use listener::{Keep, Listener, Told, tell};
