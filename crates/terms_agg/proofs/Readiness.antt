@@ -37,7 +37,7 @@ no_values : (missing : Option Scalar) (vs : List Scalar) → length vs ≡ 0 →
 no_values missing [] none = refl
 no_values missing (v ∷ vs) none = absurd (omega arith)
 
-some_values : (missing : Option Scalar) (vs : List Scalar) → 0 < length vs → or_missing missing vs ≡ vs
+pub some_values : (missing : Option Scalar) (vs : List Scalar) → 0 < length vs → or_missing missing vs ≡ vs
 some_values missing [] some = absurd (omega arith)
 some_values missing (v ∷ vs) some = refl
 

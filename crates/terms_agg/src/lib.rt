@@ -8,6 +8,7 @@ mod included;
 mod prepared;
 mod preparing;
 mod row_codes;
+mod row_keys;
 #[cfg(test)]
 mod tests;
 mod trimming;
@@ -15,4 +16,5 @@ mod trimming;
 pub use prepared::{PreparedTerms, codes_have_keys_of_their_own, key, key_bytes};
 pub use preparing::prepare;
 pub use row_codes::{codes, count};
+pub use row_keys::{key_count, keys};
 pub use trimming::trim;

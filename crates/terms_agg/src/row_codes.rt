@@ -16,8 +16,8 @@ use crate::prepared::{PreparedTerms, is_allowed};
 use shard_columns::{Cell, Shard};
 use std::alloc::AllocError;
 
-// The code of the value that a row has of a field at this place.
-fn code_at(shard: &Shard, row: u32, field: u32, place: u32) -> i64
+/// The code of the value that a row has of a field at this place.
+pub(crate) fn code_at(shard: &Shard, row: u32, field: u32, place: u32) -> i64
     requires known { field < length shard.now.kinds }
     requires in_range { row < length shard.now.rows }
     requires there { place < length (values_of field (row_of shard.now.rows row)) }
