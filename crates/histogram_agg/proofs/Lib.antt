@@ -2,3 +2,4 @@ mod Starts
 mod Distinct
 mod Rows
 mod Values
+pub mod Coding

@@ -2,7 +2,13 @@
 #![tactic(auto)]
 
 mod intervals;
+mod prepared;
+mod preparing;
+mod row_codes;
 mod row_keys;
 
 pub use intervals::interval_start;
+pub use prepared::PreparedHistogram;
+pub use preparing::{codes_have_keys_of_their_own, key, key_bytes, prepare};
+pub use row_codes::{codes, count};
 pub use row_keys::{key_count, keys};
