@@ -57,7 +57,8 @@ pub fn reduce(alloc: Global, words: &Words, pass: &mut Pass, parts: List<Partial
         IfDone result (λ p. IsMerged words.now.limits pass.old.view (cost_of_parts parts) (cost_of p) pass.new.view) }
     ensures memory { 2 ≤ length parts → 1 ≤ cost_of_parts parts →
         IfMemory result (IsMerged words.now.limits pass.old.view (cost_of_parts parts) 0 pass.new.view) }
-    ensures refused { IfRefused result (λ t. IsRefused words.now.limits pass.old.view (cost_of_parts parts) t pass.new.view) }
+    ensures refused { IfRefused result (λ t.
+        IsRefused words.now.limits pass.old.view (cost_of_parts parts) t pass.new.view) }
     // With the whole cap the pass's own holds decide.
     ensures alone { pass.old.view.cap ≡ pass.old.view.total → 2 ≤ length parts → 1 ≤ cost_of_parts parts →
         FollowsCharge (answer_alone words.now.limits pass.old.view child.Request (cost_of_parts parts)) result }

@@ -14,7 +14,10 @@ use std::test::Fail;
 
 /// What a shard answers that has one document with this word.
 fn part(alloc: Global, word: &str) -> Result<Partial, AllocError>
-    ensures { IfOk result (λ p. p ≡ record { hits = 1; nodes = node.Keyed (record { key = any_key.Word word.now; count = 1; covered = 0; children = [] } ∷ []) 0 0 0 ∷ [] }) }
+    ensures { IfOk result (λ p. p ≡ record {
+      hits = 1;
+      nodes = node.Keyed (record { key = any_key.Word word.now; count = 1; covered = 0; children = [] } ∷ []) 0 0 0 ∷ [];
+    }) }
 {
     let mut buckets = List::new(alloc);
     buckets.push(Bucket {
@@ -34,7 +37,8 @@ fn part(alloc: Global, word: &str) -> Result<Partial, AllocError>
 }
 
 fn two_parts(alloc: Global) -> Result<List<Partial>, AllocError>
-    ensures { IfOk result (λ ps. ((search : AnySearch) × AreParts search ps) × (length ps ≡ 2) × (cost_of_parts ps ≡ 1282)) }
+    ensures { IfOk result (λ ps. ((search : AnySearch) × AreParts search ps) × (length ps ≡ 2)
+        × (cost_of_parts ps ≡ 1282)) }
 {
     let mut parts = List::new(alloc);
     parts.push(part(alloc, "a")?)?;

@@ -30,10 +30,14 @@ pub fn begin(words: &Words, pass: &mut Pass, wanted: u64) -> Result<(), Tripped>
     ensures of { IsOf words.now pass.new }
     ensures trial { pass.new.view.trial ≡ Trial.Rest }
     ensures cap { pass.new.view.cap ≡ pass.old.view.cap }
-    ensures held { OnOk result (hold_of pass.new.view which.Request ≡ hold_of pass.old.view which.Request + wanted) }
-    ensures held_at_parent { OnOk result (pass.new.view.accounts.parent.hold ≡ pass.old.view.accounts.parent.hold + wanted) }
-    ensures gone { OnErr result (hold_of pass.new.view which.Request ≡ hold_of pass.old.view which.Request) }
-    ensures gone_at_parent { OnErr result (pass.new.view.accounts.parent.hold ≡ pass.old.view.accounts.parent.hold) }
+    ensures held { OnOk result
+        (hold_of pass.new.view which.Request ≡ hold_of pass.old.view which.Request + wanted) }
+    ensures held_at_parent { OnOk result
+        (pass.new.view.accounts.parent.hold ≡ pass.old.view.accounts.parent.hold + wanted) }
+    ensures gone { OnErr result
+        (hold_of pass.new.view which.Request ≡ hold_of pass.old.view which.Request) }
+    ensures gone_at_parent { OnErr result
+        (pass.new.view.accounts.parent.hold ≡ pass.old.view.accounts.parent.hold) }
 {
     charge(words, pass, Child::Request, wanted)?;
     Ok(())
@@ -61,10 +65,14 @@ pub fn settle(words: &Words, pass: &mut Pass, held: u64, wanted: u64) -> Result<
     ensures of { IsOf words.now pass.new }
     ensures trial { pass.new.view.trial ≡ Trial.Rest }
     ensures cap { pass.new.view.cap ≡ pass.old.view.cap }
-    ensures held { OnOk result (hold_of pass.new.view which.Request + held ≡ hold_of pass.old.view which.Request + wanted) }
-    ensures held_at_parent { OnOk result (pass.new.view.accounts.parent.hold + held ≡ pass.old.view.accounts.parent.hold + wanted) }
-    ensures gone { OnErr result (hold_of pass.new.view which.Request + held ≡ hold_of pass.old.view which.Request) }
-    ensures gone_at_parent { OnErr result (pass.new.view.accounts.parent.hold + held ≡ pass.old.view.accounts.parent.hold) }
+    ensures held { OnOk result
+        (hold_of pass.new.view which.Request + held ≡ hold_of pass.old.view which.Request + wanted) }
+    ensures held_at_parent { OnOk result
+        (pass.new.view.accounts.parent.hold + held ≡ pass.old.view.accounts.parent.hold + wanted) }
+    ensures gone { OnErr result
+        (hold_of pass.new.view which.Request + held ≡ hold_of pass.old.view which.Request) }
+    ensures gone_at_parent { OnErr result
+        (pass.new.view.accounts.parent.hold + held ≡ pass.old.view.accounts.parent.hold) }
 {
     if wanted > held {
         return raise(words, pass, held, wanted);
@@ -92,10 +100,14 @@ fn raise(words: &Words, pass: &mut Pass, held: u64, wanted: u64) -> Result<(), T
     ensures of { IsOf words.now pass.new }
     ensures trial { pass.new.view.trial ≡ Trial.Rest }
     ensures cap { pass.new.view.cap ≡ pass.old.view.cap }
-    ensures held { OnOk result (hold_of pass.new.view which.Request + held ≡ hold_of pass.old.view which.Request + wanted) }
-    ensures held_at_parent { OnOk result (pass.new.view.accounts.parent.hold + held ≡ pass.old.view.accounts.parent.hold + wanted) }
-    ensures gone { OnErr result (hold_of pass.new.view which.Request + held ≡ hold_of pass.old.view which.Request) }
-    ensures gone_at_parent { OnErr result (pass.new.view.accounts.parent.hold + held ≡ pass.old.view.accounts.parent.hold) }
+    ensures held { OnOk result
+        (hold_of pass.new.view which.Request + held ≡ hold_of pass.old.view which.Request + wanted) }
+    ensures held_at_parent { OnOk result
+        (pass.new.view.accounts.parent.hold + held ≡ pass.old.view.accounts.parent.hold + wanted) }
+    ensures gone { OnErr result
+        (hold_of pass.new.view which.Request + held ≡ hold_of pass.old.view which.Request) }
+    ensures gone_at_parent { OnErr result
+        (pass.new.view.accounts.parent.hold + held ≡ pass.old.view.accounts.parent.hold) }
 {
     if let Err(tripped) = charge(words, pass, Child::Request, wanted - held) {
         give_up(words, pass, held);
