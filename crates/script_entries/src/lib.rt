@@ -3,5 +3,7 @@
 #![tactic(auto)]
 
 mod reader;
+#[cfg(test)]
+mod tests;
 
 pub use reader::{Entry, next_entry};
