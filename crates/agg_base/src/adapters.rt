@@ -1,5 +1,8 @@
-//! std's reader and writer as a source and a sink. What they read and write is not told to contracts.
-ghost use Rattle.std.specs.Prelude.{None};
+//! std's reader and writer as a source and a sink. A source and a sink tell no bytes here, because a reader that tells
+//! none may begin to tell. Where the reader or the writer tells, clauses of `read` and `write` speak of its bytes.
+ghost use Rattle.std.specs.Prelude.{◌≡◌, ◌≤◌, ◌<◌, None, length, IfOk, OnOk, OnErr};
+ghost use Rattle.std.specs.Io.KnownBytes.{ReadConsumes, WriteAppends};
+ghost use Rattle.agg_base.specs.Outside.{one_more, Rose};
 
 use crate::sink::Sink;
 use crate::source::{Failed, Source};
@@ -14,7 +17,10 @@ pub struct StdSource<T> {
 
 impl<T: Read> StdSource<T> {
     /// A source that has not failed yet.
-    pub fn new(reader: T) -> StdSource<T> {
+    pub fn new(reader: T) -> StdSource<T>
+        ensures reader { result.reader ≡ reader }
+        ensures faults { result.faults ≡ 0 }
+    {
         StdSource { reader, faults: 0 }
     }
 }
@@ -24,7 +30,15 @@ impl<T: Read> Source for StdSource<T> {
 
     ghost faults = { λ s. s.faults };
 
-    fn read(&mut self, buf: &mut [u8]) -> Result<usize, Failed> {
+    fn read(&mut self, buf: &mut [u8]) -> Result<usize, Failed>
+        requires { 0 < length buf.old }
+        ensures reader { ReadConsumes (T.remaining self.old.reader) (T.remaining self.new.reader) result buf.new }
+        ensures counted { OnErr result (self.new.faults ≡ one_more self.old.faults) }
+        ensures not_counted { OnOk result (self.new.faults ≡ self.old.faults) }
+        ensures within { IfOk result (λ n. n ≤ length buf.old) }
+        ensures never_falls { self.old.faults ≤ self.new.faults }
+        ensures fault { OnErr result (Rose self.old.faults self.new.faults) }
+    {
         match self.reader.read(buf) {
             Ok(given) => Ok(given),
             Err(_) => {
@@ -44,7 +58,10 @@ pub struct StdSink<T> {
 
 impl<T: Write> StdSink<T> {
     /// A sink that has not failed yet.
-    pub fn new(writer: T) -> StdSink<T> {
+    pub fn new(writer: T) -> StdSink<T>
+        ensures writer { result.writer ≡ writer }
+        ensures faults { result.faults ≡ 0 }
+    {
         StdSink { writer, faults: 0 }
     }
 }
@@ -54,7 +71,16 @@ impl<T: Write> Sink for StdSink<T> {
 
     ghost faults = { λ s. s.faults };
 
-    fn write(&mut self, buf: &[u8]) -> Result<usize, Failed> {
+    fn write(&mut self, buf: &[u8]) -> Result<usize, Failed>
+        requires { 0 < length buf.now }
+        ensures writer { WriteAppends (T.contents self.old.writer) (T.contents self.new.writer) result buf.now }
+        ensures counted { OnErr result (self.new.faults ≡ one_more self.old.faults) }
+        ensures not_counted { OnOk result (self.new.faults ≡ self.old.faults) }
+        ensures some { IfOk result (λ n. 1 ≤ n) }
+        ensures within { IfOk result (λ n. n ≤ length buf.now) }
+        ensures never_falls { self.old.faults ≤ self.new.faults }
+        ensures fault { OnErr result (Rose self.old.faults self.new.faults) }
+    {
         match self.writer.write(buf) {
             Ok(taken) if taken > 0 => Ok(taken),
             _ => {

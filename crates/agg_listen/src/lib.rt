@@ -1,6 +1,7 @@
 //! Who is told of an answer once its line is written: listeners, which say each time whether they stay.
 #![tactic(auto)]
 
+pub mod laws;
 mod list_listener;
 mod listener;
 #[cfg(test)]

@@ -1,5 +1,5 @@
 -- A row while its object is walked, as the code holds it: lists by place in a map (Elasticsearch Reference 8, 'Nested field type').
-use Rattle.std.specs.Prelude.{ℕ, List, [], ◌∷◌, ◌++◌, map, Bool}
+use Rattle.std.specs.Prelude.{ℕ, List, [], ◌∷◌, ◌++◌, map, nat_lt, Bool, true, Option, None, Some}
 use Rattle.std.specs.List.{list_all}
 use Rattle.std.specs.Ordering.{nat_cmp, match_ordering}
 use Rattle.agg_model.specs.declared.mapping.Field.{Field}
@@ -10,6 +10,11 @@ use Rattle.agg_model.specs.declared.row.Children.{Children, roll-Children}
 use Rattle.agg_reading.specs.declared.parts.Draft.{Draft}
 use Rattle.document_rows.specs.Roles.{kind_in}
 use Rattle.agg_model.specs.FieldKinds.{is_of_kind}
+
+-- another item may stand beside so many; none is the limit of nothing
+abbrev pub has_room : Option ℕ → ℕ → Bool
+has_room None n = true
+has_room (Some most) n = nat_lt n most
 
 -- one more item at a place, behind those before; the places stay ascending
 abbrev pub with_item : {A : Type 0} → ℕ → A → List (ℕ × List A) → List (ℕ × List A)

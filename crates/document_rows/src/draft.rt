@@ -1,12 +1,12 @@
 //! A row while its object is walked.
 
-ghost use Rattle.std.specs.Prelude.{◌≡◌, List as Items, true, map, IfOk, OnOk, length, unwrap_or, option_map};
+ghost use Rattle.std.specs.Prelude.{◌≡◌, ◌<◌, List as Items, true, map, nat_lt, IfOk, IfSome, IsTrue, OnOk, length, unwrap_or, option_map};
 ghost use Rattle.std.specs.Map.{lookup};
 ghost use Rattle.std.specs.BTreeMap.{is_at};
 ghost use Rattle.std.specs.Ordering.{nat_cmp};
 ghost use Rattle.agg_model.specs.declared.mapping.Field.{Field};
 ghost use Rattle.agg_reading.specs.Rows.{finished_field};
-ghost use Rattle.document_rows.specs.Drafts.{with_item, field_values, child_rows, is_typed};
+ghost use Rattle.document_rows.specs.Drafts.{has_room, with_item, field_values, child_rows, is_typed};
 
 use crate::values::in_order;
 use agg_model::{Children, FieldValues, List, Row, Scalar};
@@ -15,37 +15,35 @@ use std::collections::BTreeMap;
 use std::collections::btree_map::Entry;
 use std::marker::Model;
 
-/// The number of items at a place.
-fn count<T>(lists: &BTreeMap<u32, List<T>>, place: u32) -> usize
-    ensures { result ≡ unwrap_or (option_map length (lookup (is_at (nat_cmp place)) lists.now.entries)) 0 }
-{
-    match lists.get(&place) {
-        Some(found) => found.len(),
-        None => 0,
-    }
-}
-
-/// Puts an item behind those that stand at its place. The place is looked up once.
+/// Puts an item behind those that stand at its place, and answers `true`; `false` where `most` stand there already, and
+/// then the lists are of no more use. The place is looked up once.
 fn append<T: Drop>(
     alloc: Global,
     lists: &mut BTreeMap<u32, List<T>>,
     place: u32,
+    most: Option<usize>,
     item: T,
-) -> Result<(), AllocError>
-    ensures { OnOk result (lists.new.entries ≡ with_item place item lists.old.entries) }
+) -> Result<bool, AllocError>
+    requires { IfSome most (λ n. 0 < n) }
+    ensures room { IfOk result (λ added. added ≡ has_room most (unwrap_or (option_map length (lookup (is_at (nat_cmp place)) lists.old.entries)) 0)) }
+    ensures added { IfOk result (λ added. IsTrue added → lists.new.entries ≡ with_item place item lists.old.entries) }
 {
     match lists.entry(place) {
         Err(_) => Err(AllocError),
         Ok(Entry::Occupied(entry)) => {
-            entry.into_mut().push(item)?;
-            Ok(())
+            let found = entry.into_mut();
+            if most.is_some_and(|most| found.len() >= most) {
+                return Ok(false);
+            }
+            found.push(item)?;
+            Ok(true)
         }
         Ok(Entry::Vacant(entry)) => {
             // Most fields of a document have one value.
             let mut first = Vec::with_capacity(alloc, 1)?;
             first.push(item)?;
             entry.insert(List::from_vec(first));
-            Ok(())
+            Ok(true)
         }
     }
 }
@@ -117,31 +115,28 @@ impl RowDraft {
         }
     }
 
-    /// The number of values of a field.
-    pub(crate) fn count(&self, field: u32) -> usize
-        ensures { result ≡ count_in field self.now.values }
-    {
-        count(&self.values, field)
-    }
-
-    /// One more value of a field, behind those before.
+    /// One more value of a field, behind those before. The answer is `false` where the field has `most` already, and
+    /// then the row is of no more use.
     pub(crate) fn add_value(
         &mut self,
         alloc: Global,
         field: u32,
+        most: usize,
         value: Scalar,
-    ) -> Result<(), AllocError>
-        ensures { OnOk result (self.new ≡ record { values = with_value field value self.old.values; children = self.old.children }) }
+    ) -> Result<bool, AllocError>
+        requires { 0 < most }
+        ensures room { IfOk result (λ added. added ≡ nat_lt (count_in field self.old.values) most) }
+        ensures added { IfOk result (λ added. IsTrue added → self.new ≡ record { values = with_value field value self.old.values; children = self.old.children }) }
     {
-        append(alloc, &mut self.values, field, value)?;
-        Ok(())
+        let added = append(alloc, &mut self.values, field, Some(most), value)?;
+        Ok(added)
     }
 
     /// One more row beneath at a nested path, behind those before.
     pub(crate) fn add_row(&mut self, alloc: Global, path: u32, row: Row) -> Result<(), AllocError>
         ensures { OnOk result (self.new ≡ record { values = self.old.values; children = with_row path row self.old.children }) }
     {
-        append(alloc, &mut self.children, path, row)?;
+        append(alloc, &mut self.children, path, None, row)?;
         Ok(())
     }
 

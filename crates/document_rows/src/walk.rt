@@ -51,11 +51,11 @@ fn with_scalar(
     let Some(value) = value else {
         return Ok(());
     };
-    if walked.row.count(field) >= MAX_FIELD_VALUES {
-        return refuse(alloc, TOO_MANY_FIELD_VALUES, walked.path.as_str());
+    if walked.row.add_value(alloc, field, MAX_FIELD_VALUES, value)? {
+        Ok(())
+    } else {
+        refuse(alloc, TOO_MANY_FIELD_VALUES, walked.path.as_str())
     }
-    walked.row.add_value(alloc, field, value)?;
-    Ok(())
 }
 
 /// A value that is neither null nor a list nor an object: `WRONG_FIELD_TYPE` where the path is no field.

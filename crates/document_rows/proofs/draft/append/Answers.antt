@@ -7,19 +7,19 @@ use Rattle.document_rows.specs.Drafts.{with_item}
 use Rattle.document_rows.proofs.Items.{item_put}
 use Rattle.document_rows.proofs.draft.append.Goals as goal
 
-pub returns-in_ok-push-in-Ok-Occupied : goal.returns-in_ok-push-in-Ok-Occupied
-returns-in_ok-push-in-Ok-Occupied g c =
+pub returns-in_ok-push-in-Ok-Occupied-clause-added : goal.returns-in_ok-push-in-Ok-Occupied-clause-added
+returns-in_ok-push-in-Ok-Occupied-clause-added g c =
     let entries = c.args.lists.now.entries in
-    let found : Some c.into_mut.result.now ≡ lookup (is_at (nat_cmp c.args.place)) entries =
-    sym c.into_mut.ensures.value ∙ ap entry_value (sym c.in-Ok-Occupied.field-0-is) ∙ c.in-Ok-Occupied.ensures.value in
+    let found : Some c.into_mut-found.result.now ≡ lookup (is_at (nat_cmp c.args.place)) entries =
+    sym c.into_mut-found.ensures.value ∙ ap entry_value (sym c.in-Ok-Occupied.field-0-is) ∙ c.in-Ok-Occupied.ensures.value in
     let placed : (map_with_value c.in-Ok-Occupied.field-0 c.push.new.self).entries ≡ with_item c.args.place c.args.item entries =
     c.in-Ok-Occupied.ensures.update.1 c.push.new.self
     ∙ ap (insert_entry nat_cmp entries c.args.place) (c.in_ok-push-in-Ok-Occupied.ensures.ok ∙ ap (λ o. unwrap_or o [] ++ c.args.item ∷ []) found)
     ∙ item_put c.args.place c.args.item entries c.in-Ok-Occupied.ensures.ordered in
     search (rules, placed)
 
-pub returns-in_ok-push-in-Ok-Vacant : goal.returns-in_ok-push-in-Ok-Vacant
-returns-in_ok-push-in-Ok-Vacant g c =
+pub returns-in_ok-push-in-Ok-Vacant-clause-added : goal.returns-in_ok-push-in-Ok-Vacant-clause-added
+returns-in_ok-push-in-Ok-Vacant-clause-added g c =
     let entries = c.args.lists.now.entries in
     let absent : None ≡ lookup (is_at (nat_cmp c.args.place)) entries = sym (rw c.in-Ok-Vacant.field-0-is at c.in-Ok-Vacant.ensures.found) in
     let placed : (map_with_value c.in-Ok-Vacant.field-0 c.from_vec.result).entries ≡ with_item c.args.place c.args.item entries =
