@@ -3,3 +3,4 @@ mod Distinct
 mod Rows
 mod Values
 pub mod Coding
+pub mod Made

@@ -1,9 +1,13 @@
 //! Preparing a histogram, and what its codes stand for.
-ghost use Rattle.std.specs.Prelude.{◌≡◌, ℤ, ◌<◌, ◌^◌, ◌-ℤ◌, pos, map, filter, flat_map, option_to_list};
+ghost use Rattle.std.specs.Prelude.{◌≡◌, ℤ, ◌<◌, ◌^◌, ◌-ℤ◌, pos, List, IsTrue, map, filter, flat_map, option_to_list};
 ghost use Rattle.std.specs.Int.{int_div_euclid};
+ghost use Rattle.agg_model.specs.declared.aggregation.Kind.{Kind};
+ghost use Rattle.agg_model.specs.declared.mapping.Mapping.{Mapping};
+ghost use Rattle.agg_model.specs.Options.{HistogramOptions, histogram_kind};
 ghost use Rattle.agg_model.specs.declared.key.Key.TheVariants.{Whole};
 ghost use Rattle.agg_evaluation.specs.Cost.{key_bytes as bytes_of_key};
 ghost use Rattle.agg_evaluation.specs.Keys.{distinct_keys, interval_key, is_between as is_between_bounds};
+ghost use Rattle.agg_evaluation.specs.SearchFits.{histogram_made};
 ghost use Rattle.histogram_agg.specs.declared.prepared.PreparedHistogram.{PreparedHistogram};
 ghost use Rattle.histogram_agg.specs.Codes.{IsSpaced, IsReady, key_of, start_of};
 
@@ -105,6 +109,12 @@ pub fn key_bytes(_prepared: &PreparedHistogram, _code: i64) -> u64
 {
     NUMBER_KEY_BYTES
 }
+
+/// A histogram that is made for a mapping can be prepared.
+pub fn made_histograms_can_be_prepared()
+    ensures { (m : Mapping) (children : List Kind) (h : HistogramOptions) →
+        IsTrue (histogram_made m children h) → IsSpaced (histogram_kind h) }
+{}
 
 /// Different codes have different keys.
 pub fn codes_have_keys_of_their_own()

@@ -14,7 +14,7 @@ mod tests;
 mod trimming;
 
 pub use prepared::{PreparedTerms, codes_have_keys_of_their_own, key, key_bytes};
-pub use preparing::prepare;
+pub use preparing::{made_terms_can_be_prepared, prepare};
 pub use row_codes::{codes, count};
 pub use row_keys::{key_count, keys};
 pub use trimming::trim;

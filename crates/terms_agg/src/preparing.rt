@@ -1,6 +1,12 @@
 //! Preparing a terms aggregation for a shard.
-ghost use Rattle.std.specs.Prelude.{◌≡◌, ◌<◌, length, true, IfOk, None, Some, option_to_list};
+ghost use Rattle.std.specs.Prelude.{◌≡◌, ◌<◌, List, length, true, IfOk, IsTrue};
+ghost use Rattle.agg_model.specs.declared.aggregation.Kind.{Kind};
+ghost use Rattle.agg_model.specs.declared.mapping.Mapping.{Mapping};
+ghost use Rattle.agg_model.specs.Options.{TermsOptions, terms_kind};
 ghost use Rattle.agg_evaluation.specs.Keys.{is_included as is_included_key};
+ghost use Rattle.agg_evaluation.specs.SearchFits.{terms_made};
+ghost use Rattle.shard_columns.specs.Built.{IsShardOf};
+ghost use Rattle.shard_columns.specs.Columns.{Columns};
 ghost use Rattle.shard_columns.specs.Dictionary.{words_of};
 ghost use Rattle.terms_agg.specs.Codes.{content_in, is_content};
 ghost use Rattle.terms_agg.specs.Prepared.{IsTermsOf, IsTerms, IsReady, IsCodeOfValue, IsCodeOfMissing, IncludesAsAll, ExcludesAsAll};
@@ -140,3 +146,9 @@ pub fn prepare(alloc: Global, shard: &Shard, kind: &Kind) -> Result<PreparedTerm
         _ => unreachable!(),
     }
 }
+
+/// A terms aggregation that is made for a mapping can be prepared for each shard of that mapping.
+pub fn made_terms_can_be_prepared()
+    ensures { (m : Mapping) (shard : Columns) (children : List Kind) (t : TermsOptions) →
+        IsShardOf m shard → IsTrue (terms_made m children t) → IsTerms shard (terms_kind t) }
+{}
