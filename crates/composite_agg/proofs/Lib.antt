@@ -5,3 +5,6 @@ mod Starts
 mod ValueParts
 mod Capped
 mod Steps
+mod PlaceOrder
+mod PageSteps
+mod Offers

@@ -2,10 +2,16 @@
 //! 'Composite aggregation').
 #![tactic(auto)]
 
+mod first_keys;
 pub mod laws;
+mod offered;
+mod offering;
 mod paging;
 mod parts;
+mod places;
 mod row_keys;
 
+pub use first_keys::FirstKeys;
+pub use offered::Offered;
 pub use paging::page;
 pub use row_keys::{key_count, keys};

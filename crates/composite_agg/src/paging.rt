@@ -59,7 +59,7 @@ fn keep_beyond(sources: &List<CompositeSource>, after: &Option<Key>, buckets: &m
 }
 
 // Whether a key comes after the one that is given, in the order of the sources.
-fn is_beyond_key(sources: &List<CompositeSource>, key: &Key, after: &Option<Key>) -> bool
+pub(crate) fn is_beyond_key(sources: &List<CompositeSource>, key: &Key, after: &Option<Key>) -> bool
     ensures { result ≡ is_beyond_any sources.now after.now key.now }
 {
     match after {
