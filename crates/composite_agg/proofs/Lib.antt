@@ -1,0 +1,10 @@
+pub mod PageOrder
+mod RowValues
+mod Rising
+mod Starts
+mod ValueParts
+mod Capped
+mod Steps
+mod PlaceOrder
+mod PageSteps
+mod Offers

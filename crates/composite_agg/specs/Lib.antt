@@ -1,0 +1,5 @@
+pub mod Sources
+pub mod Parts
+pub mod Pages
+pub mod FirstPages
+pub mod PageCodes

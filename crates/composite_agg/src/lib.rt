@@ -1,0 +1,17 @@
+//! Composite aggregations over the columns of a shard: the keys of a row, and a page of them (Elasticsearch Reference 8,
+//! 'Composite aggregation').
+#![tactic(auto)]
+
+mod first_keys;
+pub mod laws;
+mod offered;
+mod offering;
+mod paging;
+mod parts;
+mod places;
+mod row_keys;
+
+pub use first_keys::FirstKeys;
+pub use offered::Offered;
+pub use paging::page;
+pub use row_keys::{key_count, keys};
