@@ -6,7 +6,6 @@ use Rattle.std.specs.Option.{option_map_or}
 use Rattle.std.proofs.Math.Logic.{∥∥₁_map}
 use Rattle.std.proofs.lemmas.Bool.{and_parts}
 use Rattle.std.proofs.lemmas.List.{length-map}
-use Rattle.agg_model.specs.declared.key.Key.{Key}
 use Rattle.agg_model.specs.declared.key.Key.TheVariants.{Fixed}
 use Rattle.agg_model.specs.declared.limits.TheConstants.{MAX_FILTERS}
 use Rattle.agg_model.specs.declared.mapping.Mapping.{Mapping}
@@ -26,8 +25,7 @@ use Rattle.column_query.proofs.PreparedCases.{all_at, says-Bool, reads-Bool}
 use Rattle.shard_columns.specs.Columns.{Columns}
 use Rattle.filters_agg.specs.Filtering.{IsFiltering, IsMadeFor, AreMadeFor}
 use Rattle.filters_agg.specs.Numbers.{numbers_where}
-use Rattle.filters_agg.specs.PreparedFilters.{IsReady, numbers_of_row}
-use Rattle.filters_agg.specs.declared.prepared_filters.PreparedFilters.{PreparedFilters}
+use Rattle.filters_agg.specs.PreparedFilters.{IsReady}
 use Rattle.filters_agg.proofs.Numbers.{keys-are}
 
 filters_fit : (m : Mapping) (context : ℕ) (names : Option (List (List ℕ))) (filters : List Query) → filters_made m context names filters ≡ true → list_all (query_fits m context) filters ≡ true

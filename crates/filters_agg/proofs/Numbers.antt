@@ -1,12 +1,12 @@
 -- The numbers of the filters that match, one filter after another.
-use Rattle.std.proofs.Common.{◌≡◌, refl, ℕ, ◌+◌, ◌<◌, ◌≤◌, suc, Bool, true, false, not, List, [], ◌∷◌, ◌++◌, length, map, filter, get_or, take, cond, sym, ◌∙◌, ap, arith, append_assoc, length-append}
+use Rattle.std.proofs.Common.{◌≡◌, refl, ℕ, ◌+◌, ◌<◌, suc, Bool, true, false, not, List, [], ◌∷◌, ◌++◌, length, map, filter, get_or, take, cond, sym, ◌∙◌, ap, arith, append_assoc, length-append}
 use mir.Val.{bool_byte}
 use Rattle.std.specs.Prelude.{◌&&◌, ◌==◌, ◌||◌, Option, is_some}
 use Rattle.std.specs.List.{list_any, enumerate_from}
 use Rattle.std.proofs.lemmas.List.{length-map, length-take-le, map_more}
 use Rattle.std.proofs.lemmas.Bool.Decides.{nat_tests}
 use Rattle.list_laws.proofs.Booleans.{and_false}
-use Rattle.list_laws.proofs.Lists.{append-nil, map-append, map-map}
+use Rattle.list_laws.proofs.Lists.{append-nil, map-append}
 use Rattle.agg_model.specs.declared.key.Key.{Key}
 use Rattle.agg_model.specs.declared.key.Key.TheVariants.{Fixed}
 use Rattle.agg_model.specs.declared.query.Query.{Query}

@@ -1,5 +1,5 @@
 -- Aggregations whose buckets are given by queries (Elasticsearch Reference 8, 'Filters', 'Filter' and 'Missing aggregation').
-use Rattle.std.specs.Prelude.{◌≡◌, ℕ, ◌≤◌, Bool, true, List, length, IsTrue}
+use Rattle.std.specs.Prelude.{ℕ, ◌≤◌, Bool, List, length, IsTrue}
 use Rattle.std.specs.List.{list_all}
 use Rattle.agg_model.specs.declared.limits.TheConstants.{MAX_FILTERS}
 use Rattle.agg_model.specs.declared.mapping.Mapping.{Mapping}

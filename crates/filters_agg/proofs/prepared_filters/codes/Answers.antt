@@ -1,4 +1,4 @@
-use Rattle.std.proofs.Common.{◌≡◌, ◌+◌, ◌++◌, ◌∷◌, [], ◌<◌, ℕ, ℤ, Bool, List, length, map, pos, take, sym, ◌∙◌, ap, arith, rules, vec_len, eq-eqb}
+use Rattle.std.proofs.Common.{◌≡◌, ◌++◌, ◌∷◌, [], ℕ, ℤ, List, length, map, pos, take, sym, ◌∙◌, ap, arith, rules, vec_len, eq-eqb}
 use mir.Syntax.{w64}
 use Rattle.std.proofs.lemmas.Int.{to_z_pos}
 use Rattle.std.proofs.lemmas.Bool.{false≢true, eqb-true}
@@ -8,8 +8,8 @@ use Rattle.agg_model.specs.declared.key.Key.TheVariants.{Fixed}
 use Rattle.agg_evaluation.specs.Rows.{row_of}
 use Rattle.column_query.specs.Prepared.{says}
 use Rattle.column_query.specs.declared.prepared.Prepared.{Prepared}
-use Rattle.filters_agg.specs.Numbers.{true_places, numbers_where}
-use Rattle.filters_agg.specs.PreparedFilters.{key_of, numbers_of_row}
+use Rattle.filters_agg.specs.Numbers.{true_places}
+use Rattle.filters_agg.specs.PreparedFilters.{key_of}
 use Rattle.filters_agg.proofs.Numbers.{places-hit, places-missed, numbers-some, numbers-alone, numbers-rest}
 use Rattle.filters_agg.proofs.prepared_filters.codes.Goals as goal
 use Rattle.filters_agg.proofs.prepared_filters.codes.Goals.{then-is_match+in_ok-push, else-is_match, else-prepared-via-then-prepared+else-is_empty, else-prepared-via-else-prepared}

@@ -1,11 +1,10 @@
-use Rattle.std.proofs.Common.{◌≡◌, ◌+◌, ◌<◌, ℕ, Bool, List, length, map, take, sym, ◌∙◌, ap, arith, length-append}
+use Rattle.std.proofs.Common.{◌+◌, ℕ, List, length, map, take, sym, ◌∙◌, ap, arith, length-append}
 use Rattle.std.proofs.lemmas.List.{length-map, take_all}
 use Rattle.agg_model.specs.declared.key.Key.TheVariants.{Fixed}
 use Rattle.agg_evaluation.specs.Rows.{row_of}
 use Rattle.column_query.specs.Prepared.{says}
 use Rattle.column_query.specs.declared.prepared.Prepared.{Prepared}
-use Rattle.filters_agg.specs.Numbers.{true_places, numbers_where}
-use Rattle.filters_agg.specs.PreparedFilters.{numbers_of_row}
+use Rattle.filters_agg.specs.Numbers.{true_places}
 use Rattle.filters_agg.proofs.Numbers.{places-hit, places-missed, numbers-some, numbers-alone, count-rest}
 use Rattle.filters_agg.proofs.prepared_filters.count.Goals as goal
 use Rattle.filters_agg.proofs.prepared_filters.count.Goals.{then-is_match, else-is_match, else-prepared-via-then-prepared+else-count-eq0, else-prepared-via-else-prepared}

@@ -1,4 +1,3 @@
-use Rattle.std.proofs.Common.{sym, ◌∙◌, ap, subst}
 use Rattle.filters_agg.proofs.Making.{made-filters, made-filter, ready-Filters, ready-Filter, ready-Missing}
 use Rattle.filters_agg.proofs.prepared_filters.prepare.Goals as goal
 

@@ -1,5 +1,4 @@
-use Rattle.std.proofs.Common.{◌≡◌, ◌<◌, ℕ, List, length, get_or, ◌∙◌, ap, subst}
-use Rattle.agg_model.specs.declared.query.Query.{Query}
+use Rattle.std.proofs.Common.{subst}
 use Rattle.filters_agg.proofs.Making.{made-one}
 use Rattle.filters_agg.specs.Filtering.{AreMadeFor}
 use Rattle.std.proofs.Common.{sym}

@@ -1,9 +1,9 @@
-use Rattle.std.proofs.Common.{◌≡◌, ◌+◌, ◌<◌, ℕ, Bool, List, length, map, take, sym, ◌∙◌, ap, arith, length-append}
+use Rattle.std.proofs.Common.{◌+◌, ℕ, List, length, map, take, sym, ◌∙◌, ap, arith, length-append}
 use Rattle.std.proofs.lemmas.List.{take_all}
 use Rattle.agg_model.specs.declared.query.Query.{Query}
 use Rattle.agg_evaluation.specs.Matching.{matches}
 use Rattle.agg_evaluation.specs.Rows.{row_of}
-use Rattle.filters_agg.specs.Numbers.{true_places, numbers_where}
+use Rattle.filters_agg.specs.Numbers.{true_places}
 use Rattle.filters_agg.proofs.Numbers.{places-hit, places-missed, numbers-some, numbers-alone, count-rest}
 use Rattle.filters_agg.proofs.row_keys.count_of_filters.Goals as goal
 use Rattle.filters_agg.proofs.row_keys.count_of_filters.Goals.{then-matches, else-matches, else-has_other-via-then-has_other+else-count-eq0, else-has_other-via-else-has_other}

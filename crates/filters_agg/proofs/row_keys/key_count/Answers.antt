@@ -1,6 +1,6 @@
 use mir.Val.{bool_byte}
 use Rattle.std.specs.Prelude.{◌==◌}
-use Rattle.std.proofs.Common.{◌≡◌, ℕ, Bool, length, map, sym, ◌∙◌, ap}
+use Rattle.std.proofs.Common.{ℕ, Bool, length, map, sym, ◌∙◌, ap}
 use Rattle.agg_model.specs.declared.query.Query.{Query}
 use Rattle.agg_model.specs.declared.aggregation.Kind.{Kind}
 use Rattle.agg_model.specs.declared.key.Key.TheVariants.{Fixed}

@@ -1,5 +1,5 @@
 use Rattle.std.proofs.lemmas.Bool.{false≢true}
-use Rattle.std.proofs.Common.{◌≡◌, refl, ◌+◌, ◌++◌, ◌∷◌, [], ◌<◌, ℕ, Bool, List, length, map, take, sym, ◌∙◌, ap, arith}
+use Rattle.std.proofs.Common.{◌≡◌, refl, ◌++◌, ◌∷◌, [], ℕ, List, length, map, take, sym, ◌∙◌, ap, arith}
 use Rattle.std.proofs.lemmas.List.{length-map, take_all}
 use Rattle.list_laws.proofs.Lists.{map-append}
 use Rattle.agg_model.specs.declared.key.Key.{Key}
@@ -7,7 +7,7 @@ use Rattle.agg_model.specs.declared.key.Key.TheVariants.{Fixed}
 use Rattle.agg_model.specs.declared.query.Query.{Query}
 use Rattle.agg_evaluation.specs.Matching.{matches}
 use Rattle.agg_evaluation.specs.Rows.{row_of}
-use Rattle.filters_agg.specs.Numbers.{true_places, numbers_where}
+use Rattle.filters_agg.specs.Numbers.{true_places}
 use Rattle.filters_agg.proofs.Numbers.{places-hit, places-missed, numbers-some, numbers-alone, numbers-rest}
 use Rattle.filters_agg.proofs.row_keys.keys_of_filters.Goals as goal
 use Rattle.filters_agg.proofs.row_keys.keys_of_filters.Goals.{then-matches+in_ok-push, else-matches, then-has_other+then-is_empty+in_ok-push-2, else-has_other, else-has_other-via-then-has_other+else-is_empty, else-has_other-via-else-has_other}
