@@ -1,5 +1,5 @@
 -- The last item of a list, by its place and by recursion.
-use Rattle.std.specs.Prelude.{◌≡◌, refl, ℕ, ◌-◌, List, [], ◌∷◌, map, length, slice_get, Option, Some, None, option_map}
+use Rattle.std.specs.Prelude.{◌≡◌, ◌-◌, List, [], ◌∷◌, map, length, slice_get, Option, Some, None, option_map}
 use Rattle.std.specs.List.{last_or}
 use Rattle.std.proofs.Common.{sym, ◌∙◌, ap, arith, suc}
 

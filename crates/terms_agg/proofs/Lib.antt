@@ -1,2 +1,11 @@
+pub mod Ascending
+pub mod Coding
 pub mod LastLaws
+pub mod NextCode
+pub mod Probing
+pub mod Readiness
+pub mod Rising
+pub mod Standing
 pub mod TrimLaws
+pub mod Values
+pub mod Words

@@ -1,9 +1,18 @@
-//! The terms that a shard answers (Elasticsearch Reference 8, 'Terms aggregation'): the first `shard_size` in the
-//! aggregation's order, with what was cut and the error of the counts.
+//! The terms of a shard (Elasticsearch Reference 8, 'Terms aggregation'): the keys of a row, by numbers that stand for them,
+//! and what a shard answers, the first `shard_size` in the aggregation's order, with what was cut and the error of the counts.
 #![tactic(auto)]
 
+mod code_sets;
+mod content;
+mod included;
+mod prepared;
+mod preparing;
+mod row_codes;
 #[cfg(test)]
 mod tests;
 mod trimming;
 
+pub use prepared::{PreparedTerms, codes_have_keys_of_their_own, key, key_bytes};
+pub use preparing::prepare;
+pub use row_codes::{codes, count};
 pub use trimming::trim;

@@ -1,0 +1,39 @@
+//! What a field holds.
+ghost use Rattle.std.specs.Prelude.{◌≡◌, ℕ, ◌<◌, length, slice_get, Some, true};
+ghost use Rattle.std.specs.List.{list_all};
+ghost use Rattle.agg_model.specs.declared.mapping.FieldKind.TheVariants.{Keyword};
+ghost use Rattle.agg_evaluation.specs.Rows.{row_of, values_of};
+ghost use Rattle.terms_agg.specs.Codes.{content_of, content_in, is_content};
+
+use agg_model::FieldKind;
+use shard_columns::Shard;
+
+/// What the values of a field are.
+#[derive(Clone, Copy)]
+pub enum Content {
+    Wholes,
+    Words,
+    Flags,
+}
+
+fn of_kind(kind: FieldKind) -> Content
+    ensures { result ≡ content_of kind }
+{
+    match kind {
+        FieldKind::Keyword => Content::Words,
+        FieldKind::Boolean => Content::Flags,
+        FieldKind::Long | FieldKind::Integer | FieldKind::Short | FieldKind::Byte => {
+            Content::Wholes
+        }
+    }
+}
+
+/// What a field of the shard holds.
+pub fn content_of_field(shard: &Shard, field: u32) -> Content
+    requires { field < length shard.now.kinds }
+    ensures content { result ≡ content_in shard.now field }
+    ensures values { (n : ℕ) → list_all (is_content result) (values_of field (row_of shard.now.rows n)) ≡ true }
+    ensures words { result ≡ Content.Words → slice_get shard.now.kinds field ≡ Some Keyword }
+{
+    of_kind(shard.kind(field))
+}

@@ -1,0 +1,103 @@
+//! A terms aggregation that is prepared for a shard, and what its codes stand for.
+ghost use Rattle.std.specs.Prelude.{◌≡◌, ℤ, ◌<◌, length, IfOk, IsTrue};
+ghost use Rattle.agg_model.specs.declared.aggregation.Kind.{Kind};
+ghost use Rattle.agg_evaluation.specs.Cost.{key_bytes as bytes_of_key};
+ghost use Rattle.shard_columns.specs.Columns.{Columns};
+ghost use Rattle.terms_agg.specs.Codes.{allows, code_words, is_code, key_of, word_at};
+ghost use Rattle.terms_agg.specs.Prepared.{IsReady};
+
+use crate::code_sets::{Codes, has};
+use crate::content::{Content, content_of_field};
+use agg_model::{Key, Text};
+use shard_columns::Shard;
+use std::alloc::{AllocError, Global};
+
+const NUMBER_KEY_BYTES: u64 = 8;
+
+/// A terms aggregation that is prepared for one shard. It gives each key of the field a code, a whole number of 64 bits: a
+/// whole number is its own code, a word has its place in the shard's dictionary, and false and true have 0 and 1. The word
+/// that stands for a missing value has the code behind the dictionary where no row of the shard has it.
+#[derive(Drop)]
+pub struct PreparedTerms {
+    pub(crate) field: u32,
+    pub(crate) include: Option<Codes>,
+    pub(crate) exclude: Option<Codes>,
+    /// The code of a row without a value.
+    pub(crate) missing: Option<i64>,
+    /// The word behind those of the dictionary.
+    pub(crate) other: Option<Text>,
+}
+
+/// Whether the aggregation includes the code, and does not exclude it.
+pub(crate) fn is_allowed(prepared: &PreparedTerms, code: i64) -> bool
+    ensures { result ≡ allows prepared.now code }
+{
+    let is_included = match &prepared.include {
+        Some(codes) => has(codes, code),
+        None => true,
+    };
+    let is_excluded = match &prepared.exclude {
+        Some(codes) => has(codes, code),
+        None => false,
+    };
+    is_included && !is_excluded
+}
+
+// The word of a code, which the shard or the prepared form lends.
+fn word_of<'a>(shard: &'a Shard, prepared: &'a PreparedTerms, code: i64) -> &'a [u8]
+    ensures { result.now ≡ word_at (code_words shard.now prepared.now) code }
+{
+    let words = i64::from(shard.words(prepared.field));
+    if code >= 0 && code < words {
+        return shard.word(prepared.field, code as u32);
+    }
+    match &prepared.other {
+        Some(word) if code == words => word.as_str().as_bytes(),
+        _ => &[],
+    }
+}
+
+// The bytes as a text. All words of a shard are texts, so that those that are none never come: they are answered as want of
+// memory.
+fn text_of(alloc: Global, bytes: &[u8]) -> Result<Text, AllocError>
+    ensures { IfOk result (λ text. text ≡ bytes.now) }
+{
+    match str::from_utf8(bytes) {
+        Ok(text) => Text::of(alloc, text),
+        Err(_) => Err(AllocError),
+    }
+}
+
+/// The key that a code stands for; it takes time and memory by the length of the key.
+pub fn key(
+    alloc: Global,
+    shard: &Shard,
+    prepared: &PreparedTerms,
+    code: i64,
+) -> Result<Key, AllocError>
+    requires { prepared.now.field < length shard.now.kinds }
+    ensures { IfOk result (λ k. k ≡ key_of shard.now prepared.now code) }
+{
+    match content_of_field(shard, prepared.field) {
+        Content::Wholes => Ok(Key::Whole(i128::from(code))),
+        Content::Flags => Ok(Key::Flag(code != 0)),
+        Content::Words => Ok(Key::Word(text_of(alloc, word_of(shard, prepared, code))?)),
+    }
+}
+
+/// The bytes by which the key of a code is charged, with no key made.
+pub fn key_bytes(shard: &Shard, prepared: &PreparedTerms, code: i64) -> u64
+    requires { prepared.now.field < length shard.now.kinds }
+    ensures { result ≡ bytes_of_key (key_of shard.now prepared.now code) }
+{
+    match content_of_field(shard, prepared.field) {
+        Content::Wholes | Content::Flags => NUMBER_KEY_BYTES,
+        Content::Words => word_of(shard, prepared, code).len() as u64,
+    }
+}
+
+/// Different codes of an aggregation have different keys, whatever the shard that it is prepared for.
+pub fn codes_have_keys_of_their_own()
+    ensures { (shard : Columns) (kind : Kind) (p : _) → IsReady shard kind p → (c d : ℤ) →
+        IsTrue (is_code shard p c) → IsTrue (is_code shard p d) → key_of shard p c ≡ key_of shard p d → c ≡ d }
+{}
