@@ -1,0 +1,97 @@
+-- An index over no code, and over one more.
+use Rattle.std.specs.Prelude.{◌≡◌, refl, ◌||◌, ℕ, ℤ, pos, zero, suc, ◌<◌, true, false, cond, List, [], ◌∷◌, ◌++◌, length, Option, Some, None, slice_get}
+use Rattle.std.specs.BTreeMap.{BTreeMap, Updates, get}
+use Rattle.std.specs.List.{IsDistinct, list_any, slice_index_or}
+use Rattle.std.specs.Map.{lookup}
+use Rattle.std.specs.Ordering.{int_cmp, int_eq}
+use Rattle.std.proofs.Common.{sym, ◌∙◌, ap, subst, arith, inl, inr}
+use Rattle.std.proofs.Math.ListN.{set}
+use Rattle.std.proofs.lemmas.Bool.{cases_Bool, false≢true}
+use Rattle.std.proofs.lemmas.Bool.Decides.{Decides-int_eq}
+use Rattle.std.proofs.lemmas.Cmp.{int_eq_equiv}
+use Rattle.std.proofs.lemmas.Int.{ints}
+use Rattle.std.proofs.lemmas.List.{get_or-set_same, get_or-set_other, length-set}
+use Rattle.std.proofs.lemmas.List.Folds.{list_any-append}
+use Rattle.std.proofs.lemmas.Map.Keys.{IsDistinct-push}
+use Rattle.std.proofs.lemmas.Option.{none-some}
+use Rattle.bucket_places.specs.Places.{IsIndexed, IsOutside, Indexes, place_at}
+
+-- of no code
+pub nothing_indexed : (table : List ℕ) (others : BTreeMap ℤ ℕ) → ((n : ℕ) → n < length table → slice_index_or table n 0 ≡ 0) → others.entries ≡ [] → IsIndexed [] table others
+unfolding IsDistinct
+nothing_indexed table others zeros empty = record {
+  of_table = λ n l. subst (λ (k : ℕ). Indexes [] (pos n) (place_at k)) (sym (zeros n l)) refl;
+  of_others = λ code out. subst (λ (o : Option ℕ). Indexes [] code o) (sym (ap (λ es. lookup (λ k. int_eq code k) es) empty)) refl;
+  distinct = tt;
+}
+
+-- a place before the end
+get-before : (codes : List ℤ) (x code : ℤ) (place : ℕ) → slice_get codes place ≡ Some code → slice_get (codes ++ x ∷ []) place ≡ Some code
+get-before [] x code zero e = absurd (none-some code e)
+get-before [] x code (suc place) e = absurd (none-some code e)
+get-before (c ∷ codes) x code zero e = e
+get-before (c ∷ codes) x code (suc place) e = get-before codes x code place e
+
+-- the place at the end
+get-last : (codes : List ℤ) (x : ℤ) → slice_get (codes ++ x ∷ []) (length codes) ≡ Some x
+get-last [] x = refl
+get-last (c ∷ codes) x = get-last codes x
+
+-- another code comes
+indexes-more : (codes : List ℤ) (code x : ℤ) (o : Option ℕ) → int_eq code x ≡ false → Indexes codes code o → Indexes (codes ++ x ∷ []) code o
+indexes-more codes code x (Some place) other h = get-before codes x code place h
+indexes-more codes code x None other h = list_any-append (int_eq code) codes (x ∷ []) ∙ (λ i. h i || (other i || false))
+
+module _ (codes : List ℤ) (table : List ℕ) (others : BTreeMap ℤ ℕ) (was : IsIndexed codes table others) (code : ℤ) (absent : list_any (int_eq code) codes ≡ false) where
+  -- none stands twice
+  pub still_distinct : IsDistinct int_eq (codes ++ code ∷ [])
+  still_distinct = IsDistinct-push int_eq_equiv codes code was.distinct absent
+
+  -- what the index says of the code is its place
+  says_last : (o : Option ℕ) (other : ℤ) → other ≡ code → o ≡ Some (length codes) → Indexes (codes ++ code ∷ []) other o
+  says_last o other same e = subst (λ (p : Option ℕ). Indexes (codes ++ code ∷ []) other p) (sym e) (get-last codes code ∙ ap Some (sym same))
+
+  -- a code of the table
+  pub of_table_more : (n after : ℕ) → code ≡ pos n → n < length table → after ≡ suc (length codes) → IsIndexed (codes ++ code ∷ []) (set table n after) others
+  of_table_more n after is below last = record {
+    of_table = λ m l. let within : m < length table = omega (arith, l, length-set table n after) in
+        elim (cases_Bool (int_eq (pos m) code)) [
+          | inl same ↦
+              let one : pos m ≡ code = (Decides-int_eq (pos m) code).0 same in
+              let here : m ≡ n = let e = one ∙ is in omega (arith, ints) in
+              says_last (place_at (slice_index_or (set table n after) m 0)) (pos m) one
+              (ap (λ (k : ℕ). place_at (slice_index_or (set table n after) k 0)) here ∙ ap place_at (get_or-set_same table n after 0 below ∙ last))
+          | inr other ↦
+              let apart : m ≡ n → ⊥ = λ e. false≢true (sym other ∙ (Decides-int_eq (pos m) code).1 (ap pos e ∙ sym is)) in
+              subst (λ (k : ℕ). Indexes (codes ++ code ∷ []) (pos m) (place_at k)) (sym (get_or-set_other table n m after 0 apart)) (indexes-more codes (pos m) code _ other (was.of_table m within))
+        ];
+    of_others = λ c out.
+        let outside : IsOutside c (length table) = λ k l. out k (omega (arith, l, length-set table n after)) in
+        elim (cases_Bool (int_eq c code)) [
+          | inl same ↦ absurd (outside n below ((Decides-int_eq c code).0 same ∙ is))
+          | inr other ↦ indexes-more codes c code _ other (was.of_others c outside)
+        ];
+    distinct = still_distinct;
+  }
+
+  -- another code
+  pub of_others_more : (more : BTreeMap ℤ ℕ) → IsOutside code (length table) → Updates int_cmp others more code (Some (length codes)) → IsIndexed (codes ++ code ∷ []) table more
+  of_others_more more outside updates = record {
+    of_table = λ m l. elim (cases_Bool (int_eq (pos m) code)) [
+      | inl same ↦ absurd (outside m l (sym ((Decides-int_eq (pos m) code).0 same)))
+      | inr other ↦ indexes-more codes (pos m) code _ other (was.of_table m l)
+    ];
+    of_others = λ c out. elim (cases_Bool (int_eq c code)) [
+      | inl same ↦
+          let one : c ≡ code = (Decides-int_eq c code).0 same in
+          says_last (get int_cmp more c) c one (updates.0 c ∙ ap (λ b. cond b (Some (length codes)) (get int_cmp others c)) (int_eq_equiv.symm code c ∙ same))
+      | inr other ↦
+          subst (λ (o : Option ℕ). Indexes (codes ++ code ∷ []) c o) (sym (updates.0 c ∙ ap (λ b. cond b (Some (length codes)) (get int_cmp others c)) (int_eq_equiv.symm code c ∙ other)))
+          (indexes-more codes c code _ other (was.of_others c out))
+    ];
+    distinct = still_distinct;
+  }
+
+-- a map that has changed at a code and a place that are these
+pub updates_at : (others more : BTreeMap ℤ ℕ) (place last : ℕ) {x code : ℤ} → x ≡ code → place ≡ last → Updates int_cmp others more x (Some place) → Updates int_cmp others more code (Some last)
+updates_at others more place last {x} {code} same at h = subst (λ (k : ℕ). Updates int_cmp others more code (Some k)) at (subst (λ (z : ℤ). Updates int_cmp others more z (Some place)) same h)
