@@ -1,8 +1,8 @@
 -- The values that a row of a shard has of a field ascend, and words are distinct.
 use Rattle.std.specs.Prelude.{◌≡◌, ℕ, true}
-use Rattle.std.proofs.Common.{sym, subst, ap, ◌∙◌}
+use Rattle.std.proofs.Common.{ap, ◌∙◌}
 use Rattle.agg_evaluation.specs.DocumentFits.{ascend}
-use Rattle.agg_evaluation.specs.Rows.{PlacedRow, values_of, row_of, rows_of_documents}
+use Rattle.agg_evaluation.specs.Rows.{values_of, row_of}
 use Rattle.agg_model.specs.declared.row.Document.{Document}
 use Rattle.agg_model.specs.declared.mapping.Mapping.{Mapping}
 use Rattle.std.specs.Prelude.{List}

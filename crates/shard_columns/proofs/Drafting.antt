@@ -1,6 +1,6 @@
 -- Drafts of columns, row by row.
 use Rattle.std.proofs.Common.{Bool, cond, T, Some, zero, suc, ◌≡◌, ◌≢◌, refl, ℕ, ◌+◌, ◌<◌, ◌≤◌, List, [], ◌∷◌, ◌++◌, map, length, get_or, set, take, sym, ◌∙◌, ap, subst, arith, length-append, None, Option, true, false, eqb, eq-eqb, find, inl, inr}
-use Rattle.std.specs.Prelude.{◌⊎◌, ◌^◌, ◌&&◌, slice_get, sum_by}
+use Rattle.std.specs.Prelude.{◌⊎◌, ◌&&◌, slice_get}
 use Rattle.std.specs.Option.{option_map_or}
 use Rattle.std.specs.List.{list_all}
 use Rattle.std.specs.List.Sorted.{IsStrictlyIncreasing}
@@ -8,7 +8,7 @@ use Rattle.shard_columns.proofs.Searching.{rises-by}
 use Rattle.std.proofs.lemmas.Bool.{and_parts, and_from}
 use Rattle.std.proofs.lemmas.List.{length-set, length-take, get_or-take}
 use Rattle.std.proofs.lemmas.List.Sums.{sum_by-cons, sum_by-append}
-use Rattle.std.proofs.lemmas.Option.{same_Some, slice_get_within, slice_get_past, slice_get-get_or}
+use Rattle.std.proofs.lemmas.Option.{same_Some, slice_get_within}
 use Rattle.std.proofs.Math.Facts.{eqb_yes}
 use Rattle.agg_model.specs.FieldKinds.{is_of_kind}
 use Rattle.agg_model.specs.declared.mapping.FieldKind.{FieldKind}
@@ -21,9 +21,9 @@ use Rattle.shard_columns.specs.declared.values.Typed.TheVariants as typed
 use Rattle.shard_columns.specs.declared.values.Draft.{Draft}
 use Rattle.shard_columns.specs.declared.values.Drafts.{Drafts}
 use Rattle.shard_columns.specs.declared.words.WordNumbers.{WordNumbers}
-use Rattle.shard_columns.specs.Values.{Reader, typed_len, is_typed, is_taken, draft_values, drafted, found_values, total_count, IsShaped}
+use Rattle.shard_columns.specs.Values.{Reader, typed_len, is_typed, is_taken, draft_values, drafted, found_values, IsShaped}
 use Rattle.shard_columns.specs.Words.{Shows}
-use Rattle.shard_columns.specs.Storing.{AddsHeld, HasKinds, AreTaken, AreBounded, AreShaped, AddsRowValues}
+use Rattle.shard_columns.specs.Storing.{AddsHeld, HasKinds, AreBounded, AreShaped, AddsRowValues}
 use Rattle.shard_columns.proofs.Laying.{take-next}
 use Rattle.shard_columns.proofs.Storing.{Keeps, get_or-any, Shows-before, draft-fresh, draft-other, draft-here, IsShaped-push, IsShaped-more}
 

@@ -1,11 +1,11 @@
 -- Drafts of all rows, and the rows that columns stand for.
 use Rattle.std.proofs.Common.{Bool, cond, T, Some, zero, suc, ◌≡◌, ◌≢◌, refl, ℕ, ◌+◌, ◌<◌, ◌≤◌, List, [], ◌∷◌, ◌++◌, map, length, get_or, take, sym, ◌∙◌, ap, subst, arith, length-append, None, Option, true, false, eqb, eq-eqb, find, inl, inr}
-use Rattle.std.specs.Prelude.{◌⊎◌, ◌^◌, slice_get, sum_by}
+use Rattle.std.specs.Prelude.{◌^◌, slice_get, sum_by}
 use Rattle.std.specs.Option.{option_map_or}
 use Rattle.std.specs.List.{list_all, range_with_len}
 use Rattle.std.specs.List.Sorted.{IsStrictlyIncreasing}
 use Rattle.std.proofs.lemmas.Bool.{cases_lt}
-use Rattle.std.proofs.lemmas.List.{append-nil, get_or_past}
+use Rattle.std.proofs.lemmas.List.{get_or_past}
 use Rattle.std.proofs.lemmas.List.Sums.{sum_by-cons}
 use Rattle.std.specs.Prelude.{flat_map}
 use Rattle.std.specs.Ordering.{nat_cmp}
@@ -19,24 +19,23 @@ use Rattle.agg_model.specs.declared.row.Scalar.TheVariants as scalar
 use Rattle.shard_columns.proofs.Dictionaries.{SameWords-ascending}
 use Rattle.shard_columns.specs.Words.{AllFieldsBelow, AreDictionaries, row_words}
 use Rattle.shard_columns.specs.Values.{words_in, words_at, words_for}
-use Rattle.std.proofs.lemmas.Option.{same_Some, slice_get_within, slice_get_past, slice_get-get_or}
+use Rattle.std.proofs.lemmas.Option.{same_Some, slice_get_within, slice_get-get_or}
 use Rattle.std.proofs.Math.Facts.{eqb_yes}
 use Rattle.agg_model.specs.FieldKinds.{is_of_kind}
 use Rattle.agg_model.specs.declared.mapping.FieldKind.{FieldKind}
 use Rattle.agg_model.specs.declared.row.Scalar.{Scalar}
 use Rattle.agg_model.specs.declared.row.FieldValues.{FieldValues}
 use Rattle.shard_columns.specs.declared.layout.Laid.{Laid}
-use Rattle.shard_columns.specs.declared.values.Typed.{Typed}
 use Rattle.shard_columns.specs.declared.values.Held.{Held}
 use Rattle.shard_columns.specs.declared.values.Draft.{Draft}
 use Rattle.shard_columns.specs.declared.values.Drafts.{Drafts}
 use Rattle.shard_columns.specs.declared.columns.Column.{Column}
 use Rattle.shard_columns.specs.declared.words.WordNumbers.{WordNumbers}
-use Rattle.shard_columns.specs.Columnar.{AreFinished, IsFinished}
+use Rattle.shard_columns.specs.Columnar.{AreFinished}
 use Rattle.shard_columns.specs.Layout.{values_of_laid}
 use Rattle.shard_columns.specs.Storing.{HasKinds, IsEmpty, AddsRowValues}
 use Rattle.shard_columns.specs.Stored.{AreSound, AreStorable, AreDrafts, AreStored, AreColumns}
-use Rattle.shard_columns.specs.Values.{Reader, Words, by_words, ranked, held_values, drafted, found_values, present, present_from, row_values, is_typed, typed_len, draft_values, column_values, total_count, FieldsBelow, WithinReach, IsShaped}
+use Rattle.shard_columns.specs.Values.{Words, by_words, ranked, held_values, drafted, found_values, present, present_from, typed_len, draft_values, column_values, total_count, FieldsBelow, WithinReach, IsShaped}
 use Rattle.shard_columns.specs.Words.{Shows}
 use Rattle.shard_columns.proofs.Building.{total-push}
 use Rattle.shard_columns.proofs.Drafting.{slice_get-last, same-or-other}

@@ -1,13 +1,11 @@
 -- Columns that are finished, one after another.
-use Rattle.std.proofs.Common.{Bool, cond, T, Some, zero, suc, ◌≡◌, ◌≢◌, refl, ℕ, ℤ, ◌+◌, ◌<◌, ◌≤◌, List, [], ◌∷◌, ◌++◌, map, length, get_or, set, take, sym, ◌∙◌, ap, subst, arith, length-append, None, Option, true, false, eqb, eq-eqb, find, inl, inr}
-use Rattle.std.specs.Prelude.{◌⊎◌, slice_get, Vec}
+use Rattle.std.proofs.Common.{Some, ◌≡◌, refl, ℕ, ◌+◌, ◌<◌, List, [], ◌∷◌, ◌++◌, map, length, get_or, set, take, sym, ◌∙◌, ap, subst, arith, length-append, None, Option, eqb, find, inl, inr}
+use Rattle.std.specs.Prelude.{slice_get, Vec}
 use Rattle.std.specs.declared.alloc.Global.{Global}
 use Rattle.std.specs.Option.{option_map_or}
 use Rattle.std.specs.List.Sorted.{IsStrictlyIncreasing}
-use Rattle.std.proofs.lemmas.List.{length-set, length-take, get_or-take, get_or-set_same, get_or-set_other, length-map, get_or-map}
-use Rattle.std.proofs.lemmas.Bool.{cases_lt}
-use Rattle.std.proofs.lemmas.Option.{same_Some, slice_get_within}
-use Rattle.agg_model.specs.declared.mapping.FieldKind.{FieldKind}
+use Rattle.std.proofs.lemmas.List.{length-take, get_or-take, get_or-set_same, get_or-set_other}
+use Rattle.std.proofs.lemmas.Option.{slice_get_within}
 use Rattle.agg_model.specs.declared.row.Scalar.{Scalar}
 use Rattle.shard_columns.specs.declared.values.Typed.{Typed}
 use Rattle.shard_columns.specs.declared.values.Span.{Span}
@@ -16,10 +14,10 @@ use Rattle.shard_columns.specs.declared.values.Draft.{Draft}
 use Rattle.shard_columns.specs.declared.columns.Spans.{Spans}
 use Rattle.shard_columns.specs.declared.columns.Spans.TheVariants as spans
 use Rattle.shard_columns.specs.declared.columns.Column.{Column}
-use Rattle.shard_columns.specs.Values.{no_span, span_in, span_of, cut, scalars, typed_len, is_typed, ranked, IsPart, IsShaped, AreRankedAll}
-use Rattle.shard_columns.specs.Columnar.{IsColumn, IsFinished, AreFinished, Rises}
+use Rattle.shard_columns.specs.Values.{no_span, span_in, span_of, cut, scalars, typed_len, IsShaped, AreRankedAll}
+use Rattle.shard_columns.specs.Columnar.{IsFinished, AreFinished, Rises}
 use Rattle.shard_columns.proofs.Laying.{take-next}
-use Rattle.shard_columns.proofs.Searching.{find-one, find-not, find-none, rises-by}
+use Rattle.shard_columns.proofs.Searching.{find-none, rises-by}
 use Rattle.shard_columns.proofs.Storing.{find-other, find-last, span-part, get_or-any}
 use Rattle.shard_columns.proofs.Drafting.{slice_get-last, same-or-other}
 

@@ -1,5 +1,5 @@
 -- What a shard is built on, of documents that fit: fields, kinds and paths that rise, row by row.
-use Rattle.std.specs.Prelude.{◌≡◌, refl, ℕ, ◌+◌, ◌^◌, ◌<◌, ◌≤◌, suc, zero, List, [], ◌∷◌, map, sum_by, length, slice_get, slice_index, slice_index_or, Option, Some, None, Bool, true, false, ◌&&◌, ◌==◌, cond, nat_le, find, option_map, unwrap_or, is_some}
+use Rattle.std.specs.Prelude.{◌≡◌, refl, ℕ, ◌+◌, ◌<◌, ◌≤◌, suc, zero, List, [], ◌∷◌, map, length, slice_get, slice_index, slice_index_or, Option, Some, None, Bool, true, false, ◌&&◌, ◌==◌, cond, nat_le, find, option_map, unwrap_or, is_some}
 use Rattle.std.specs.List.{list_all}
 use Rattle.std.specs.List.Sorted.{IsStrictlyIncreasing}
 use Rattle.std.specs.Option.{option_map_or}

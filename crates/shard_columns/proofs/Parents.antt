@@ -15,7 +15,6 @@ use Rattle.shard_columns.specs.declared.shard.Shard.TheInside.{Inside}
 use Rattle.shard_columns.specs.Columns.{Columns}
 use Rattle.shard_columns.specs.Layout.{placed, row_at, place_at}
 use Rattle.shard_columns.specs.Shard.{columns_of, placed_rows, IsSound}
-
 use Rattle.shard_columns.proofs.Building.{zip-first}
 use Rattle.shard_columns.proofs.Enclosing.{begins-self}
 use Rattle.shard_columns.proofs.Reading.{vals, aligned, rows-are, in-range, enclosed-are}

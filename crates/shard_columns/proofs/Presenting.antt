@@ -1,6 +1,6 @@
 -- What a field of a row has, by its column.
 use Rattle.std.proofs.Common.{Bool, cond, T, Some, zero, suc, ◌≡◌, ◌≢◌, refl, ℕ, ℤ, ◌+◌, ◌<◌, ◌≤◌, List, [], ◌∷◌, ◌++◌, map, length, get_or, sym, ◌∙◌, ap, subst, arith, None, Option, true, false, eqb, eq-eqb, find, inl, inr, unwrap_or, option_map}
-use Rattle.std.specs.Prelude.{◌⊎◌, slice_get, pos, Vec}
+use Rattle.std.specs.Prelude.{slice_get, pos, Vec}
 use Rattle.std.specs.declared.alloc.Global.{Global}
 use Rattle.std.proofs.lemmas.Option.{get_or_from_slice_get, slice_get_within}
 use Rattle.std.specs.Option.{option_map_or}
@@ -18,9 +18,9 @@ use Rattle.shard_columns.specs.declared.values.Typed.{Typed}
 use Rattle.shard_columns.specs.declared.values.Typed.TheVariants as typed
 use Rattle.shard_columns.specs.Columnar.{wholes_part, ordinals_part, flags_part}
 use Rattle.shard_columns.specs.Lent.{wholes_in, flags_in, word_at}
-use Rattle.shard_columns.specs.Values.{Words, found_values, present, present_from, scalars, shown, cut, is_typed, is_taken, words_in}
-use Rattle.shard_columns.proofs.Drafting.{same-or-other, all-taken-of-kind}
-use Rattle.shard_columns.proofs.Storing.{cut-map, wholes-back, words-back, flags-back, no-words-wholes, no-words-flags}
+use Rattle.shard_columns.specs.Values.{Words, found_values, present, present_from, scalars, shown, cut, is_taken, words_in}
+use Rattle.shard_columns.proofs.Drafting.{same-or-other}
+use Rattle.shard_columns.proofs.Storing.{cut-map, no-words-wholes, no-words-flags}
 
 pub range-length : (m n : ℕ) → length (range_with_len m n) ≡ n
 range-length m zero = refl

@@ -1,5 +1,5 @@
 -- What the fields of a shard say of the rows that it shows.
-use Rattle.std.proofs.Common.{◌≡◌, refl, zero, suc, true, false, Bool, T, cond, ℕ, ℤ, ◌+◌, ◌-◌, ◌<◌, ◌≤◌, ◌^◌, List, [], ◌∷◌, map, length, get_or, Some, None, eqb, filter, find, Option, inl, inr, sym, ◌∙◌, ap, subst, arith}
+use Rattle.std.proofs.Common.{◌≡◌, refl, zero, suc, true, false, Bool, cond, ℕ, ℤ, ◌+◌, ◌-◌, ◌<◌, ◌≤◌, ◌^◌, List, [], ◌∷◌, map, length, get_or, Some, None, eqb, filter, find, Option, inl, inr, sym, ◌∙◌, ap, subst, arith}
 use Rattle.std.specs.Prelude.{◌&&◌, ◌==◌, nat_le, nat_lt, sum, sum_by}
 use Rattle.std.proofs.lemmas.List.{length-map, get_or-map, get_or_read}
 use Rattle.std.proofs.lemmas.Option.{slice_get-get_or, slice_get_past, slice_get_within, slice_get-map}
@@ -12,7 +12,6 @@ use Rattle.shard_columns.proofs.Searching.{taken}
 use Rattle.std.proofs.lemmas.Bool.{cases_lt}
 use Rattle.std.specs.Option.{option_map_or}
 use Rattle.std.specs.List.{slice_get, list_all, range_with_len}
-use Rattle.std.proofs.Math.Facts.{eqb_yes}
 use Rattle.std.specs.List.Sorted.{IsStrictlyIncreasing}
 use Rattle.agg_evaluation.specs.Rows.{PlacedRow, roots, values_of, beneath, is_within, row_of, no_row}
 use Rattle.shard_columns.specs.Contexts.{AreEnclosed}
@@ -22,10 +21,9 @@ use Rattle.shard_columns.specs.declared.columns.Column.{Column}
 use Rattle.agg_model.specs.declared.row.Scalar.TheVariants as scalar
 use Rattle.agg_model.specs.declared.mapping.FieldKind.{FieldKind}
 use Rattle.agg_model.specs.declared.mapping.FieldKind.TheVariants.{Keyword}
-use Rattle.shard_columns.specs.Dictionary.{words_of, as_values}
+use Rattle.shard_columns.specs.Dictionary.{words_of}
 use Rattle.agg_evaluation.specs.ColumnBytes.{value_count, dictionary_bytes}
 use Rattle.agg_model.specs.FieldKinds.{is_of_kind, is_whole_kind}
-use Rattle.list_laws.proofs.Booleans.{and_left, and_right, true_is}
 use Rattle.agg_model.specs.declared.row.Scalar.{Scalar}
 use Rattle.agg_model.specs.declared.row.FieldValues.{FieldValues}
 use Rattle.shard_columns.specs.Columns.{Columns}

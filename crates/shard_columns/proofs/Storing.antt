@@ -1,6 +1,6 @@
 -- Flat arrays that grow: what they stood for stays, and what is put behind is added.
-use Rattle.std.proofs.Common.{Bool, cond, T, flat_map, Some, zero, suc, ◌≡◌, ◌≢◌, refl, ℕ, ℤ, ◌+◌, ◌-◌, ◌<◌, ◌≤◌, List, [], ◌∷◌, ◌++◌, map, length, get_or, set, take, drop, slice_range, slice_index_or, sym, ◌∙◌, ap, subst, arith, length-append, append_assoc, Contains, None, Option, true, false, eqb, eq-eqb, find, inl, inr, length-drop}
-use Rattle.std.specs.Prelude.{◌⊎◌, slice_get, sum_by, Vec, OnOk, Result, Ok, Err}
+use Rattle.std.proofs.Common.{Bool, cond, flat_map, Some, zero, suc, ◌≡◌, ◌≢◌, refl, ℕ, ℤ, ◌+◌, ◌-◌, ◌<◌, ◌≤◌, List, [], ◌∷◌, ◌++◌, map, length, get_or, take, drop, slice_range, sym, ◌∙◌, ap, subst, arith, length-append, append_assoc, Contains, None, Option, true, false, eqb, find, inl, inr, length-drop}
+use Rattle.std.specs.Prelude.{Vec, OnOk, Result, Ok, Err}
 use Rattle.std.specs.declared.alloc.Global.{Global}
 use Rattle.std.specs.Option.{option_map_or}
 use Rattle.std.specs.List.{list_all}
@@ -10,8 +10,6 @@ use Rattle.std.proofs.lemmas.List.Elements.{Contains-append_left, Contains-appen
 use Rattle.std.proofs.lemmas.Bool.{cases_lt}
 use Rattle.std.proofs.lemmas.Grind.{flat_map-append}
 use Rattle.std.proofs.lemmas.Slice.{between_is, between_to_end}
-use Rattle.std.proofs.lemmas.Option.{same_Some}
-use Rattle.std.proofs.Math.Facts.{eqb_yes}
 use Rattle.std.proofs.Math.Seq.{get_or-append_seam}
 use Rattle.agg_model.specs.declared.mapping.FieldKind.{FieldKind}
 use Rattle.agg_model.specs.declared.mapping.FieldKind.TheVariants.{Long, Integer, Short, Byte, Keyword, Boolean}
@@ -25,7 +23,7 @@ use Rattle.shard_columns.specs.declared.values.Held.{Held}
 use Rattle.shard_columns.specs.declared.values.Draft.{Draft}
 use Rattle.shard_columns.specs.declared.words.WordNumbers.{WordNumbers}
 use Rattle.shard_columns.specs.Values.{no_span, span_in, Words, Reader, cut, scalars, typed_len, is_typed, is_taken, draft_values, word_in, words_in, FieldsBelow, IsPart, WithinReach, IsShaped}
-use Rattle.shard_columns.specs.Lent.{whole_in, wholes_in, flag_in, flags_in}
+use Rattle.shard_columns.specs.Lent.{wholes_in, flags_in}
 use Rattle.shard_columns.specs.Words.{number_of, Notes, of_field, Shows}
 use Rattle.shard_columns.specs.Storing.{AddsTyped, AddsHeld}
 use Rattle.shard_columns.proofs.Searching.{find-one, find-not, find-none}

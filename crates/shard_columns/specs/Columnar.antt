@@ -1,5 +1,5 @@
 -- Finished columns, and the values of a row of each type.
-use Rattle.std.specs.Prelude.{◌≡◌, ℕ, ℤ, Bool, true, List, [], map, length, slice_get, Some}
+use Rattle.std.specs.Prelude.{◌≡◌, ℕ, ℤ, Bool, List, [], map, length, slice_get, Some}
 use Rattle.std.specs.List.Sorted.{IsStrictlyIncreasing}
 use Rattle.agg_model.specs.declared.mapping.FieldKind.{FieldKind}
 use Rattle.agg_model.specs.declared.row.Scalar.{Scalar}
@@ -10,7 +10,7 @@ use Rattle.shard_columns.specs.declared.values.Draft.{Draft}
 use Rattle.shard_columns.specs.declared.columns.Spans.{Spans}
 use Rattle.shard_columns.specs.declared.columns.Spans.TheVariants as spans
 use Rattle.shard_columns.specs.declared.columns.Column.{Column}
-use Rattle.shard_columns.specs.Values.{cut, span_of, typed_len, is_typed, ranked, scalars, draft_values, column_values, IsPart, IsShaped}
+use Rattle.shard_columns.specs.Values.{cut, span_of, typed_len, is_typed, ranked, draft_values, column_values, IsPart, IsShaped}
 
 -- few rows ascend
 abbrev pub Rises : Spans → Type 0

@@ -1,11 +1,10 @@
 -- What is stored of rows whose words are numbers: by any reading that shows each number as its word.
-use Rattle.std.specs.Prelude.{◌≡◌, ℕ, ◌+◌, ◌<◌, ◌≤◌, true, false, Bool, List, [], ◌∷◌, ◌++◌, length, slice_get, Some, None, find, ◌==◌}
+use Rattle.std.specs.Prelude.{◌≡◌, ℕ, ◌+◌, ◌<◌, ◌≤◌, true, List, [], ◌∷◌, ◌++◌, length, slice_get, Some, None, find, ◌==◌}
 use Rattle.std.specs.List.{list_all}
 use Rattle.agg_model.specs.declared.mapping.FieldKind.{FieldKind}
 use Rattle.agg_model.specs.declared.row.Scalar.{Scalar}
 use Rattle.agg_model.specs.declared.row.FieldValues.{FieldValues}
 use Rattle.shard_columns.specs.declared.values.Typed.{Typed}
-use Rattle.shard_columns.specs.declared.values.Held.{Held}
 use Rattle.shard_columns.specs.declared.values.Draft.{Draft}
 use Rattle.shard_columns.specs.declared.values.Drafts.{Drafts}
 use Rattle.shard_columns.specs.declared.words.WordNumbers.{WordNumbers}

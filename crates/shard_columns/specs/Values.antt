@@ -1,5 +1,5 @@
 -- Values in flat arrays, one for each field, with the spans of the rows that have any.
-use Rattle.std.specs.Prelude.{◌≡◌, ℕ, zero, suc, ◌+◌, pos, ◌<◌, ◌≤◌, Bool, true, false, List, [], ◌∷◌, ◌++◌, map, length, slice_index_or, slice_range, Contains, find, Option, Some, None, flat_map, if◌then◌else◌, ◌==◌, slice_get, sum_by, nat_le}
+use Rattle.std.specs.Prelude.{◌≡◌, ℕ, zero, suc, ◌+◌, pos, ◌<◌, ◌≤◌, Bool, true, false, List, [], ◌∷◌, ◌++◌, map, length, slice_index_or, slice_range, Contains, find, flat_map, if◌then◌else◌, ◌==◌, slice_get, sum_by, nat_le}
 use Rattle.std.specs.Option.{option_map_or}
 use Rattle.std.specs.List.{range_with_len}
 use Rattle.std.specs.List.Sorted.{IsStrictlyIncreasing}

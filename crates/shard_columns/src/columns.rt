@@ -55,12 +55,7 @@ fn spread(alloc: Global, held: &[Held], rows: usize) -> Result<Vec<Span>, AllocE
 // A span for each row takes at most 64 bytes for each row that has values.
 const ROWS_FOR_EACH: usize = 8;
 
-fn finished(
-    alloc: Global,
-    draft: Draft,
-    ranks: &[usize],
-    rows: usize,
-) -> Result<Column, AllocError>
+fn finished(alloc: Global, draft: Draft, ranks: &[usize], rows: usize) -> Result<Column, AllocError>
     requires { IsShaped rows draft }
     ensures { IfOk result (λ column. IsFinished ranks.now draft column) }
 {

@@ -42,11 +42,7 @@ pub fn find_held(held: &[Held], row: u32) -> Option<Held>
 {
     let place = held.partition_point(|one| one.row < row);
     let one = *held.get(place)?;
-    if one.row == row {
-        Some(one)
-    } else {
-        None
-    }
+    if one.row == row { Some(one) } else { None }
 }
 
 /// The place of a word among these, which are distinct and ascend by their bytes.

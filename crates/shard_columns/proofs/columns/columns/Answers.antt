@@ -1,8 +1,7 @@
-use Rattle.std.proofs.Common.{◌≡◌, ◌++◌, ◌∷◌, [], List, length, Some, refl, sym, ◌∙◌, ap, subst, append_assoc}
+use Rattle.std.proofs.Common.{◌≡◌, ◌++◌, ◌∷◌, [], List, length, sym, ◌∙◌, ap, subst, append_assoc}
 use Rattle.std.specs.Prelude.{slice_get}
 use Rattle.std.specs.Vec.Iter.{into_iter_items}
 use Rattle.shard_columns.specs.declared.values.Draft.{Draft}
-use Rattle.shard_columns.specs.declared.columns.Column.{Column}
 use Rattle.shard_columns.specs.Columnar.{AreFinished}
 use Rattle.shard_columns.proofs.Finishing.{AreFinished-push, slice_get-between}
 use Rattle.shard_columns.proofs.columns.columns.Goals as goal

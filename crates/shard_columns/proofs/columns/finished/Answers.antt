@@ -1,4 +1,4 @@
-use Rattle.std.proofs.Common.{◌≡◌, refl, sym, ◌∙◌, ap, subst}
+use Rattle.std.proofs.Common.{refl, sym, ◌∙◌, ap, subst}
 use Rattle.shard_columns.specs.declared.columns.Spans.{Spans}
 use Rattle.shard_columns.specs.Columnar.{IsFinished}
 use Rattle.shard_columns.specs.Values.{span_in}

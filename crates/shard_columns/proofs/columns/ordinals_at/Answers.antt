@@ -1,6 +1,5 @@
-use Rattle.std.proofs.Common.{List, ℕ, ℤ, Bool, sym, ◌∙◌, ap, subst, arith, inl, inr}
+use Rattle.std.proofs.Common.{List, ℕ, sym, ◌∙◌, ap, inl, inr}
 use Rattle.shard_columns.specs.declared.values.Typed.{Typed}
-use Rattle.shard_columns.specs.declared.values.Span.{Span}
 use Rattle.shard_columns.specs.Values.{cut, span_of}
 use Rattle.shard_columns.specs.Columnar.{ordinals_part}
 use Rattle.shard_columns.proofs.columns.ordinals_at.Goals as goal

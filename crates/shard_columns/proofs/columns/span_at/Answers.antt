@@ -1,4 +1,4 @@
-use Rattle.std.proofs.Common.{◌≡◌, List, ℕ, Some, None, Option, find, eqb, map, sym, ◌∙◌, ap, subst, arith}
+use Rattle.std.proofs.Common.{List, Option, sym, ◌∙◌, ap}
 use Rattle.std.specs.Option.{option_map_or}
 use Rattle.shard_columns.specs.declared.values.Held.{Held}
 use Rattle.shard_columns.specs.declared.columns.Spans.{Spans}

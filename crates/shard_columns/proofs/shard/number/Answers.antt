@@ -1,20 +1,13 @@
-use Rattle.std.proofs.Common.{◌≡◌, ◌∷◌, ◌++◌, ◌+◌, ◌<◌, ◌^◌, ℕ, [], List, take, length, sum_by, flat_map, refl, sym, ◌∙◌, ap, subst, arith}
+use Rattle.std.proofs.Common.{◌≡◌, ◌∷◌, ◌++◌, ◌+◌, ℕ, [], List, take, length, flat_map, sym, subst, arith}
 use Rattle.std.proofs.lemmas.List.{length-take}
-use Rattle.std.proofs.lemmas.List.Sums.{sum_by-take-le}
-use Rattle.std.specs.Prelude.{slice_get, Some, map}
-use Rattle.std.proofs.lemmas.Option.{slice_get-get_or}
 use Rattle.shard_columns.specs.declared.layout.Laid.{Laid}
-use Rattle.shard_columns.specs.declared.values.Drafts.{Drafts}
-use Rattle.agg_model.specs.declared.row.FieldValues.{FieldValues}
-use Rattle.shard_columns.specs.Layout.{values_of_laid}
-use Rattle.shard_columns.specs.Values.{FieldsBelow, total_count, IsShaped}
+use Rattle.shard_columns.specs.Values.{FieldsBelow, IsShaped}
 use Rattle.shard_columns.specs.Words.{Notes, row_words}
 use Rattle.shard_columns.specs.Stored.{AreDrafts}
 use Rattle.shard_columns.specs.Storing.{AddsRowValues}
 use Rattle.shard_columns.proofs.Laying.{take-next, all-taken}
 use Rattle.shard_columns.proofs.Noting.{AllFieldsBelow-at, Notes-none, Notes-row}
 use Rattle.shard_columns.proofs.Searching.{taken}
-use Rattle.shard_columns.proofs.Building.{total-push}
 use Rattle.shard_columns.proofs.Drafting.{all-taken-of-kind}
 use Rattle.shard_columns.proofs.Filling.{AreDrafts-none, AreDrafts-push, sound-kind, taken-total, kind-there}
 use Rattle.shard_columns.proofs.shard.number.Goals as goal

@@ -1,8 +1,5 @@
-use Rattle.std.proofs.Common.{◌≡◌, ◌<◌, ◌^◌, refl, ℕ, List, [], map, length, get_or, sym, ◌∙◌, ap, subst, arith}
-use Rattle.shard_columns.specs.declared.layout.Laid.{Laid}
-use Rattle.shard_columns.specs.declared.values.Drafts.{Drafts}
+use Rattle.std.proofs.Common.{ℕ, List, length, subst}
 use Rattle.shard_columns.specs.Columnar.{AreFinished}
-use Rattle.shard_columns.specs.Values.{FieldsBelow}
 use Rattle.shard_columns.proofs.Ranking.{AreDictionaries-made, Shows-ranked}
 use Rattle.shard_columns.proofs.Filling.{AreStored-made, AreColumns-made, few-words, below-at}
 use Rattle.shard_columns.proofs.shard.store.Goals as goal

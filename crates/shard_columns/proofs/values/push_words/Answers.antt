@@ -1,12 +1,12 @@
 use Rattle.std.proofs.lemmas.List.{append-nil}
-use Rattle.std.proofs.Common.{◌≡◌, ◌+◌, ◌++◌, ◌∷◌, ◌≤◌, ◌<◌, ◌^◌, ℕ, List, [], map, take, length, length-append, refl, sym, ◌∙◌, ap, subst, arith}
+use Rattle.std.proofs.Common.{◌≡◌, ◌+◌, ◌++◌, ◌∷◌, ℕ, List, [], map, take, length, length-append, sym, ◌∙◌, ap, subst, arith}
 use Rattle.std.specs.Prelude.{Vec}
 use Rattle.std.specs.declared.alloc.Global.{Global}
 use Rattle.agg_model.specs.declared.row.Scalar.{Scalar}
-use Rattle.agg_model.specs.declared.row.Scalar.TheVariants.{Whole, Word, Flag}
+use Rattle.agg_model.specs.declared.row.Scalar.TheVariants.{Word}
 use Rattle.shard_columns.specs.declared.words.WordNumbers.{WordNumbers}
-use Rattle.shard_columns.specs.Values.{Reader, word_in, words_in}
-use Rattle.shard_columns.specs.Words.{Notes, Shows, of_field}
+use Rattle.shard_columns.specs.Values.{word_in, words_in}
+use Rattle.shard_columns.specs.Words.{Notes, of_field}
 use Rattle.shard_columns.proofs.Laying.{take-next, all-taken}
 use Rattle.shard_columns.proofs.Noting.{Notes-no_word, Notes-value}
 use Rattle.shard_columns.proofs.Storing.{AddsWords, Shows-before, words-step, words-skip, words-count, no-word}

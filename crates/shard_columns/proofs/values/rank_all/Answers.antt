@@ -1,9 +1,7 @@
-use Rattle.std.proofs.Common.{◌≡◌, ℕ, List, map, length, sym, ◌∙◌, ap, subst}
-use Rattle.std.proofs.lemmas.List.{length-map}
-use Rattle.agg_model.specs.declared.row.Scalar.{Scalar}
+use Rattle.std.proofs.Common.{sym, subst}
 use Rattle.shard_columns.specs.declared.values.Typed.{Typed}
 use Rattle.shard_columns.specs.declared.values.Typed.TheVariants as typed
-use Rattle.shard_columns.specs.Values.{ranked, AreRankedAll}
+use Rattle.shard_columns.specs.Values.{AreRankedAll}
 use Rattle.shard_columns.proofs.Ranking.{ranked-words}
 use Rattle.shard_columns.proofs.values.rank_all.Goals as goal
 

@@ -39,9 +39,10 @@ pub numbers_by_context-requires : goal.numbers_by_context-requires
 numbers_by_context-requires c =
     let entries_are = c.in_ok-rows.ensures ∙ ap entries_of_laid c.as_slice-laid.ensures.value in
     let nested_size = ap length c.as_slice-nested.ensures in
-    record { contexts = subst (ContextsBelow (length c.as_slice-nested.result.now + 1)) (sym c.as_slice.ensures.value)
-    (contexts-below (ids_of c.args.documents.now) c.in_ok-layout.layout.rows.items c.in_ok-rows.rows.items (rows_of_documents c.args.documents.now) (length c.as_slice-nested.result.now + 1) entries_are c.in_ok-layout.ensures.rows
-    (λ n. omega (arith, (documents_given c.args.mapping.now c.args.documents.now c.requires.few c.requires.light c.requires.fit).contexts n, nested_size)));
+    record {
+      contexts = subst (ContextsBelow (length c.as_slice-nested.result.now + 1)) (sym c.as_slice.ensures.value)
+          (contexts-below (ids_of c.args.documents.now) c.in_ok-layout.layout.rows.items c.in_ok-rows.rows.items (rows_of_documents c.args.documents.now) (length c.as_slice-nested.result.now + 1) entries_are c.in_ok-layout.ensures.rows
+          (λ n. omega (arith, (documents_given c.args.mapping.now c.args.documents.now c.requires.few c.requires.light c.requires.fit).contexts n, nested_size)));
       few = (let light = c.requires.light in
           omega (arith, light, rows-light (rows_of_documents c.args.documents.now), ap length c.as_slice.ensures.value, sizes-stored (ids_of c.args.documents.now) c.in_ok-layout.layout.rows.items c.in_ok-rows.rows.items (rows_of_documents c.args.documents.now) entries_are c.in_ok-layout.ensures.rows));
     }

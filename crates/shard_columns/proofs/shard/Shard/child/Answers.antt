@@ -1,4 +1,4 @@
-use Rattle.std.proofs.Common.{◌+◌, arith}
+use Rattle.std.proofs.Common.{◌+◌}
 use Rattle.agg_evaluation.specs.Rows.{row_of}
 use Rattle.shard_columns.proofs.Reading.{child-row}
 use Rattle.shard_columns.proofs.shard.Shard.child.Goals as goal

@@ -1,4 +1,4 @@
-use Rattle.std.proofs.Common.{List, Bool, map, sym, ◌∙◌, ap}
+use Rattle.std.proofs.Common.{map, sym, ◌∙◌, ap}
 use Rattle.agg_model.specs.declared.mapping.FieldKind.TheVariants.{Boolean}
 use Rattle.agg_model.specs.declared.row.Scalar.TheVariants.{Flag}
 use Rattle.agg_evaluation.specs.Rows.{values_of, row_of}

@@ -1,6 +1,5 @@
 use Rattle.std.proofs.Common.{ℕ, List, [], ◌<◌, ◌≡◌, length, get_or, map, refl, sym, ◌∙◌, ap, subst}
 use Rattle.agg_model.specs.declared.mapping.FieldKind.TheVariants.{Keyword}
-use Rattle.agg_model.specs.declared.row.Scalar.{Scalar}
 use Rattle.agg_model.specs.declared.row.Scalar.TheVariants.{Word}
 use Rattle.agg_evaluation.specs.Rows.{values_of, row_of}
 use Rattle.shard_columns.specs.Dictionary.{words_of}

@@ -1,4 +1,4 @@
-use Rattle.std.proofs.Common.{◌≡◌, ◌+◌, ℕ, ℤ, Bool, List, [], length, get_or, refl, sym, ◌∙◌, ap, arith, rules, w64}
+use Rattle.std.proofs.Common.{◌+◌, ℤ, List, [], length, get_or, sym, ◌∙◌, ap, arith, rules, w64}
 use Rattle.std.specs.Prelude.{Some}
 use Rattle.std.proofs.lemmas.Int.{to_z-of_z}
 use Rattle.agg_model.specs.declared.row.Scalar.TheVariants.{Whole}

@@ -1,6 +1,5 @@
-use Rattle.std.proofs.Common.{◌≡◌, ◌-◌, length, sym, ◌∙◌, ap, arith}
+use Rattle.std.proofs.Common.{◌-◌, length, sym, ◌∙◌, ap, arith}
 use Rattle.shard_columns.specs.declared.values.Span.{Span}
-use Rattle.shard_columns.specs.Values.{span_of}
 use Rattle.shard_columns.proofs.Reading.{column-sound, count-is, no-column}
 use Rattle.shard_columns.proofs.shard.Shard.value_count.Goals as goal
 

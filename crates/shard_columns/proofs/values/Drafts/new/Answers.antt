@@ -1,8 +1,6 @@
-use Rattle.std.proofs.Common.{◌≡◌, ◌+◌, ◌++◌, ◌∷◌, List, [], take, refl, sym, subst, ap, ◌∙◌}
-use Rattle.agg_model.specs.declared.mapping.FieldKind.{FieldKind}
+use Rattle.std.proofs.Common.{◌+◌, take, refl, sym, subst}
 use Rattle.shard_columns.specs.declared.values.Draft.{Draft}
 use Rattle.shard_columns.proofs.Drafting.{AreNew, AreNew-next}
-use Rattle.shard_columns.proofs.Laying.{take-next}
 use Rattle.shard_columns.proofs.values.Drafts.new.Goals as goal
 
 pub loop-kind-preserved : goal.loop-kind-preserved

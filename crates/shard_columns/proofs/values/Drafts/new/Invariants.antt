@@ -1,8 +1,4 @@
-use Rattle.std.proofs.Common.{◌≡◌, ℕ, [], length, true, take}
-use Rattle.std.specs.Prelude.{slice_get, Some}
-use Rattle.agg_model.specs.declared.mapping.FieldKind.{FieldKind}
-use Rattle.shard_columns.specs.declared.values.Draft.{Draft}
-use Rattle.shard_columns.specs.Values.{is_typed, typed_len}
+use Rattle.std.proofs.Common.{take}
 use Rattle.shard_columns.proofs.Drafting.{AreNew}
 use Rattle.shard_columns.proofs.values.Drafts.new.Given as goal
 

@@ -1,13 +1,10 @@
-use Rattle.std.proofs.Common.{◌≡◌, ◌+◌, ◌<◌, ◌≤◌, ◌++◌, ◌∷◌, ℕ, true, List, [], map, length, take, get_or, set, Some, None, find, eqb, sym, ◌∙◌, ap, subst, arith, refl}
-use Rattle.std.specs.Prelude.{slice_get, sum_by}
-use Rattle.std.specs.List.{list_all}
+use Rattle.std.proofs.Common.{◌≡◌, ◌+◌, ◌<◌, ◌++◌, ◌∷◌, ℕ, List, [], map, length, take, Some, sym, ◌∙◌, ap, subst, arith, refl}
+use Rattle.std.specs.Prelude.{slice_get}
 use Rattle.std.specs.List.Sorted.{IsStrictlyIncreasing}
 use Rattle.std.proofs.lemmas.Option.{slice_get-get_or}
 use Rattle.std.proofs.lemmas.List.Sums.{sum_by_more_le}
 use Rattle.agg_model.specs.declared.row.FieldValues.{FieldValues}
-use Rattle.shard_columns.specs.declared.values.Draft.{Draft}
-use Rattle.shard_columns.specs.declared.values.Drafts.{Drafts}
-use Rattle.shard_columns.specs.Values.{words_for, FieldsBelow, total_count, is_taken, typed_len}
+use Rattle.shard_columns.specs.Values.{words_for, FieldsBelow, total_count, is_taken}
 use Rattle.shard_columns.specs.Words.{Notes}
 use Rattle.shard_columns.specs.Storing.{AddsRowValues}
 use Rattle.shard_columns.proofs.Laying.{take-next, all-taken}
