@@ -9,9 +9,8 @@ use Rattle.agg_model.specs.declared.row.FieldValues.{FieldValues}
 use Rattle.agg_evaluation.specs.Rows.{PlacedRow, no_row, row_of}
 use Rattle.shard_columns.specs.declared.layout.Entry.{Entry}
 use Rattle.shard_columns.specs.declared.layout.Laid.{Laid}
-use Rattle.shard_columns.specs.declared.values.Values.{Values}
 use Rattle.shard_columns.specs.Layout.{placed, flat_rows, row_at, values_of_laid, entries_of_laid, context_of}
-use Rattle.shard_columns.specs.Values.{Words, Reader, words_in, words_for, FieldsBelow, cut, fields_by, rows_by, total_count, IsWithin, WithinReach, SpansWithin}
+use Rattle.shard_columns.specs.Values.{Words, words_in, words_for, FieldsBelow, total_count}
 use Rattle.shard_columns.specs.Words.{AllFieldsBelow}
 use Rattle.shard_columns.specs.Given.{RowsBelow}
 use Rattle.agg_evaluation.specs.ColumnBytes.{value_count}
@@ -29,13 +28,6 @@ words_for-none n f (x ∷ xs) below beyond =
       | false ↦ (λ e. refl)
     ] in
     ap (λ (ws : Words). ws ++ words_for f xs) (other (eqb x.field f) refl) ∙ words_for-none n f xs below.1 beyond
-
-pub rows_by-first : (show : Reader) (v : Values) → v.rows.items ≡ [] → rows_by show v ≡ []
-rows_by-first show v no_rows = ap (map (cut (fields_by show v))) no_rows
-
-pub IsWithin-first : (v : Values) → v.rows.items ≡ [] → v.fields.items ≡ [] → IsWithin v
-unfolding WithinReach SpansWithin
-IsWithin-first v no_rows no_fields = record { fields = subst (WithinReach (length v.stored.items)) (sym no_fields) tt; rows = subst (SpansWithin (length v.fields.items)) (sym no_rows) tt }
 
 pub zip-map : {X A B : Type 0} (f : X → A) (g : X → B) (xs : List X) → zip (map f xs) (map g xs) ≡ map (λ x. (f x, g x)) xs
 zip-map f g [] = refl

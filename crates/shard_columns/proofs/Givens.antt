@@ -1,5 +1,5 @@
 -- What a shard is built on, of documents that fit: fields, kinds and paths that rise, row by row.
-use Rattle.std.specs.Prelude.{◌≡◌, refl, ℕ, ◌+◌, ◌^◌, ◌<◌, ◌≤◌, suc, zero, List, [], ◌∷◌, map, sum_by, length, slice_get, slice_index, slice_index_or, Option, Some, None, Bool, true, false, ◌&&◌, ◌==◌, cond, nat_le, find, option_map, unwrap_or, is_some}
+use Rattle.std.specs.Prelude.{◌≡◌, refl, ℕ, ◌+◌, ◌<◌, ◌≤◌, suc, zero, List, [], ◌∷◌, map, length, slice_get, slice_index, slice_index_or, Option, Some, None, Bool, true, false, ◌&&◌, ◌==◌, cond, nat_le, find, option_map, unwrap_or, is_some}
 use Rattle.std.specs.List.{list_all}
 use Rattle.std.specs.List.Sorted.{IsStrictlyIncreasing}
 use Rattle.std.specs.Option.{option_map_or}
@@ -17,7 +17,8 @@ use Rattle.agg_model.specs.declared.row.FieldValues.{FieldValues}
 use Rattle.agg_model.specs.declared.row.Row.{Row, Row', Row_of-Children, end_of-Children, more_of-Children}
 use Rattle.agg_model.specs.declared.row.Children.{Children, Children', Row_of-Row, end_of-Row, more_of-Row}
 use Rattle.agg_model.specs.declared.row.Document.{Document}
-use Rattle.agg_evaluation.specs.Rows.{PlacedRow, row_of, no_row, rows_of_documents}
+use Rattle.agg_evaluation.specs.Rows.{PlacedRow, row_of, no_row, rows_of_documents, values_of}
+use Rattle.shard_columns.specs.Stored.{AreSound}
 use Rattle.shard_columns.specs.Values.{FieldsBelow}
 use Rattle.agg_model.specs.FieldKinds.{is_of_kind}
 use Rattle.shard_columns.specs.Given.{IsGiven, RowsBelow}
@@ -162,3 +163,49 @@ module _ (m : Mapping) where
         few_paths = omega (arith, few);
         light = light;
       }
+
+  -- each field of a row has values of its kind
+  pub sound_fields : (context least : ℕ) (fs : List FieldValues) → fields_fit m context least fs ≡ true → AreSound (map (λ f. f.kind) m.fields) least fs
+  unfolding AreSound
+  sound_fields context least [] h = tt
+  sound_fields context least (f ∷ fs) h =
+      let first = and_parts (nat_le least f.field) (field_fits m context f && fields_fit m context (f.field + 1) fs) h in
+      let rest = and_parts (field_fits m context f) (fields_fit m context (f.field + 1) fs) first.1 in
+      let parts = and_parts (is_own m context f.field f.values) (is_number_of_values (length f.values) && ascend f.values) rest.0 in
+      let number = and_parts (is_number_of_values (length f.values)) (ascend f.values) parts.1 in
+      let some = (and_parts (nat_le 1 (length f.values)) _ number.0).0 in
+      let low = first.0 in
+      let own = own_field context f.field f.values parts.0 in (
+        grind (arith, nat_tests, low),
+        (
+          grind (arith, nat_tests, some),
+          (
+            λ k e. (let kind = kind_there m.fields f.field k e own.0 own.1 in all_of_kind k f.values (ap (λ q. list_all (is_value q) f.values) (sym kind) ∙ own.2)),
+            sound_fields context (f.field + 1) fs rest.1,
+          ),
+        ),
+      )
+
+  pub sound_rows : (ds : List Document) → all_fit m ds ≡ true → (n : ℕ) → AreSound (map (λ f. f.kind) m.fields) 0 (row_of (rows_of_documents ds) n).values
+  sound_rows ds h n =
+      let row = row_of (rows_of_documents ds) n in
+      sound_fields row.context 0 row.values (and_parts _ _ (all_at (placed_fits m) (rows_of_documents ds) no_row no_row_fits (rows_fit_placed m ds h) n)).1
+
+  ascend_found : (context least : ℕ) (fs : List FieldValues) (field : ℕ) → fields_fit m context least fs ≡ true → ascend (unwrap_or (option_map (λ v. v.values) (find (λ v. v.field == field) fs)) []) ≡ true
+  ascend_found context least [] field h = refl
+  ascend_found context least (f ∷ fs) field h =
+      let first = and_parts (nat_le least f.field) (field_fits m context f && fields_fit m context (f.field + 1) fs) h in
+      let rest = and_parts (field_fits m context f) (fields_fit m context (f.field + 1) fs) first.1 in
+      let parts = and_parts (is_own m context f.field f.values) (is_number_of_values (length f.values) && ascend f.values) rest.0 in
+      let up = (and_parts (is_number_of_values (length f.values)) (ascend f.values) parts.1).1 in
+      pick (f.field == field) up (ascend_found context (f.field + 1) fs field rest.1)
+    where
+      pick : (b : Bool) → ascend f.values ≡ true → ascend (unwrap_or (option_map (λ v. v.values) (find (λ v. v.field == field) fs)) []) ≡ true →
+          ascend (unwrap_or (option_map (λ v. v.values) (cond b (Some f) (find (λ v. v.field == field) fs))) []) ≡ true
+      pick true here there = here
+      pick false here there = there
+
+  pub ascend_rows : (ds : List Document) → all_fit m ds ≡ true → (field n : ℕ) → ascend (values_of field (row_of (rows_of_documents ds) n)) ≡ true
+  ascend_rows ds h field n =
+      let row = row_of (rows_of_documents ds) n in
+      ascend_found row.context 0 row.values field (and_parts _ _ (all_at (placed_fits m) (rows_of_documents ds) no_row no_row_fits (rows_fit_placed m ds h) n)).1

@@ -1,5 +1,5 @@
 -- The shards of lists of documents are those of an index.
-use Rattle.std.specs.Prelude.{◌≡◌, refl, ℕ, suc, zero, ◌+◌, ◌<◌, ◌≤◌, List, [], ◌∷◌, map, length, sum_by, slice_index_or, true}
+use Rattle.std.specs.Prelude.{◌≡◌, refl, ℕ, suc, zero, ◌+◌, ◌<◌, ◌≤◌, List, [], ◌∷◌, map, length, slice_index_or, true}
 use Rattle.std.specs.List.{list_all}
 use Rattle.std.proofs.Common.{sym, ◌∙◌, ap, arith}
 use Rattle.std.proofs.lemmas.Bool.{and_parts}
@@ -11,7 +11,7 @@ use Rattle.agg_model.specs.Contexts.{parents_before}
 use Rattle.agg_evaluation.specs.DocumentFits.{all_fit}
 use Rattle.agg_evaluation.specs.Rows.{rows_of_documents}
 use Rattle.agg_evaluation.specs.RowsWeight.{rows_weight}
-use Rattle.shard_columns.specs.Built.{columns_from, IsBuiltFrom}
+use Rattle.shard_columns.specs.Built.{columns_from}
 use Rattle.shard_columns.specs.Columns.{Columns}
 use Rattle.shard_columns.specs.Index.{AreShardsOf, rows_by_shard, shards_weight, lists_weight}
 

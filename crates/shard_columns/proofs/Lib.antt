@@ -2,6 +2,11 @@ pub mod Levels
 pub mod Placing
 pub mod Laying
 pub mod Storing
+pub mod Drafting
+pub mod Finishing
+pub mod Filling
+pub mod Presenting
+pub mod Ascending
 pub mod Noting
 pub mod Ranking
 pub mod Building

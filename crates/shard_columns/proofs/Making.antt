@@ -1,6 +1,21 @@
 -- What holds of a shard that is made from documents.
 use Rattle.std.proofs.Common.{◌≡◌, refl, ℕ, ◌+◌, ◌<◌, ◌≤◌, List, [], ◌∷◌, ◌++◌, map, length, get_or, flat_map, sym, ◌∙◌, ap, subst, arith, inl, inr}
-use Rattle.std.specs.Prelude.{◌&&◌, nat_le, nat_lt}
+use Rattle.std.specs.Prelude.{◌&&◌, nat_le, nat_lt, slice_get, Some, true, sum_by}
+use Rattle.std.proofs.lemmas.Option.{slice_get_within, get_or_from_slice_get}
+use Rattle.std.specs.List.Sorted.{IsStrictlyIncreasing}
+use Rattle.agg_model.specs.declared.row.FieldValues.{FieldValues}
+use Rattle.agg_model.specs.declared.row.Document.{Document}
+use Rattle.agg_model.specs.declared.mapping.Mapping.{Mapping}
+use Rattle.agg_model.specs.declared.mapping.Field.{Field}
+use Rattle.agg_evaluation.specs.DocumentFits.{all_fit}
+use Rattle.agg_evaluation.specs.Rows.{rows_of_documents}
+use Rattle.shard_columns.specs.Given.{IsGiven, RowsBelow}
+use Rattle.shard_columns.specs.Stored.{AreSound, AreStorable}
+use Rattle.shard_columns.specs.Layout.{ids_of}
+use Rattle.shard_columns.specs.Values.{total_count}
+use Rattle.shard_columns.proofs.Givens.{sound_rows}
+use Rattle.shard_columns.proofs.Weighing.{rows-light, counts-light}
+use Rattle.shard_columns.proofs.Building.{AllFieldsBelow-given, total-values}
 use Rattle.std.specs.Ordering.{nat_cmp}
 use Rattle.std.specs.Cmp.Lexicographic.{slice_cmp}
 use Rattle.std.proofs.lemmas.List.{length-map, get_or-map, get_or_past}
@@ -59,3 +74,23 @@ dictionaries-are count ids laid rows words is rising below are f =
       | inl inside ↦ SameWords-ascending (flat_map (row_words f) laid) (get_or words f []) (are.same f inside) ∙ ap (ascending (slice_cmp nat_cmp)) all
       | inr beyond ↦ get_or_past words f [] (omega (arith, are.sizes)) ∙ ap (ascending (slice_cmp nat_cmp)) (sym (none-beyond count f laid below beyond) ∙ all)
     ]
+
+laid-values : (ids : List (List ℕ)) (laid : List Laid) (rows : List PlacedRow) (n : ℕ) (l : Laid) → flat_rows ids laid ≡ rows → slice_get laid n ≡ Some l → (row_of rows n).values ≡ l.values.now
+laid-values ids laid rows n l is at =
+    let low = slice_get_within laid n l at in
+    let n_rows : n < length rows = omega (arith, low, ap length is, length-flat_rows ids laid) in
+    sym (get_or-map (λ (r : PlacedRow). r.values) rows n no_row [] n_rows)
+    ∙ (ap (λ (vs : List (List FieldValues)). get_or vs n []) (values-laid ids laid rows is)
+    ∙ (get_or-map (λ (x : Laid). x.values.now) laid n l [] low ∙ ap (λ (x : Laid). x.values.now) (get_or_from_slice_get laid n l l at)))
+
+pub storable-laid : (m : Mapping) (documents : List Document) (laid : List Laid) → IsGiven m documents → all_fit m documents ≡ true → flat_rows (ids_of documents) laid ≡ rows_of_documents documents → AreStorable (map (λ f. f.kind) m.fields) laid
+storable-laid m documents laid given fit is =
+    let rows = rows_of_documents documents in
+    let size : length m.fields ≡ length (map (λ f. f.kind) m.fields) = sym (length-map m.fields (λ (f : Field). f.kind)) in
+    record {
+      below = AllFieldsBelow-given (length (map (λ f. f.kind) m.fields)) (ids_of documents) laid rows is (subst (λ (n : ℕ). RowsBelow n rows) size given.fields);
+      rising = λ n l at. subst (λ (vs : List FieldValues). IsStrictlyIncreasing (map (λ v. v.field) vs)) (laid-values (ids_of documents) laid rows n l is at) (given.rising n);
+      sound = λ n l at. subst (AreSound (map (λ f. f.kind) m.fields) 0) (laid-values (ids_of documents) laid rows n l is at) (sound_rows m documents fit n);
+      few_values = (let light = given.light in omega (arith, light, counts-light rows, total-values rows, ap (sum_by total_count) (values-laid (ids_of documents) laid rows is)));
+      few_rows = (let light = given.light in omega (arith, light, rows-light rows, ap length is, length-flat_rows (ids_of documents) laid));
+    }

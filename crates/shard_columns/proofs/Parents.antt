@@ -15,10 +15,9 @@ use Rattle.shard_columns.specs.declared.shard.Shard.TheInside.{Inside}
 use Rattle.shard_columns.specs.Columns.{Columns}
 use Rattle.shard_columns.specs.Layout.{placed, row_at, place_at}
 use Rattle.shard_columns.specs.Shard.{columns_of, placed_rows, IsSound}
-use Rattle.shard_columns.specs.Values.{row_values}
 use Rattle.shard_columns.proofs.Building.{zip-first}
 use Rattle.shard_columns.proofs.Enclosing.{begins-self}
-use Rattle.shard_columns.proofs.Reading.{rows-are, in-range, enclosed-are}
+use Rattle.shard_columns.proofs.Reading.{vals, aligned, rows-are, in-range, enclosed-are}
 
 placed-more : (ids : List (List ℕ)) (rows : List PlacedRow) (es : List (Entry × List FieldValues)) → (more : List PlacedRow) × (placed ids rows es ≡ rows ++ more)
 unfolding placed
@@ -86,10 +85,10 @@ T-same m n e = subst T (sym (eq-eqb m n e)) tt
 module _ (s : Inside) (v : Columns) (view : columns_of s ≡ v) (sound : IsSound s) where
   place-is : (n : ℕ) (e : Entry) → n < length v.rows → e ≡ get_or s.rows.items n e → (row_of v.rows n).place ≡ place_at (take n v.rows) e.document e.origin
   place-is n e below is =
-      let values = row_values s.words.items s.values in
+      let values = vals s in
       let pairs = zip s.rows.items values in
       let d : Entry × List FieldValues = (e, []) in
-      let firsts : map (λ (p : Entry × List FieldValues). p.0) pairs ≡ s.rows.items = zip-first (λ (e : Entry). e) s.rows.items values sound.aligned ∙ map-itself s.rows.items in
+      let firsts : map (λ (p : Entry × List FieldValues). p.0) pairs ≡ s.rows.items = zip-first (λ (e : Entry). e) s.rows.items values (aligned s) ∙ map-itself s.rows.items in
       let n_pairs : n < length pairs = omega (arith, in-range s v view sound n below, ap length firsts, length-map pairs (λ (p : Entry × List FieldValues). p.0)) in
       let entry_is : (get_or pairs n d).0 ≡ e = sym (get_or-map (λ (p : Entry × List FieldValues). p.0) pairs n d e n_pairs) ∙ (ap (λ (es : List Entry). get_or es n e) firsts ∙ sym is) in
       let at = placed-at s.ids.items [] pairs n d n_pairs in

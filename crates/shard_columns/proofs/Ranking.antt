@@ -1,6 +1,7 @@
 -- The words of ordered maps, and their places by number.
 use Rattle.std.proofs.Common.{T, Bool, true, false, cond, eqb, eq-eqb, flat_map, zero, suc, ◌≡◌, ◌≢◌, refl, ℕ, ◌+◌, ◌<◌, ◌≤◌, List, [], ◌∷◌, ◌++◌, map, length, get_or, set, sym, ◌∙◌, ap, subst, arith, length-append, Contains, inl, inr, Bor, Option, None, Some}
-use Rattle.std.specs.Prelude.{◌⊎◌, pos, IsSome, slice_get}
+use Rattle.std.specs.Prelude.{◌⊎◌, ◌^◌, pos, IsSome, slice_get, unwrap_or, Vec}
+use Rattle.std.specs.declared.alloc.Global.{Global}
 use Rattle.std.specs.Option.{option_map_or}
 use Rattle.std.specs.Ordering.{nat_cmp, is_eq}
 use Rattle.std.specs.declared.cmp.Ordering.{Ordering}
@@ -14,19 +15,17 @@ use Rattle.std.proofs.lemmas.Cmp.{nat_list_cmp_total}
 use Rattle.std.proofs.lemmas.List.{map-append, length-map, length-set, get_or-set_same, get_or-set_other, get_or_past, get_or_append_left}
 use Rattle.std.proofs.lemmas.Bool.{cases_lt}
 use Rattle.std.proofs.lemmas.Map.Lookups.{exact_bytes}
-use Rattle.std.proofs.lemmas.Option.{same_Some}
+use Rattle.std.proofs.lemmas.Option.{same_Some, slice_get_within, unwrap_or-slice_get}
+use Rattle.std.proofs.lemmas.Bool.Decides.{nat_tests}
 use Rattle.std.proofs.Math.Facts.{eqb_yes}
 use Rattle.std.proofs.Math.Seq.{get_or-append_seam}
 use Rattle.agg_model.specs.declared.row.Scalar.TheVariants as scalar
-use Rattle.agg_model.specs.declared.row.FieldValues.{FieldValues}
 use Rattle.shard_columns.specs.declared.layout.Laid.{Laid}
-use Rattle.shard_columns.specs.declared.values.Stored.{Stored}
-use Rattle.shard_columns.specs.declared.values.Held.{Held}
-use Rattle.shard_columns.specs.declared.values.Values.{Values}
+use Rattle.shard_columns.specs.declared.values.Typed.TheVariants as typed
 use Rattle.shard_columns.specs.declared.words.WordNumbers.{WordNumbers}
-use Rattle.shard_columns.specs.Values.{Words, Reader, by_words, cut, field_by, fields_by, rows_by, ranked}
+use Rattle.shard_columns.specs.Values.{Words, by_words, ranked, limited, AreRankedAll}
 use Rattle.shard_columns.specs.Words.{Entries, number_in, number_of, words_among, entries_of, HasNone, IsNumbered, Notes, Shows, AreApart, AreRanked, AreWords, ArePlaced, AreDictionaries, row_words}
-use Rattle.shard_columns.proofs.Storing.{cut-map}
+use Rattle.shard_columns.proofs.Storing.{kind-same-words}
 
 abbrev Word : Type 0
 Word = Bor (List ℕ)
@@ -245,26 +244,34 @@ AreDictionaries-made count rows empty numbers words size none notes are = record
   };
 }
 
--- numbers that are put into their places show their words
-pub Shows-ranked : (numbers : WordNumbers) (words : List Words) (ranks : List ℕ) → ArePlaced numbers words ranks → Shows numbers (λ f s. by_words words f (ranked ranks s))
-Shows-ranked numbers words ranks placed = record {
-  whole = λ f n. refl;
-  word = λ f n w is. ap (λ (o : Option (List ℕ)). option_map_or scalar.Word o (scalar.Whole (pos 0))) (placed f n w is);
-  flag = λ f b. refl;
-}
+limited-low : (n : ℕ) → n < 2 ^ 32 → limited n ≡ n
+limited-low n low = grind (arith, nat_tests)
 
-map-after : {X Y Z : Type 0} (f : Y → Z) (g : X → Y) (xs : List X) → map f (map g xs) ≡ map (λ x. f (g x)) xs
+-- numbers that are put into their places show their words
+pub Shows-ranked : (numbers : WordNumbers) (words : List Words) (ranks : List ℕ) → ArePlaced numbers words ranks → ((f : ℕ) → length (get_or words f []) < 2 ^ 32) → Shows numbers (λ f n. by_words words f (ranked ranks n))
+Shows-ranked numbers words ranks placed few = record {
+  word = λ f n w is. shown-ranked f n w is (slice_get ranks n) refl (placed f n w is);
+}
+  where
+    shown-ranked : (f n : ℕ) (w : List ℕ) → number_of numbers f w ≡ Some n → (o : Option ℕ) → slice_get ranks n ≡ o → slice_get (get_or words f []) (get_or ranks n 0) ≡ Some w → by_words words f (ranked ranks n) ≡ scalar.Word w
+    shown-ranked f n w is None e there =
+        let at : get_or ranks n 0 ≡ 0 = sym (unwrap_or-slice_get ranks n 0) ∙ ap (λ (o : Option ℕ). unwrap_or o 0) e in
+        ap (λ (o : Option ℕ). by_words words f (option_map_or limited o 0)) e ∙ ap (λ (o : Option (List ℕ)). option_map_or scalar.Word o (scalar.Whole (pos 0))) (ap (slice_get (get_or words f [])) (sym at) ∙ there)
+    shown-ranked f n w is (Some r) e there =
+        let at : get_or ranks n 0 ≡ r = sym (unwrap_or-slice_get ranks n 0) ∙ ap (λ (o : Option ℕ). unwrap_or o 0) e in
+        let low : r < length (get_or words f []) = slice_get_within (get_or words f []) r w (ap (slice_get (get_or words f [])) (sym at) ∙ there) in
+        ap (λ (o : Option ℕ). by_words words f (option_map_or limited o 0)) e
+        ∙ (ap (by_words words f) (limited-low r (omega (arith, low, few f)))
+        ∙ ap (λ (o : Option (List ℕ)). option_map_or scalar.Word o (scalar.Whole (pos 0))) (ap (slice_get (get_or words f [])) (sym at) ∙ there))
+
+pub map-after : {X Y Z : Type 0} (f : Y → Z) (g : X → Y) (xs : List X) → map f (map g xs) ≡ map (λ x. f (g x)) xs
 map-after f g [] = refl
 map-after {X} {Y} {Z} f g (x ∷ xs) = ap (λ (zs : List Z). f (g x) ∷ zs) (map-after f g xs)
 
-fields-ranked : (show : Reader) (g : Stored → Stored) (xs : List Stored) (hs : List Held) → map (field_by show (map g xs)) hs ≡ map (field_by (λ f s. show f (g s)) xs) hs
-fields-ranked show g xs [] = refl
-fields-ranked show g xs (h ∷ hs) =
-    let values : map (show h.field) (cut (map g xs) h.span) ≡ map (λ s. show h.field (g s)) (cut xs h.span) = ap (map (show h.field)) (cut-map g xs h.span) ∙ map-after (show h.field) g (cut xs h.span) in
-    (λ i. record { field = h.field; values = values i } ∷ fields-ranked show g xs hs i)
-
-pub rows-ranked : (show : Reader) (g : Stored → Stored) (v w : Values) → w.rows.items ≡ v.rows.items → w.fields.items ≡ v.fields.items → w.stored.items ≡ map g v.stored.items → rows_by show w ≡ rows_by (λ f s. show f (g s)) v
-rows-ranked show g v w rows fields stored_is =
-    let same : fields_by show w ≡ fields_by (λ f s. show f (g s)) v =
-    ap (map (field_by show w.stored.items)) fields ∙ (ap (λ (xs : List Stored). map (field_by show xs) v.fields.items) stored_is ∙ fields-ranked show g v.stored.items v.fields.items) in
-    ap (map (cut (fields_by show w))) rows ∙ ap (λ (fs : List FieldValues). map (cut fs) v.rows.items) same
+-- words that are put into their places
+pub ranked-words : (ranks : List ℕ) (old new : Vec ℕ Global) → new.items ≡ map (ranked ranks) old.items → AreRankedAll ranks (typed.Words old) (typed.Words new)
+ranked-words ranks old new is = record {
+  size = ap length is ∙ length-map old.items (ranked ranks);
+  kind = λ k. kind-same-words k new old;
+  same = λ show. ap (map show) is ∙ map-after show (ranked ranks) old.items;
+}

@@ -89,48 +89,48 @@ span-filter xs from to s e le s_within e_within first last =
     (λ k after before. both-true from (get_or xs k 0) to (ltb-false (get_or xs k 0) from (first.1 k 0 after (omega arith))) (ltb-true (get_or xs k 0) to (last.0 k 0 (omega arith) before)))
     (λ k after within. high-false from (get_or xs k 0) to (ltb-false (get_or xs k 0) to (last.1 k 0 after within)))
 
-find-one : (f : ℕ) (h : Held) (rest : Option Held) (b : Bool) → eqb h.field f ≡ b → h.field ≡ f → cond b (Some h) rest ≡ Some h
+pub find-one : (f : ℕ) (h : Held) (rest : Option Held) (b : Bool) → eqb h.row f ≡ b → h.row ≡ f → cond b (Some h) rest ≡ Some h
 find-one f h rest true e same = refl
-find-one f h rest false e same = absurd (cc (sym e ∙ eq-eqb h.field f same))
+find-one f h rest false e same = absurd (cc (sym e ∙ eq-eqb h.row f same))
 
-find-not : (f : ℕ) (h : Held) (rest : Option Held) (b : Bool) → eqb h.field f ≡ b → h.field ≢ f → cond b (Some h) rest ≡ rest
+pub find-not : (f : ℕ) (h : Held) (rest : Option Held) (b : Bool) → eqb h.row f ≡ b → h.row ≢ f → cond b (Some h) rest ≡ rest
 find-not f h rest true e other = absurd (other (eqb_yes (subst T (sym e) tt)))
 find-not f h rest false e other = refl
 
 -- a field that no entry has is not found
-pub find-none : (hs : List Held) (f : ℕ) (d : Held) → ((k : ℕ) → k < length hs → (get_or hs k d).field ≢ f) → find (λ (h : Held). eqb h.field f) hs ≡ None
+pub find-none : (hs : List Held) (f : ℕ) (d : Held) → ((k : ℕ) → k < length hs → (get_or hs k d).row ≢ f) → find (λ (h : Held). eqb h.row f) hs ≡ None
 find-none [] f d other = refl
-find-none (h ∷ hs) f d other = find-not f h (find (λ (h : Held). eqb h.field f) hs) (eqb h.field f) refl (other 0 (omega arith)) ∙ find-none hs f d (λ k below. other (suc k) (omega arith))
+find-none (h ∷ hs) f d other = find-not f h (find (λ (h : Held). eqb h.row f) hs) (eqb h.row f) refl (other 0 (omega arith)) ∙ find-none hs f d (λ k below. other (suc k) (omega arith))
 
 -- the first entry of a field is found
-pub find-some : (hs : List Held) (f i : ℕ) (d : Held) → i < length hs → (get_or hs i d).field ≡ f → ((k : ℕ) → k < i → (get_or hs k d).field ≢ f) → find (λ (h : Held). eqb h.field f) hs ≡ Some (get_or hs i d)
+pub find-some : (hs : List Held) (f i : ℕ) (d : Held) → i < length hs → (get_or hs i d).row ≡ f → ((k : ℕ) → k < i → (get_or hs k d).row ≢ f) → find (λ (h : Held). eqb h.row f) hs ≡ Some (get_or hs i d)
 find-some [] f i d below same front = absurd (omega arith)
-find-some (h ∷ hs) f zero d below same front = find-one f h (find (λ (h : Held). eqb h.field f) hs) (eqb h.field f) refl same
+find-some (h ∷ hs) f zero d below same front = find-one f h (find (λ (h : Held). eqb h.row f) hs) (eqb h.row f) refl same
 find-some (h ∷ hs) f (suc i) d below same front =
-    find-not f h (find (λ (h : Held). eqb h.field f) hs) (eqb h.field f) refl (front 0 (omega arith)) ∙ find-some hs f i d (omega arith) same (λ k b. front (suc k) (omega arith))
+    find-not f h (find (λ (h : Held). eqb h.row f) hs) (eqb h.row f) refl (front 0 (omega arith)) ∙ find-some hs f i d (omega arith) same (λ k b. front (suc k) (omega arith))
 
 abbrev pub Parted : List Held → ℕ → ℕ → Type 0
-Parted hs f i = IsPartitionPoint (λ (h : Held). ltb h.field f ≡ true) (λ (h : Held). ltb h.field f ≡ false) hs i
+Parted hs f i = IsPartitionPoint (λ (h : Held). ltb h.row f ≡ true) (λ (h : Held). ltb h.row f ≡ false) hs i
 
 -- entries before a field are below it
-front-below : (hs : List Held) (f i : ℕ) (d : Held) → Parted hs f i → (k : ℕ) → k < i → (get_or hs k d).field < f
-front-below hs f i d point k below = ltb-true (get_or hs k d).field f (point.0 k d (omega arith) below)
+front-below : (hs : List Held) (f i : ℕ) (d : Held) → Parted hs f i → (k : ℕ) → k < i → (get_or hs k d).row < f
+front-below hs f i d point k below = ltb-true (get_or hs k d).row f (point.0 k d (omega arith) below)
 
-pub not-past : (hs : List Held) (f i : ℕ) (d : Held) → Parted hs f i → length hs ≤ i → find (λ (h : Held). eqb h.field f) hs ≡ None
+pub not-past : (hs : List Held) (f i : ℕ) (d : Held) → Parted hs f i → length hs ≤ i → find (λ (h : Held). eqb h.row f) hs ≡ None
 not-past hs f i d point past = find-none hs f d (λ k within same. let below = front-below hs f i d point k (omega arith) in absurd (omega (arith, below, same)))
 
-pub not-at : (hs : List Held) (f i : ℕ) (d : Held) → IsStrictlyIncreasing (map (λ h. h.field) hs) → Parted hs f i → i < length hs → (get_or hs i d).field ≢ f → find (λ (h : Held). eqb h.field f) hs ≡ None
+pub not-at : (hs : List Held) (f i : ℕ) (d : Held) → IsStrictlyIncreasing (map (λ h. h.row) hs) → Parted hs f i → i < length hs → (get_or hs i d).row ≢ f → find (λ (h : Held). eqb h.row f) hs ≡ None
 not-at hs f i d rise point within other = find-none hs f d (λ k k_within same.
     elim (cases_lt k i) [
       | inl before ↦ (let below = front-below hs f i d point k before in absurd (omega (arith, below, same)))
-      | inr after ↦ (let here = ltb-false (get_or hs i d).field f (point.1 i d (omega arith) within) in
+      | inr after ↦ (let here = ltb-false (get_or hs i d).row f (point.1 i d (omega arith) within) in
           elim (cases_lt i k) [
-            | inl later ↦ (let up = rises-by (λ (h : Held). h.field) hs rise i k d later k_within in absurd (omega (arith, up, here, same)))
-            | inr at ↦ absurd (other (ap (λ (n : ℕ). (get_or hs n d).field) (let e : i ≡ k = omega arith in e) ∙ same))
+            | inl later ↦ (let up = rises-by (λ (h : Held). h.row) hs rise i k d later k_within in absurd (omega (arith, up, here, same)))
+            | inr at ↦ absurd (other (ap (λ (n : ℕ). (get_or hs n d).row) (let e : i ≡ k = omega arith in e) ∙ same))
           ])
     ])
 
-pub is-at : (hs : List Held) (f i : ℕ) (d : Held) → Parted hs f i → i < length hs → (get_or hs i d).field ≡ f → find (λ (h : Held). eqb h.field f) hs ≡ Some (get_or hs i d)
+pub is-at : (hs : List Held) (f i : ℕ) (d : Held) → Parted hs f i → i < length hs → (get_or hs i d).row ≡ f → find (λ (h : Held). eqb h.row f) hs ≡ Some (get_or hs i d)
 is-at hs f i d point within same = find-some hs f i d within same (λ k below other. let less = front-below hs f i d point k below in absurd (omega (arith, less, other)))
 
 -- words below a word stand before those that are not

@@ -1,6 +1,9 @@
 pub mod Layout
 pub mod Ends
 pub mod Values
+pub mod Lent
+pub mod Columnar
+pub mod Stored
 pub mod Words
 pub mod Storing
 pub mod Columns

@@ -1,57 +1,109 @@
--- What flat arrays of values stand for: the values of each row, by field.
-use Rattle.std.specs.Prelude.{◌≡◌, ℕ, pos, ◌<◌, ◌≤◌, List, [], ◌∷◌, ◌++◌, map, length, slice_index_or, slice_range, Contains, find, Option, flat_map, if◌then◌else◌, ◌==◌, slice_get, sum_by}
+-- Values in flat arrays, one for each field, with the spans of the rows that have any.
+use Rattle.std.specs.Prelude.{◌≡◌, ℕ, zero, suc, ◌+◌, pos, ◌<◌, ◌≤◌, Bool, true, false, List, [], ◌∷◌, ◌++◌, map, length, slice_index_or, slice_range, Contains, find, flat_map, if◌then◌else◌, ◌==◌, slice_get, sum_by, nat_le}
 use Rattle.std.specs.Option.{option_map_or}
+use Rattle.std.specs.List.{range_with_len}
 use Rattle.std.specs.List.Sorted.{IsStrictlyIncreasing}
+use Rattle.agg_model.specs.declared.mapping.FieldKind.{FieldKind}
+use Rattle.agg_model.specs.declared.mapping.FieldKind.TheVariants.{Keyword, Boolean}
 use Rattle.agg_model.specs.declared.row.Scalar.{Scalar}
 use Rattle.agg_model.specs.declared.row.Scalar.TheVariants as scalar
 use Rattle.agg_model.specs.declared.row.FieldValues.{FieldValues}
-use Rattle.shard_columns.specs.declared.values.Stored.{Stored}
-use Rattle.shard_columns.specs.declared.values.Stored.TheVariants as stored
+use Rattle.shard_columns.specs.declared.values.Typed.{Typed}
+use Rattle.shard_columns.specs.declared.values.Typed.TheVariants as typed
 use Rattle.shard_columns.specs.declared.values.Span.{Span}
 use Rattle.shard_columns.specs.declared.values.Held.{Held}
-use Rattle.shard_columns.specs.declared.values.Values.{Values}
+use Rattle.shard_columns.specs.declared.values.Draft.{Draft}
+use Rattle.shard_columns.specs.declared.columns.Spans.{Spans}
+use Rattle.shard_columns.specs.declared.columns.Spans.TheVariants as spans
+use Rattle.shard_columns.specs.declared.columns.Column.{Column}
 
 -- the words of a field, ascending
 abbrev pub Words : Type 0
 Words = List (List ℕ)
 
 -- a place behind the words, which no value has, stands for 0
-abbrev pub shown : Words → Stored → Scalar
-shown words (stored.Whole n) = scalar.Whole n
-shown words (stored.Word place) = option_map_or scalar.Word (slice_get words place) (scalar.Whole (pos 0))
-shown words (stored.Flag b) = scalar.Flag b
+abbrev pub shown : Words → ℕ → Scalar
+shown words place = option_map_or scalar.Word (slice_get words place) (scalar.Whole (pos 0))
 
-abbrev pub cut : {X : Type 0} → List X → Span → List X
-cut xs span = slice_range xs span.start span.end
-
--- how the stored values of a field are read
+-- how the numbers or places of the words of a field are read
 abbrev pub Reader : Type 0
-Reader = ℕ → Stored → Scalar
+Reader = ℕ → ℕ → Scalar
 
 -- a word is read by its place among the words of its field
 abbrev pub by_words : List Words → Reader
 by_words words field = shown (slice_index_or words field [])
 
--- the values of one field of one row
-abbrev pub field_by : Reader → List Stored → Held → FieldValues
-field_by show stored h = record { field = h.field; values = map (show h.field) (cut stored h.span) }
+abbrev pub cut : {X : Type 0} → List X → Span → List X
+cut xs span = slice_range xs span.start span.end
 
-abbrev pub fields_by : Reader → Values → List FieldValues
-fields_by show v = map (field_by show v.stored.items) v.fields.items
+abbrev pub scalars : (ℕ → Scalar) → Typed → List Scalar
+scalars show (typed.Wholes ns) = map scalar.Whole ns.items
+scalars show (typed.Words ps) = map show ps.items
+scalars show (typed.Flags bs) = map scalar.Flag bs.items
 
--- the fields of each row
-abbrev pub rows_by : Reader → Values → List (List FieldValues)
-rows_by show v = map (cut (fields_by show v)) v.rows.items
+abbrev pub typed_len : Typed → ℕ
+typed_len (typed.Wholes ns) = length ns.items
+typed_len (typed.Words ps) = length ps.items
+typed_len (typed.Flags bs) = length bs.items
 
--- the same, where `words` has the words of each field
-abbrev pub field_at : List Words → List Stored → Held → FieldValues
-field_at words = field_by (by_words words)
+-- values of a kind are of this type
+abbrev pub is_typed : FieldKind → Typed → Bool
+is_typed Keyword (typed.Words ps) = true
+is_typed Keyword _ = false
+is_typed Boolean (typed.Flags bs) = true
+is_typed Boolean _ = false
+is_typed _ (typed.Wholes ns) = true
+is_typed _ _ = false
 
-abbrev pub fields_of : List Words → Values → List FieldValues
-fields_of words = fields_by (by_words words)
+-- a value is of this type
+abbrev pub is_taken : Typed → Scalar → Bool
+is_taken (typed.Wholes ns) (scalar.Whole n) = true
+is_taken (typed.Words ps) (scalar.Word w) = true
+is_taken (typed.Flags bs) (scalar.Flag b) = true
+is_taken _ _ = false
 
-abbrev pub row_values : List Words → Values → List (List FieldValues)
-row_values words = rows_by (by_words words)
+abbrev pub no_span : Span
+no_span = record { start = 0; end = 0 }
+
+-- where the values of a row are
+abbrev pub span_in : List Held → ℕ → Span
+span_in held row = option_map_or (λ h. h.span) (find (λ h. h.row == row) held) no_span
+
+abbrev pub span_of : Spans → ℕ → Span
+span_of (spans.OfEach each) row = slice_index_or each.items row no_span
+span_of (spans.OfSome held) row = span_in held.items row
+
+-- the values of a row
+abbrev pub draft_values : (ℕ → Scalar) → Draft → ℕ → List Scalar
+draft_values show d row = cut (scalars show d.typed) (span_in d.held.items row)
+
+abbrev pub column_values : (ℕ → Scalar) → Column → ℕ → List Scalar
+column_values show c row = cut (scalars show c.typed) (span_of c.spans row)
+
+-- the values of a field in a row
+abbrev pub drafted : Reader → List Draft → ℕ → ℕ → List Scalar
+drafted show drafts field row = option_map_or (λ d. draft_values (show field) d row) (slice_get drafts field) []
+
+abbrev pub held_values : Reader → List Column → ℕ → ℕ → List Scalar
+held_values show columns field row = option_map_or (λ c. column_values (show field) c row) (slice_get columns field) []
+
+-- a field that a row has
+abbrev pub present : ℕ → List Scalar → List FieldValues
+present field [] = []
+present field (v ∷ vs) = record { field = field; values = v ∷ vs } ∷ []
+
+-- of so many fields from this one on, those that a row has
+unfoldable pub present_from : (ℕ → List Scalar) → ℕ → ℕ → List FieldValues
+present_from read field zero = []
+present_from read field (suc n) = present field (read field) ++ present_from read (field + 1) n
+
+-- the values of each of so many rows
+abbrev pub row_values : Reader → List Column → ℕ → List (List FieldValues)
+row_values show columns rows = map (λ n. present_from (λ f. held_values show columns f n) 0 (length columns)) (range_with_len 0 rows)
+
+-- what a row's fields have
+abbrev pub found_values : ℕ → List FieldValues → List Scalar
+found_values field fields = option_map_or (λ v. v.values) (find (λ v. v.field == field) fields) []
 
 abbrev pub word_in : Scalar → Words
 word_in (scalar.Whole n) = []
@@ -80,42 +132,30 @@ FieldsBelow n (f ∷ fs) = (f.field < n) × FieldsBelow n fs
 abbrev pub IsPart : ℕ → Span → Type 0
 IsPart n span = (span.start ≤ span.end) × (span.end ≤ n)
 
--- the values of each field lie within the flat array of this length
+-- the values of each row lie within the flat array of this length
 unfoldable pub WithinReach : ℕ → List Held → Type 0
 WithinReach n [] = Unit {0}
 WithinReach n (h ∷ hs) = IsPart n h.span × WithinReach n hs
 
-unfoldable pub SpansWithin : ℕ → List Span → Type 0
-SpansWithin n [] = Unit {0}
-SpansWithin n (s ∷ ss) = IsPart n s × SpansWithin n ss
-
-pub record IsWithin (v : Values) : Type 0 where
-  pub fields : WithinReach (length v.stored.items) v.fields.items
-  pub rows : SpansWithin (length v.fields.items) v.rows.items
-
--- what is stored behind that of before is read as these values
-pub record AddsValues (show : Stored → Scalar) (old new : List Stored) (values : List Scalar) : Type 0 where
-  pub added : List Stored
-  pub new_is : new ≡ old ++ added
-  pub shown_is : map show added ≡ values
+-- rows ascend below a number, and their values lie within the array
+pub record IsShaped (rows : ℕ) (d : Draft) : Type 0 where
+  pub rising : IsStrictlyIncreasing (map (λ h. h.row) d.held.items)
+  pub below : (k : ℕ) (h : Held) → k < length d.held.items → (slice_index_or d.held.items k h).row < rows
+  pub within : WithinReach (typed_len d.typed) d.held.items
 
 -- how many values these fields have, all together
 abbrev pub total_count : List FieldValues → ℕ
 total_count fields = sum_by (λ f. length f.values) fields
 
+abbrev pub limited : ℕ → ℕ
+limited n = if nat_le n 4294967295 then n else 0
+
 -- the place of a word in its dictionary, in the place of its number
-abbrev pub ranked : List ℕ → Stored → Stored
-ranked ranks (stored.Whole n) = stored.Whole n
-ranked ranks (stored.Word number) = stored.Word (slice_index_or ranks number 0)
-ranked ranks (stored.Flag b) = stored.Flag b
+abbrev pub ranked : List ℕ → ℕ → ℕ
+ranked ranks number = option_map_or limited (slice_get ranks number) 0
 
-abbrev pub no_span : Span
-no_span = record { start = 0; end = 0 }
-
--- where the values of a field in a row are
-abbrev pub held_in : Values → ℕ → ℕ → Option Held
-held_in v row field = find (λ h. h.field == field) (cut v.fields.items (slice_index_or v.rows.items row no_span))
-
--- the fields that a row has values of, ascending
-abbrev pub FieldsAscend : Values → ℕ → Type 0
-FieldsAscend v row = IsStrictlyIncreasing (map (λ h. h.field) (cut v.fields.items (slice_index_or v.rows.items row no_span)))
+-- the same values, with the words' places for their numbers
+pub record AreRankedAll (ranks : List ℕ) (old new : Typed) : Type 0 where
+  pub size : typed_len new ≡ typed_len old
+  pub kind : (k : FieldKind) → is_typed k new ≡ is_typed k old
+  pub same : (show : ℕ → Scalar) → scalars show new ≡ scalars (λ p. show (ranked ranks p)) old

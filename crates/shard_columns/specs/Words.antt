@@ -1,5 +1,5 @@
 -- The words that are met in rows: each word of a field has a number of its own, and later its place in a dictionary.
-use Rattle.std.specs.Prelude.{◌≡◌, ◌≢◌, ◌⊎◌, ◌∷◌, ℕ, ℤ, Bool, ◌<◌, ◌==◌, if◌then◌else◌, List, [], length, slice_index_or, slice_get, flat_map, map, Option, None, Some, IsSome, Contains}
+use Rattle.std.specs.Prelude.{◌≡◌, ◌≢◌, ◌⊎◌, ◌∷◌, ℕ, ◌<◌, ◌==◌, if◌then◌else◌, List, [], length, slice_index_or, slice_get, flat_map, map, Option, None, Some, IsSome, Contains}
 use Rattle.std.specs.Borrow.{Bor}
 use Rattle.std.specs.Map.{lookup}
 use Rattle.std.specs.BTreeMap.{is_at}
@@ -8,7 +8,6 @@ use Rattle.std.specs.Cmp.Lexicographic.{slice_cmp}
 use Rattle.std.specs.List.Sorted.{IsStrictlySortedBy}
 use Rattle.agg_model.specs.declared.row.Scalar.TheVariants as scalar
 use Rattle.shard_columns.specs.declared.layout.Laid.{Laid}
-use Rattle.shard_columns.specs.declared.values.Stored.TheVariants as stored
 use Rattle.shard_columns.specs.declared.words.WordNumbers.{WordNumbers}
 use Rattle.shard_columns.specs.Values.{Words, Reader, words_for, AllAmong, FieldsBelow}
 
@@ -49,11 +48,9 @@ pub record Notes (old new : WordNumbers) (words : ℕ → Words) : Type 0 where
   pub known : (f : ℕ) (w : List ℕ) → Contains (words f) w → IsSome (number_of new f w)
   pub nothing_else : (f : ℕ) (w : List ℕ) → IsSome (number_of new f w) → IsSome (number_of old f w) ⊎ Contains (words f) w
 
--- values are read so that each number stands for its word
+-- each number is read as its word
 pub record Shows (numbers : WordNumbers) (show : Reader) : Type 0 where
-  pub whole : (f : ℕ) (n : ℤ) → show f (stored.Whole n) ≡ scalar.Whole n
-  pub word : (f n : ℕ) (w : List ℕ) → number_of numbers f w ≡ Some n → show f (stored.Word n) ≡ scalar.Word w
-  pub flag : (f : ℕ) (b : Bool) → show f (stored.Flag b) ≡ scalar.Flag b
+  pub word : (f n : ℕ) (w : List ℕ) → number_of numbers f w ≡ Some n → show f n ≡ scalar.Word w
 
 -- the numbers of these words are apart, and below a limit
 pub record AreApart (limit : ℕ) (entries : Entries) : Type 0 where

@@ -1,5 +1,5 @@
 // The numbers of the rows of each context.
-ghost use Rattle.std.specs.Prelude.{◌≡◌, IfOk, [], slice_index_or};
+ghost use Rattle.std.specs.Prelude.{◌≡◌, ◌<◌, ◌^◌, IfOk, [], length, slice_index_or};
 ghost use Rattle.shard_columns.specs.Layout.{context_of};
 ghost use Rattle.shard_columns.specs.Contexts.{ContextsBelow, AreNumbered};
 
@@ -17,7 +17,7 @@ pub fn context(row: &Entry) -> usize
     }
 }
 
-fn no_numbers(alloc: Global, count: usize) -> Result<Vec<List<usize>>, AllocError>
+fn no_numbers(alloc: Global, count: usize) -> Result<Vec<List<u32>>, AllocError>
     ensures { IfOk result (λ numbers. AreNumbered count [] numbers.items) }
 {
     let mut numbers = Vec::new(alloc);
@@ -32,19 +32,20 @@ pub fn numbers_by_context(
     alloc: Global,
     count: usize,
     rows: &[Entry],
-) -> Result<Vec<List<usize>>, AllocError>
-    requires { ContextsBelow count rows.now }
+) -> Result<Vec<List<u32>>, AllocError>
+    requires contexts { ContextsBelow count rows.now }
+    requires few { length rows.now < 2 ^ 32 }
     ensures { IfOk result (λ numbers. AreNumbered count rows.now numbers.items) }
 {
     let mut numbers = no_numbers(alloc, count)?;
     for (number, row) in rows.iter().enumerate() {
-        numbers[context(row)].push(number)?;
+        numbers[context(row)].push(number as u32)?;
     }
     Ok(numbers)
 }
 
 /// The numbers of the rows of a context.
-pub fn numbers_of(numbers: &[List<usize>], context: usize) -> &[usize]
+pub fn numbers_of(numbers: &[List<u32>], context: usize) -> &[u32]
     ensures { result.now ≡ slice_index_or numbers.now context [] }
 {
     if context < numbers.len() {

@@ -2,6 +2,7 @@
 //! A `Shard` never changes once it is built, and lends its values.
 #![tactic(auto)]
 
+mod columns;
 mod contexts;
 mod index;
 mod layout;

@@ -1,37 +1,48 @@
 // Binary searches in ascending lists.
-ghost use Rattle.std.specs.Prelude.{◌≡◌, ◌≤◌, ◌&&◌, length, filter, nat_le, nat_lt, IfSome, IfNone, slice_get, Some, find, ◌==◌, Contains, map};
+ghost use Rattle.std.specs.Prelude.{◌≡◌, slice_range, ◌≤◌, ◌&&◌, length, filter, nat_le, nat_lt, IfSome, IfNone, slice_get, Some, find, ◌==◌, Contains, map};
 ghost use Rattle.std.specs.List.Sorted.{IsStrictlyIncreasing, IsStrictlySortedBy};
 ghost use Rattle.std.specs.Ordering.{nat_cmp};
 ghost use Rattle.std.specs.Cmp.Lexicographic.{slice_cmp};
-ghost use Rattle.shard_columns.specs.Values.{cut, IsPart};
 
-use crate::values::{Held, Span};
+use crate::values::Held;
 use agg_model::Text;
 
-/// The part of ascending numbers that are at least `from` and below `to`.
-pub fn span_between(numbers: &[usize], from: usize, to: usize) -> Span
-    requires ascend { IsStrictlyIncreasing numbers.now }
-    requires in_order { from ≤ to }
-    ensures within { IsPart (length numbers.now) result }
-    ensures between { cut numbers.now result ≡ filter (λ n. nat_le from n && nat_lt n to) numbers.now }
-{
-    let start = numbers.partition_point(|number| *number < from);
-    let end = numbers.partition_point(|number| *number < to);
-    Span { start, end }
+/// A part of a list, from `start` to before `end`.
+#[derive(Clone, Copy)]
+struct Part {
+    start: usize,
+    end: usize,
 }
 
-/// The entry of a field among those of a row, whose fields ascend.
-pub fn find_field(fields: &[Held], field: u32) -> Option<Held>
-    requires { IsStrictlyIncreasing (map (λ h. h.field) fields.now) }
-    ensures { result ≡ find (λ h. h.field == field) fields.now }
+fn part_between(numbers: &[u32], from: usize, to: usize) -> Part
+    requires ascend { IsStrictlyIncreasing numbers.now }
+    requires in_order { from ≤ to }
+    ensures within { (result.start ≤ result.end) × (result.end ≤ length numbers.now) }
+    ensures between { slice_range numbers.now result.start result.end ≡ filter (λ n. nat_le from n && nat_lt n to) numbers.now }
 {
-    let place = fields.partition_point(|held| held.field < field);
-    let held = *fields.get(place)?;
-    if held.field == field {
-        Some(held)
-    } else {
-        None
-    }
+    let start = numbers.partition_point(|number| (*number as usize) < from);
+    let end = numbers.partition_point(|number| (*number as usize) < to);
+    Part { start, end }
+}
+
+/// The part of ascending numbers that are at least `from` and below `to`.
+pub fn numbers_between(numbers: &[u32], from: usize, to: usize) -> &[u32]
+    requires ascend { IsStrictlyIncreasing numbers.now }
+    requires in_order { from ≤ to }
+    ensures { result.now ≡ filter (λ n. nat_le from n && nat_lt n to) numbers.now }
+{
+    let part = part_between(numbers, from, to);
+    &numbers[part.start..part.end]
+}
+
+/// The entry of a row among entries that ascend by row.
+pub fn find_held(held: &[Held], row: u32) -> Option<Held>
+    requires { IsStrictlyIncreasing (map (λ h. h.row) held.now) }
+    ensures { result ≡ find (λ h. h.row == row) held.now }
+{
+    let place = held.partition_point(|one| one.row < row);
+    let one = *held.get(place)?;
+    if one.row == row { Some(one) } else { None }
 }
 
 /// The place of a word among these, which are distinct and ascend by their bytes.

@@ -1,7 +1,10 @@
 ghost use Rattle.std.specs.Prelude.{◌≡◌, ◌↔◌, ◌<◌, ◌+◌, ◌≤◌, ◌^◌, ℕ, IsTrue, slice_index, IfOk, OnOk, IfSome, IfNone, IsNone, flat_map, length, map, sum_by, [], Some, slice_get, slice_index_or};
-ghost use Rattle.shard_columns.specs.Values.{Reader, shown, rows_by, row_values, IsWithin, total_count};
-ghost use Rattle.shard_columns.specs.Words.{AllFieldsBelow, AreDictionaries, IsNumbered, Notes, Shows, row_words};
+ghost use Rattle.shard_columns.specs.Values.{shown, words_in, total_count};
+ghost use Rattle.shard_columns.specs.Words.{AreDictionaries, IsNumbered, Notes, row_words};
+ghost use Rattle.shard_columns.specs.Stored.{AreStorable, AreDrafts, AreStored, AreColumns};
+ghost use Rattle.shard_columns.specs.Lent.{wholes_in, flags_in, word_at, holds_numbers};
 ghost use Rattle.shard_columns.specs.Layout.{ids_of, values_of_laid, entries_of_laid};
+ghost use Rattle.agg_model.specs.declared.row.Scalar.TheVariants.{Whole, Word, Flag};
 ghost use Rattle.agg_model.specs.declared.limits.TheConstants.{MAX_PATHS, WEIGHT_LIMIT};
 ghost use Rattle.agg_model.specs.Contexts.{parents_before};
 ghost use Rattle.agg_evaluation.specs.DocumentFits.{all_fit};
@@ -11,13 +14,14 @@ ghost use Rattle.shard_columns.specs.Dictionary.{words_of, as_values, NoRowHas, 
 ghost use Rattle.agg_evaluation.specs.ColumnBytes.{shard_bytes};
 ghost use Rattle.shard_columns.specs.Kinds.{AreOfKind};
 ghost use Rattle.shard_columns.specs.Beneath.{IsDirectlyBeneath, IsEnclosedBy};
-ghost use Rattle.agg_model.specs.declared.mapping.FieldKind.TheVariants.{Keyword};
+ghost use Rattle.agg_model.specs.declared.mapping.FieldKind.TheVariants.{Keyword, Boolean};
 ghost use Rattle.shard_columns.specs.Cell.{scalar_of};
 
+use crate::columns::{Column, column_at, columns, flags_at, ordinals_at, span_at, wholes_at};
 use crate::contexts::{context, numbers_by_context, numbers_of};
 use crate::layout::{Entry, Laid, Layout, Origin, lay};
-use crate::search::{find_word, span_between};
-use crate::values::{Stored, Values, held_at, push_row, rank_all};
+use crate::search::{find_word, numbers_between};
+use crate::values::{Drafts, Typed};
 use crate::words::{WordNumbers, all_bytes, dictionaries, longest_of};
 use agg_model::{Copying, Document, Field, FieldKind, List, Mapping, NestedPath, Text};
 use std::alloc::{AllocError, Global};
@@ -34,9 +38,10 @@ pub struct Shard {
     ids: Vec<Text>,
     rows: Vec<Entry>,
     ends: Vec<usize>,
-    numbers: Vec<List<usize>>,
+    numbers: Vec<List<u32>>,
     words: Vec<List<Text>>,
-    values: Values,
+    columns: Vec<Column>,
+    values: usize,
 }
 
 impl Model for Shard {
@@ -54,53 +59,53 @@ impl Model for Shard {
 // The values of all rows, where words are numbers.
 fn number<'a>(
     alloc: Global,
+    kinds: &[FieldKind],
     numbers: &mut WordNumbers<'a>,
     rows: &[Laid<'a>],
-) -> Result<Values, AllocError>
-    requires below { AllFieldsBelow (length numbers.old.by_field.items) rows.now }
+) -> Result<Drafts, AllocError>
+    requires sizes { length kinds.now ≡ length numbers.old.by_field.items }
     requires sound { IsNumbered numbers.old }
+    requires empty { length numbers.old.ranks.items ≡ 0 }
+    requires stored { AreStorable kinds.now rows.now }
     ensures notes { OnOk result (Notes numbers.old numbers.new (λ f. flat_map (row_words f) rows.now)) }
-    ensures rows { IfOk result (λ v. (show : Reader) → Shows numbers.new show → rows_by show v ≡ values_of_laid rows.now) }
-    ensures within { IfOk result (λ v. IsWithin v) }
-    ensures counted { IfOk result (λ v. length v.stored.items ≡ sum_by total_count (values_of_laid rows.now)) }
+    ensures drafts { IfOk result (λ d. AreDrafts kinds.now numbers.new rows.now d) }
 {
-    let mut values = Values {
-        rows: Vec::new(alloc),
-        fields: Vec::new(alloc),
-        stored: Vec::new(alloc),
-    };
-    for row in rows {
-        push_row(&mut values, numbers, row.values)?;
+    let mut drafts = Drafts::new(alloc, kinds)?;
+    for (number, row) in rows.iter().enumerate() {
+        drafts.push_row(numbers, number as u32, row.values)?;
     }
-    Ok(values)
+    Ok(drafts)
 }
 
-// The dictionaries of so many fields, and the values of all rows, whose words are in them. Each word is looked up once.
-fn store(
-    alloc: Global,
-    fields: usize,
-    rows: &[Laid],
-) -> Result<(Vec<List<Text>>, Values), AllocError>
-    requires { AllFieldsBelow fields rows.now }
-    ensures words { IfOk result (λ s. AreDictionaries fields rows.now s.0.items) }
-    ensures rows { IfOk result (λ s. row_values s.0.items s.1 ≡ values_of_laid rows.now) }
-    ensures within { IfOk result (λ s. IsWithin s.1) }
-    ensures counted { IfOk result (λ s. length s.1.stored.items ≡ sum_by total_count (values_of_laid rows.now)) }
+/// The values of all rows as columns, with the words of each field, and how many values they are.
+#[derive(Drop)]
+struct Stored {
+    words: Vec<List<Text>>,
+    columns: Vec<Column>,
+    count: usize,
+}
+
+// The dictionaries and columns of fields of these kinds. Each word is looked up once.
+fn store(alloc: Global, kinds: &[FieldKind], rows: &[Laid]) -> Result<Stored, AllocError>
+    requires { AreStorable kinds.now rows.now }
+    ensures words { IfOk result (λ s. AreDictionaries (length kinds.now) rows.now s.words.items) }
+    ensures rows { IfOk result (λ s. AreStored rows.now s.words.items s.columns.items) }
+    ensures columns { IfOk result (λ s. AreColumns kinds.now s.columns.items) }
+    ensures counted { IfOk result (λ s. s.count ≡ sum_by total_count (values_of_laid rows.now)) }
 {
-    let mut numbers = WordNumbers::new(alloc, fields)?;
-    let Values {
-        rows,
-        fields,
-        mut stored,
-    } = number(alloc, &mut numbers, rows)?;
+    let mut numbers = WordNumbers::new(alloc, kinds.len())?;
+    let drafts = number(alloc, kinds, &mut numbers, rows)?;
     let (words, ranks) = dictionaries(alloc, numbers)?;
-    rank_all(&mut stored, ranks.as_slice());
-    let values = Values {
-        rows,
-        fields,
-        stored,
-    };
-    Ok((words, values))
+    let Drafts {
+        columns: drafts,
+        count,
+    } = drafts;
+    let columns = columns(alloc, drafts, ranks.as_slice(), rows.len())?;
+    Ok(Stored {
+        words,
+        columns,
+        count,
+    })
 }
 
 fn copied_ids(alloc: Global, documents: &List<Document>) -> Result<Vec<Text>, AllocError>
@@ -142,16 +147,12 @@ fn words_at(words: &[List<Text>], field: u32) -> &[Text]
 }
 
 // A place behind the words, which no value has, stands for 0.
-fn cell_of(words: &[Text], stored: Stored) -> Cell<'_>
-    ensures { scalar_of result ≡ shown words.now stored }
+fn word_cell(words: &[Text], place: u32) -> Cell<'_>
+    ensures { scalar_of result ≡ shown words.now place }
 {
-    match stored {
-        Stored::Whole(n) => Cell::Whole(n),
-        Stored::Word(place) => match words.get(place) {
-            Some(word) => Cell::Word(word.as_str().as_bytes()),
-            None => Cell::Whole(0),
-        },
-        Stored::Flag(b) => Cell::Flag(b),
+    match words.get(place as usize) {
+        Some(word) => Cell::Word(word.as_str().as_bytes()),
+        None => Cell::Whole(0),
     }
 }
 
@@ -194,12 +195,18 @@ impl Shard {
         let layout = lay(alloc, documents)?;
         let fields = mapping.fields.as_slice();
         let laid = layout.rows.as_slice();
-        let (words, values) = store(alloc, fields.len(), laid)?;
+        let kinds = kinds(alloc, fields)?;
+        let kind_list = kinds.as_slice();
+        let stored = store(alloc, kind_list, laid)?;
         let rows = entries(alloc, laid)?;
         let nested = mapping.nested.as_slice();
         let numbers = numbers_by_context(alloc, nested.len() + 1, rows.as_slice())?;
         let Layout { rows: _, ends } = layout;
-        let kinds = kinds(alloc, fields)?;
+        let Stored {
+            words,
+            columns,
+            count: values,
+        } = stored;
         let contexts = contexts(alloc, fields)?;
         let parents = parents(alloc, nested)?;
         let ids = copied_ids(alloc, documents)?;
@@ -212,6 +219,7 @@ impl Shard {
             ends,
             numbers,
             words,
+            columns,
             values,
         })
     }
@@ -237,7 +245,7 @@ impl Shard {
         ensures number { result < length self.now.rows }
         ensures row { slice_get (roots self.now.rows) place ≡ Some (row_of self.now.rows result) }
     {
-        numbers_of(self.numbers.as_slice(), 0)[place as usize] as u32
+        numbers_of(self.numbers.as_slice(), 0)[place as usize]
     }
 
     /// The context of a row: 0 at a root, i + 1 at the i-th nested path.
@@ -271,16 +279,15 @@ impl Shard {
         }
     }
 
-    // The numbers of the rows at a nested path within a row, ascending.
-    fn children(&self, row: u32, path: u32) -> &[usize]
+    /// The rows at a nested path within a row, on all levels, ascending; a row at that path counts within itself.
+    pub fn children(&self, row: u32, path: u32) -> &[u32]
         requires { row < length self.now.rows }
         ensures rows { map (row_of self.now.rows) result.now ≡ beneath self.now.rows (path + 1) (row_of self.now.rows row) }
         ensures numbers { (k : ℕ) → k < length result.now → slice_index result.now k < length self.now.rows }
         ensures few { length self.now.rows < 2 ^ 32 }
     {
         let numbers = numbers_of(self.numbers.as_slice(), path as usize + 1);
-        let span = span_between(numbers, row as usize, self.ends[row as usize]);
-        &numbers[span.start..span.end]
+        numbers_between(numbers, row as usize, self.ends[row as usize])
     }
 
     /// The number of rows at a nested path within a row, on all levels; a row at that path counts within itself.
@@ -298,7 +305,7 @@ impl Shard {
         ensures number { result < length self.now.rows }
         ensures row { slice_get (beneath self.now.rows (path + 1) (row_of self.now.rows row)) place ≡ Some (row_of self.now.rows result) }
     {
-        self.children(row, path)[place as usize] as u32
+        self.children(row, path)[place as usize]
     }
 
     /// The id of a row's document, in UTF-8.
@@ -314,9 +321,51 @@ impl Shard {
         requires { row < length self.now.rows }
         ensures { result ≡ length (values_of field (row_of self.now.rows row)) }
     {
-        match held_at(&self.values, row as usize, field) {
-            Some(held) => (held.span.end - held.span.start) as u32,
+        match column_at(self.columns.as_slice(), field) {
+            Some(column) => {
+                let span = span_at(column, row);
+                span.end - span.start
+            }
             None => 0,
+        }
+    }
+
+    /// The whole numbers that a row has of a field, ascending, lent; none where the field is of another kind.
+    pub fn numbers(&self, row: u32, field: u32) -> &[i64]
+        requires { row < length self.now.rows }
+        ensures exact { result.now ≡ wholes_in (values_of field (row_of self.now.rows row)) }
+        ensures values { IsTrue (holds_numbers self.now.kinds field) → map Whole result.now ≡ values_of field (row_of self.now.rows row) }
+    {
+        match column_at(self.columns.as_slice(), field) {
+            Some(column) => wholes_at(column, row),
+            None => &[],
+        }
+    }
+
+    /// The places in the field's dictionary of the words that a row has of a field, ascending, lent; none where the field is
+    /// of another kind.
+    pub fn ordinals(&self, row: u32, field: u32) -> &[u32]
+        requires { row < length self.now.rows }
+        ensures exact { map (word_at (words_of field self.now.rows)) result.now ≡ words_in (values_of field (row_of self.now.rows row)) }
+        ensures values { slice_get self.now.kinds field ≡ Some Keyword →
+            map (λ o. Word (word_at (words_of field self.now.rows) o)) result.now ≡ values_of field (row_of self.now.rows row) }
+        ensures known { (k : ℕ) → k < length result.now → slice_index result.now k < length (words_of field self.now.rows) }
+    {
+        match column_at(self.columns.as_slice(), field) {
+            Some(column) => ordinals_at(column, row),
+            None => &[],
+        }
+    }
+
+    /// The flags that a row has of a field, ascending, lent; none where the field is of another kind.
+    pub fn flags(&self, row: u32, field: u32) -> &[bool]
+        requires { row < length self.now.rows }
+        ensures exact { result.now ≡ flags_in (values_of field (row_of self.now.rows row)) }
+        ensures values { slice_get self.now.kinds field ≡ Some Boolean → map Flag result.now ≡ values_of field (row_of self.now.rows row) }
+    {
+        match column_at(self.columns.as_slice(), field) {
+            Some(column) => flags_at(column, row),
+            None => &[],
         }
     }
 
@@ -326,10 +375,17 @@ impl Shard {
         requires there { place < length (values_of field (row_of self.now.rows row)) }
         ensures { slice_get (values_of field (row_of self.now.rows row)) place ≡ Some (scalar_of result) }
     {
-        match held_at(&self.values, row as usize, field) {
-            Some(held) => {
-                let words = words_at(self.words.as_slice(), held.field);
-                cell_of(words, self.values.stored[held.span.start + place as usize])
+        match column_at(self.columns.as_slice(), field) {
+            Some(column) => {
+                let span = span_at(column, row);
+                let place = span.start as usize + place as usize;
+                match &column.typed {
+                    Typed::Wholes(numbers) => Cell::Whole(numbers[place]),
+                    Typed::Words(places) => {
+                        word_cell(words_at(self.words.as_slice(), field), places[place])
+                    }
+                    Typed::Flags(flags) => Cell::Flag(flags[place]),
+                }
             }
             None => unreachable!(),
         }
@@ -350,6 +406,14 @@ impl Shard {
         text_at(words_at(self.words.as_slice(), field), ordinal as usize)
     }
 
+    /// The same word, as a text.
+    pub fn text(&self, field: u32, ordinal: u32) -> &str
+        requires { ordinal < length (words_of field self.now.rows) }
+        ensures { slice_get (words_of field self.now.rows) ordinal ≡ Some result.now }
+    {
+        words_at(self.words.as_slice(), field)[ordinal as usize].as_str()
+    }
+
     /// The place of a word in a field's dictionary, by binary search; none where no row has the word.
     pub fn find_word(&self, field: u32, word: &[u8]) -> Option<u32>
         ensures found { IfSome result (λ o. slice_get (words_of field self.now.rows) o ≡ Some word.now) }
@@ -368,14 +432,7 @@ impl Shard {
         requires there { place < length (values_of field (row_of self.now.rows row)) }
         ensures { slice_get (as_values (words_of field self.now.rows)) result ≡ slice_get (values_of field (row_of self.now.rows row)) place }
     {
-        match held_at(&self.values, row as usize, field) {
-            Some(held) => match self.values.stored[held.span.start + place as usize] {
-                Stored::Word(ordinal) => ordinal as u32,
-                Stored::Whole(_) => unreachable!(),
-                Stored::Flag(_) => unreachable!(),
-            },
-            None => unreachable!(),
-        }
+        self.ordinals(row, field)[place as usize]
     }
 
     /// The length of the longest word of a field in bytes, 0 where it has none.
@@ -390,7 +447,7 @@ impl Shard {
     pub fn column_bytes(&self) -> u64
         ensures { result ≡ shard_bytes (length self.now.kinds) self.now.rows }
     {
-        8 * self.values.stored.len() as u64 + all_bytes(self.words.as_slice())
+        8 * self.values as u64 + all_bytes(self.words.as_slice())
     }
 }
 

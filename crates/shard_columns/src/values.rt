@@ -1,177 +1,235 @@
-// The values of all rows in flat arrays: a row has a span of fields, and a field of a row has a span of values.
-ghost use Rattle.std.specs.Prelude.{◌≡◌, ◌∷◌, ◌<◌, [], OnOk, IfOk, length, map, find, ◌==◌, IfSome};
-ghost use Rattle.shard_columns.specs.Values.{Reader, word_in, words_in, words_for, FieldsBelow, WithinReach, IsWithin, IsPart, FieldsAscend, cut, held_in, ranked};
+// The values of all rows while they are put behind one another: each field has arrays of its own, of its type.
+ghost use Rattle.std.specs.Prelude.{◌≡◌, ◌++◌, ◌+◌, ◌<◌, ◌≤◌, ◌^◌, true, OnOk, IfOk, length, map};
+ghost use Rattle.std.specs.List.{list_all};
+ghost use Rattle.std.specs.List.Sorted.{IsStrictlyIncreasing};
+ghost use Rattle.agg_model.specs.declared.row.Scalar.TheVariants.{Word};
+ghost use Rattle.shard_columns.specs.Lent.{wholes_in, flags_in};
+ghost use Rattle.shard_columns.specs.Values.{Reader, words_in, words_for, FieldsBelow, total_count, typed_len, is_typed, is_taken, ranked, AreRankedAll};
 ghost use Rattle.shard_columns.specs.Words.{of_field, IsNumbered, Notes, Shows};
-ghost use Rattle.shard_columns.specs.Storing.{Adds, AddsFields, AddsRowValues};
+ghost use Rattle.shard_columns.specs.Storing.{HasKinds, IsEmpty, AddsTyped, AddsHeld, AreTaken, AreBounded, AreShaped, AddsRowValues};
 
-use crate::search::find_field;
 use crate::words::WordNumbers;
-use agg_model::{FieldValues, List, Scalar};
-use std::alloc::AllocError;
+use agg_model::{FieldKind, FieldValues, List, Scalar};
+use std::alloc::{AllocError, Global};
 
-/// A value as it is stored: a word is its place among the words of its field.
-#[derive(Clone, Copy)]
-pub enum Stored {
-    Whole(i64),
-    Word(usize),
-    Flag(bool),
+/// Values of one type. A word is its place among the words of the field.
+#[derive(Drop)]
+pub enum Typed {
+    Wholes(Vec<i64>),
+    Words(Vec<u32>),
+    Flags(Vec<bool>),
 }
 
 /// A part of a flat array, from `start` to before `end`.
 #[derive(Clone, Copy)]
 pub struct Span {
-    pub start: usize,
-    pub end: usize,
+    pub start: u32,
+    pub end: u32,
 }
 
-/// The values that one row has of one field.
+/// Where the values of a row are.
 #[derive(Clone, Copy)]
 pub struct Held {
-    pub field: u32,
+    pub row: u32,
     pub span: Span,
 }
 
-/// The values of all rows.
+/// The values of one field so far. Words have numbers for now.
 #[derive(Drop)]
-pub struct Values {
-    pub rows: Vec<Span>,
-    pub fields: Vec<Held>,
-    pub stored: Vec<Stored>,
+pub struct Draft {
+    pub held: Vec<Held>,
+    pub typed: Typed,
 }
 
-// A value as it is stored; a word is its number for now.
-fn stored_of<'a>(
-    numbers: &mut WordNumbers<'a>,
-    field: u32,
-    value: &'a Scalar,
-) -> Result<Stored, AllocError>
-    requires in_range { field < length numbers.old.by_field.items }
-    requires sound { IsNumbered numbers.old }
-    ensures notes { OnOk result (Notes numbers.old numbers.new (of_field field (word_in value.now))) }
-    ensures shown { IfOk result (λ one. (show : Reader) → Shows numbers.new show → show field one ≡ value.now) }
+/// The values of all fields so far, and how many they are.
+#[derive(Drop)]
+pub struct Drafts {
+    pub columns: Vec<Draft>,
+    pub count: usize,
+}
+
+fn no_values(alloc: Global, kind: FieldKind) -> Typed
+    ensures typed { is_typed kind result ≡ true }
+    ensures none { typed_len result ≡ 0 }
 {
-    match value {
-        Scalar::Whole(n) => Ok(Stored::Whole(*n)),
-        Scalar::Flag(b) => Ok(Stored::Flag(*b)),
-        Scalar::Word(word) => Ok(Stored::Word(numbers.number(field as usize, word.as_str())?)),
+    match kind {
+        FieldKind::Keyword => Typed::Words(Vec::new(alloc)),
+        FieldKind::Boolean => Typed::Flags(Vec::new(alloc)),
+        FieldKind::Long | FieldKind::Integer | FieldKind::Short | FieldKind::Byte => {
+            Typed::Wholes(Vec::new(alloc))
+        }
     }
 }
 
-fn push_values<'a>(
-    stored: &mut Vec<Stored>,
-    numbers: &mut WordNumbers<'a>,
-    field: &'a FieldValues,
-) -> Result<(), AllocError>
-    requires in_range { field.now.field < length numbers.old.by_field.items }
-    requires sound { IsNumbered numbers.old }
-    ensures notes { OnOk result (Notes numbers.old numbers.new (of_field field.now.field (words_in field.now.values))) }
-    ensures adds { OnOk result (Adds numbers.new field.now.field stored.old.items stored.new.items field.now.values) }
+fn count_of(typed: &Typed) -> usize
+    ensures { result ≡ typed_len typed.now }
 {
-    for value in field.values.as_slice() {
-        stored.push(stored_of(numbers, field.field, value)?)?;
+    match typed {
+        Typed::Wholes(numbers) => numbers.len(),
+        Typed::Words(words) => words.len(),
+        Typed::Flags(flags) => flags.len(),
+    }
+}
+
+fn push_wholes(wholes: &mut Vec<i64>, values: &[Scalar]) -> Result<(), AllocError>
+    ensures { OnOk result (wholes.new.items ≡ wholes.old.items ++ wholes_in values.now) }
+{
+    for value in values {
+        if let Scalar::Whole(number) = value {
+            wholes.push(*number)?;
+        }
     }
     Ok(())
 }
 
-fn push_field<'a>(
-    values: &mut Values,
+fn push_flags(flags: &mut Vec<bool>, values: &[Scalar]) -> Result<(), AllocError>
+    ensures { OnOk result (flags.new.items ≡ flags.old.items ++ flags_in values.now) }
+{
+    for value in values {
+        if let Scalar::Flag(flag) = value {
+            flags.push(*flag)?;
+        }
+    }
+    Ok(())
+}
+
+fn push_words<'a>(
+    words: &mut Vec<u32>,
+    numbers: &mut WordNumbers<'a>,
+    field: u32,
+    values: &'a [Scalar],
+) -> Result<(), AllocError>
+    requires in_range { field < length numbers.old.by_field.items }
+    requires sound { IsNumbered numbers.old }
+    requires few { length numbers.old.ranks.items + length values.now < 2 ^ 32 }
+    ensures notes { OnOk result (Notes numbers.old numbers.new (of_field field (words_in values.now))) }
+    ensures few { OnOk result (length numbers.new.ranks.items ≤ length numbers.old.ranks.items + length values.now) }
+    ensures shown { OnOk result ((show : Reader) → Shows numbers.new show →
+        map (show field) words.new.items ≡ map (show field) words.old.items ++ map Word (words_in values.now)) }
+    ensures grown { OnOk result (length words.new.items ≡ length words.old.items + length (words_in values.now)) }
+{
+    for value in values {
+        if let Scalar::Word(word) = value {
+            let number = numbers.number(field as usize, word.as_str())?;
+            words.push(number as u32)?;
+        }
+    }
+    Ok(())
+}
+
+fn push_typed<'a>(
+    typed: &mut Typed,
     numbers: &mut WordNumbers<'a>,
     field: &'a FieldValues,
 ) -> Result<(), AllocError>
     requires in_range { field.now.field < length numbers.old.by_field.items }
     requires sound { IsNumbered numbers.old }
-    requires reach { WithinReach (length values.old.stored.items) values.old.fields.items }
-    ensures notes { OnOk result (Notes numbers.old numbers.new (λ f. words_for f (field.now ∷ []))) }
-    ensures fields { OnOk result (AddsFields numbers.new values.old values.new (field.now ∷ [])) }
-    ensures rows { values.new.rows.items ≡ values.old.rows.items }
+    requires taken { list_all (is_taken typed.old) field.now.values ≡ true }
+    requires few { length numbers.old.ranks.items + length field.now.values < 2 ^ 32 }
+    ensures notes { OnOk result (Notes numbers.old numbers.new (of_field field.now.field (words_in field.now.values))) }
+    ensures few { OnOk result (length numbers.new.ranks.items ≤ length numbers.old.ranks.items + length field.now.values) }
+    ensures adds { OnOk result (AddsTyped numbers.new field.now.field typed.old typed.new field.now.values) }
 {
-    let start = values.stored.len();
-    push_values(&mut values.stored, numbers, field)?;
-    let span = Span {
-        start,
-        end: values.stored.len(),
-    };
-    values.fields.push(Held {
-        field: field.field,
-        span,
+    let values = field.values.as_slice();
+    match typed {
+        Typed::Wholes(wholes) => push_wholes(wholes, values),
+        Typed::Words(words) => push_words(words, numbers, field.field, values),
+        Typed::Flags(flags) => push_flags(flags, values),
+    }
+}
+
+// Puts the values of a row behind those of the rows before it.
+fn push_field<'a>(
+    draft: &mut Draft,
+    numbers: &mut WordNumbers<'a>,
+    row: u32,
+    field: &'a FieldValues,
+) -> Result<(), AllocError>
+    requires in_range { field.now.field < length numbers.old.by_field.items }
+    requires sound { IsNumbered numbers.old }
+    requires taken { list_all (is_taken draft.old.typed) field.now.values ≡ true }
+    requires few_words { length numbers.old.ranks.items + length field.now.values < 2 ^ 32 }
+    requires few_values { typed_len draft.old.typed + length field.now.values < 2 ^ 32 }
+    ensures notes { OnOk result (Notes numbers.old numbers.new (of_field field.now.field (words_in field.now.values))) }
+    ensures few { OnOk result (length numbers.new.ranks.items ≤ length numbers.old.ranks.items + length field.now.values) }
+    ensures adds { OnOk result (AddsHeld numbers.new field.now.field draft.old draft.new row field.now.values) }
+{
+    let start = count_of(&draft.typed) as u32;
+    push_typed(&mut draft.typed, numbers, field)?;
+    let end = count_of(&draft.typed) as u32;
+    draft.held.push(Held {
+        row,
+        span: Span { start, end },
     })?;
     Ok(())
 }
 
-fn push_fields<'a>(
-    values: &mut Values,
-    numbers: &mut WordNumbers<'a>,
-    fields: &'a List<FieldValues>,
-) -> Result<(), AllocError>
-    requires in_range { FieldsBelow (length numbers.old.by_field.items) fields.now }
-    requires sound { IsNumbered numbers.old }
-    requires reach { WithinReach (length values.old.stored.items) values.old.fields.items }
-    ensures notes { OnOk result (Notes numbers.old numbers.new (λ f. words_for f fields.now)) }
-    ensures fields { OnOk result (AddsFields numbers.new values.old values.new fields.now) }
-    ensures rows { values.new.rows.items ≡ values.old.rows.items }
-{
-    for field in fields.as_slice() {
-        push_field(values, numbers, field)?;
+impl Drafts {
+    /// No values yet, of fields of these kinds.
+    pub fn new(alloc: Global, kinds: &[FieldKind]) -> Result<Drafts, AllocError>
+        ensures sizes { IfOk result (λ d. length d.columns.items ≡ length kinds.now) }
+        ensures kinds { IfOk result (λ d. HasKinds kinds.now d) }
+        ensures empty { IfOk result (λ d. IsEmpty d) }
+    {
+        let mut columns = Vec::new(alloc);
+        for kind in kinds {
+            columns.push(Draft {
+                held: Vec::new(alloc),
+                typed: no_values(alloc, *kind),
+            })?;
+        }
+        Ok(Drafts { columns, count: 0 })
     }
-    Ok(())
-}
 
-/// Puts the values of one more row behind those of the rows before it. Words are numbers for now.
-pub fn push_row<'a>(
-    values: &mut Values,
-    numbers: &mut WordNumbers<'a>,
-    fields: &'a List<FieldValues>,
-) -> Result<(), AllocError>
-    requires in_range { FieldsBelow (length numbers.old.by_field.items) fields.now }
-    requires sound { IsNumbered numbers.old }
-    requires within { IsWithin values.old }
-    ensures notes { OnOk result (Notes numbers.old numbers.new (λ f. words_for f fields.now)) }
-    ensures row { OnOk result (AddsRowValues numbers.new values.old values.new fields.now) }
-{
-    let start = values.fields.len();
-    push_fields(values, numbers, fields)?;
-    let span = Span {
-        start,
-        end: values.fields.len(),
-    };
-    values.rows.push(span)?;
-    Ok(())
-}
-
-fn ranked(ranks: &[usize], stored: Stored) -> Stored
-    ensures { result ≡ ranked ranks.now stored }
-{
-    match stored {
-        Stored::Whole(n) => Stored::Whole(n),
-        Stored::Word(number) => Stored::Word(ranks.get(number).copied().unwrap_or(0)),
-        Stored::Flag(b) => Stored::Flag(b),
+    /// Puts the values of a row behind those of the rows before it.
+    pub fn push_row<'a>(
+        &mut self,
+        numbers: &mut WordNumbers<'a>,
+        row: u32,
+        fields: &'a List<FieldValues>,
+    ) -> Result<(), AllocError>
+        requires in_range { FieldsBelow (length self.old.columns.items) fields.now }
+        requires sizes { length self.old.columns.items ≡ length numbers.old.by_field.items }
+        requires sound { IsNumbered numbers.old }
+        requires rise { IsStrictlyIncreasing (map (λ f. f.field) fields.now) }
+        requires taken { AreTaken self.old fields.now }
+        requires few { self.old.count + total_count fields.now < 2 ^ 32 }
+        requires bounded { AreBounded numbers.old self.old }
+        requires shaped { AreShaped row self.old }
+        ensures notes { OnOk result (Notes numbers.old numbers.new (λ f. words_for f fields.now)) }
+        ensures adds { OnOk result (AddsRowValues numbers.new self.old self.new row fields.now) }
+    {
+        for field in fields.as_slice() {
+            push_field(&mut self.columns[field.field as usize], numbers, row, field)?;
+            self.count += field.values.len();
+        }
+        Ok(())
     }
 }
 
-/// Puts in the place of each number the place of its word in its dictionary.
-pub fn rank_all(stored: &mut Vec<Stored>, ranks: &[usize])
-    ensures { stored.new.items ≡ map (ranked ranks.now) stored.old.items }
+// A place past all that a dictionary has stands for 0.
+fn ranked(ranks: &[usize], number: u32) -> u32
+    ensures { result ≡ ranked ranks.now number }
 {
-    for one in stored.iter_mut() {
+    match ranks.get(number as usize) {
+        Some(rank) if *rank <= u32::MAX as usize => *rank as u32,
+        _ => 0,
+    }
+}
+
+fn rank_words(words: &mut Vec<u32>, ranks: &[usize])
+    ensures { words.new.items ≡ map (ranked ranks.now) words.old.items }
+{
+    for one in words.iter_mut() {
         *one = ranked(ranks, *one);
     }
 }
 
-fn part(fields: &[Held], span: Span) -> &[Held]
-    requires { IsPart (length fields.now) span }
-    ensures { result.now ≡ cut fields.now span }
+/// Puts in the place of each word's number its place in its dictionary.
+pub fn rank_all(typed: &mut Typed, ranks: &[usize])
+    ensures { AreRankedAll ranks.now typed.old typed.new }
 {
-    &fields[span.start..span.end]
-}
-
-/// Where the values of a field in a row are, if it has any.
-pub fn held_at(values: &Values, row: usize, field: u32) -> Option<Held>
-    requires in_range { row < length values.now.rows.items }
-    requires within { IsWithin values.now }
-    requires ascend { FieldsAscend values.now row }
-    ensures found { result ≡ held_in values.now row field }
-    ensures part { IfSome result (λ h. IsPart (length values.now.stored.items) h.span) }
-{
-    let span = values.rows[row];
-    find_field(part(values.fields.as_slice(), span), field)
+    if let Typed::Words(words) = typed {
+        rank_words(words, ranks);
+    }
 }

@@ -1,5 +1,5 @@
 // The words of each field of a shard: distinct, and in ascending order.
-ghost use Rattle.std.specs.Prelude.{◌≡◌, ◌∷◌, ◌<◌, ◌≤◌, ◌*◌, ℕ, List as Items, [], Some, OnOk, IfOk, length, map, sum_by, slice_index_or, unwrap_or, if◌then◌else◌};
+ghost use Rattle.std.specs.Prelude.{◌≡◌, ◌∷◌, ◌<◌, ◌≤◌, ◌+◌, ◌*◌, ℕ, List as Items, [], Some, OnOk, IfOk, length, map, sum_by, slice_index_or, unwrap_or, if◌then◌else◌};
 ghost use Rattle.std.specs.Ordering.{nat_cmp};
 ghost use Rattle.std.specs.Cmp.Lexicographic.{slice_cmp};
 ghost use Rattle.std.specs.List.Sorted.{IsStrictlySortedBy};
@@ -37,6 +37,7 @@ impl<'a> WordNumbers<'a> {
     pub fn new(alloc: Global, fields: usize) -> Result<Self, AllocError>
         ensures sizes { IfOk result (λ numbers. length numbers.by_field.items ≡ fields) }
         ensures empty { IfOk result (λ numbers. HasNone numbers) }
+        ensures no_ranks { IfOk result (λ numbers. length numbers.ranks.items ≡ 0) }
         ensures sound { IfOk result (λ numbers. IsNumbered numbers) }
     {
         let mut by_field = Vec::new(alloc);
@@ -55,6 +56,7 @@ impl<'a> WordNumbers<'a> {
         requires sound { IsNumbered self.old }
         ensures notes { OnOk result (Notes self.old self.new (of_field field (word.now ∷ []))) }
         ensures number { IfOk result (λ n. number_of self.new field word.now ≡ Some n) }
+        ensures few { OnOk result (length self.new.ranks.items ≤ length self.old.ranks.items + 1) }
     {
         let next = self.ranks.len();
         let number = number_in(&mut self.by_field[field], word, next)?;

@@ -12,7 +12,7 @@ loop-number-preserved c =
     let n = c.loop-number.number in
     let d : Entry = record { document = 0; origin = Root } in
     let now = c.loop-number.numbers.items in
-    let in_range = subst (λ (k : ℕ). k < c.args.count) (sym c.context.ensures) (c.requires n d c.loop-number-test.true) in
+    let in_range = subst (λ (k : ℕ). k < c.args.count) (sym c.context.ensures) (c.requires.contexts n d c.loop-number-test.true) in
     subst (λ (new : List ℕ). AreNumbered c.args.count (take (n + 1) rows) (set now c.context.result new))
     (sym (c.in_ok-push.ensures.ok ∙ ap (λ (ns : List ℕ). ns ++ n ∷ []) (get_or_read now c.context.result c.index_mut.result.now (omega (arith, in_range, c.loop-number.invariant.sizes)) c.index_mut.ensures.value [])))
     (AreNumbered-more c.args.count rows n c.context.result d now c.loop-number-test.true in_range c.context.ensures c.loop-number.invariant)

@@ -1,37 +1,10 @@
-use Rattle.std.proofs.Common.{◌≡◌, ◌<◌, ◌≤◌, ◌++◌, false, List, map, take, length, get_or, set, ◌∙◌, ap, arith}
-use Rattle.std.proofs.lemmas.List.{append-nil, take_all, drop_all}
-use Rattle.std.proofs.lemmas.List.Edits.{map_over_more}
-use Rattle.shard_columns.specs.declared.values.Stored.{Stored}
-use Rattle.shard_columns.specs.declared.values.Stored.TheVariants as stored
-use Rattle.shard_columns.specs.Values.{ranked}
-use Rattle.shard_columns.proofs.Storing.{get_or-any}
+use Rattle.std.proofs.Common.{sym, subst}
+use Rattle.shard_columns.specs.declared.values.Typed.{Typed}
+use Rattle.shard_columns.specs.declared.values.Typed.TheVariants as typed
+use Rattle.shard_columns.specs.Values.{AreRankedAll}
+use Rattle.shard_columns.proofs.Ranking.{ranked-words}
 use Rattle.shard_columns.proofs.values.rank_all.Goals as goal
 
-pub loop-one-init : goal.loop-one-init
-loop-one-init c = c.deref_mut-one-items.ensures.value
-
-pub loop-one-preserved : goal.loop-one-preserved
-loop-one-preserved c =
-    let xs = c.args.stored.now.items in
-    let ys = c.loop-one.one-items in
-    let i = c.loop-one.one-index in
-    let low : i < length xs = omega (arith, c.loop-one-test.true, ap length c.deref_mut-one-items.ensures.value) in
-    let here : i < length ys = omega (arith, c.loop-one-test.true, c.loop-one.auto.one-items) in
-    let x : Stored = get_or ys i (stored.Flag false) in
-    let same = get_or-any ys i (stored.Flag false) x here in
-    let read = get_or-any ys i _ (stored.Flag false) here in
-    ap (λ (y : Stored). set ys i y) (c.ranked.ensures ∙ ap (ranked c.args.ranks.now) read)
-    ∙ map_over_more (ranked c.args.ranks.now) xs ys i x low c.loop-one.invariant same
-
-pub returns : goal.returns
-returns c =
-    let xs = c.args.stored.now.items in
-    let ys = c.loop-one.one-items in
-    let size : length ys ≡ length xs = c.loop-one.auto.one-items ∙ ap length c.deref_mut-one-items.ensures.value in
-    let end : length xs ≤ c.loop-one.one-index = omega (arith, c.loop-one-test.false, ap length c.deref_mut-one-items.ensures.value) in
-    let fit = c.args.stored.now.ok.0 in
-    let whole : ys ≡ map (ranked c.args.ranks.now) xs =
-    c.loop-one.invariant ∙ (ap (λ (zs : List Stored). map (ranked c.args.ranks.now) (take c.loop-one.one-index xs) ++ zs) (drop_all c.loop-one.one-index xs end)
-    ∙ (append-nil _ ∙ ap (map (ranked c.args.ranks.now)) (take_all c.loop-one.one-index xs end))) in
-    ap (λ (zs : List Stored). take c.args.stored.now.len (ys ++ zs)) (drop_all (length ys) xs (omega (arith, size)))
-    ∙ (ap (take c.args.stored.now.len) (append-nil ys) ∙ (take_all c.args.stored.now.len ys (omega (arith, size, fit)) ∙ whole))
+pub returns-in-Words : goal.returns-in-Words
+returns-in-Words c =
+    subst (λ (t : Typed). AreRankedAll c.args.ranks.now t (typed.Words c.rank_words.new.words)) (sym c.in-Words.is) (ranked-words c.args.ranks.now c.in-Words.words c.rank_words.new.words c.rank_words.ensures)

@@ -1,5 +1,4 @@
 use Rattle.std.proofs.Common.{◌≡◌, ◌<◌, List, length, map, sym, ◌∙◌, ap, subst, arith}
-use Rattle.std.specs.Prelude.{IsTrue}
 use Rattle.std.proofs.lemmas.List.{length-map}
 use Rattle.agg_model.specs.declared.limits.TheConstants.{WEIGHT_LIMIT}
 use Rattle.shard_columns.specs.Built.{columns_from}

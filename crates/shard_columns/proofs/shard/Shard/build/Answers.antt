@@ -10,40 +10,52 @@ use Rattle.shard_columns.specs.declared.layout.Entry.{Entry}
 use Rattle.shard_columns.specs.declared.layout.Laid.{Laid}
 use Rattle.shard_columns.specs.Layout.{ids_of, placed, entries_of_laid, values_of_laid}
 use Rattle.shard_columns.specs.Words.{AllFieldsBelow, AreDictionaries}
-use Rattle.shard_columns.specs.Values.{row_values, total_count}
-use Rattle.shard_columns.specs.Given.{RowsBelow, FieldsRise, KindsHold}
+use Rattle.shard_columns.specs.Values.{row_values, by_words, total_count}
+use Rattle.shard_columns.specs.Given.{RowsBelow, KindsHold}
+use Rattle.shard_columns.specs.Stored.{AreStorable}
+use Rattle.std.specs.Prelude.{slice_get}
+use Rattle.shard_columns.proofs.Weighing.{rows-light}
 use Rattle.shard_columns.specs.Contexts.{ContextsBelow, AreNumbered, AreEnclosed}
 use Rattle.shard_columns.specs.Dictionary.{words_of}
 use Rattle.agg_evaluation.specs.ColumnBytes.{value_count}
 use Rattle.shard_columns.specs.Ends.{each, root_ends}
 use Rattle.agg_evaluation.specs.RowsWeight.{rows_weight}
-use Rattle.shard_columns.proofs.Building.{AllFieldsBelow-given, rows-stored, total-values}
+use Rattle.shard_columns.proofs.Building.{AllFieldsBelow-given, rows-stored, total-values, sizes-stored}
 use Rattle.shard_columns.proofs.Enclosing.{all-rows-laid}
 use Rattle.shard_columns.specs.Built.{columns_from}
 use Rattle.shard_columns.proofs.Givens.{documents_given}
-use Rattle.shard_columns.proofs.Making.{values-laid, contexts-below, AreEnclosed-laid, dictionaries-are}
+use Rattle.shard_columns.proofs.Making.{storable-laid, values-laid, contexts-below, AreEnclosed-laid, dictionaries-are}
 use Rattle.shard_columns.proofs.shard.Shard.build.Goals as goal
 
 pub store-requires : goal.store-requires
 store-requires c =
-    subst (λ (ls : List Laid). AllFieldsBelow (length c.as_slice-fields.result.now) ls) (sym c.as_slice-laid.ensures.value)
-    (AllFieldsBelow-given (length c.as_slice-fields.result.now) (ids_of c.args.documents.now) c.in_ok-layout.layout.rows.items (rows_of_documents c.args.documents.now) c.in_ok-layout.ensures.rows
-    (subst (λ (n : ℕ). RowsBelow n (rows_of_documents c.args.documents.now)) (sym (ap length c.as_slice-fields.ensures)) (documents_given c.args.mapping.now c.args.documents.now c.requires.few c.requires.light c.requires.fit).fields))
+    let given = documents_given c.args.mapping.now c.args.documents.now c.requires.few c.requires.light c.requires.fit in
+    let kinds_are : c.in_ok-kinds.kinds.items ≡ map (λ f. f.kind) c.args.mapping.now.fields = c.in_ok-kinds.ensures ∙ ap (map (λ (f : Field). f.kind)) c.as_slice-fields.ensures in
+    let storable = storable-laid c.args.mapping.now c.args.documents.now c.in_ok-layout.layout.rows.items given c.requires.fit c.in_ok-layout.ensures.rows in
+    subst (λ (ks : List FieldKind). AreStorable ks c.as_slice-laid.result.now) (sym (c.as_slice-kind_list.ensures.value ∙ kinds_are))
+    (subst (λ (ls : List Laid). AreStorable (map (λ f. f.kind) c.args.mapping.now.fields) ls) (sym c.as_slice-laid.ensures.value) storable)
 
 pub numbers_by_context-requires : goal.numbers_by_context-requires
 numbers_by_context-requires c =
     let entries_are = c.in_ok-rows.ensures ∙ ap entries_of_laid c.as_slice-laid.ensures.value in
     let nested_size = ap length c.as_slice-nested.ensures in
-    subst (ContextsBelow (length c.as_slice-nested.result.now + 1)) (sym c.as_slice.ensures.value)
-    (contexts-below (ids_of c.args.documents.now) c.in_ok-layout.layout.rows.items c.in_ok-rows.rows.items (rows_of_documents c.args.documents.now) (length c.as_slice-nested.result.now + 1) entries_are c.in_ok-layout.ensures.rows
-    (λ n. omega (arith, (documents_given c.args.mapping.now c.args.documents.now c.requires.few c.requires.light c.requires.fit).contexts n, nested_size)))
+    record {
+      contexts = subst (ContextsBelow (length c.as_slice-nested.result.now + 1)) (sym c.as_slice.ensures.value)
+          (contexts-below (ids_of c.args.documents.now) c.in_ok-layout.layout.rows.items c.in_ok-rows.rows.items (rows_of_documents c.args.documents.now) (length c.as_slice-nested.result.now + 1) entries_are c.in_ok-layout.ensures.rows
+          (λ n. omega (arith, (documents_given c.args.mapping.now c.args.documents.now c.requires.few c.requires.light c.requires.fit).contexts n, nested_size)));
+      few = (let light = c.requires.light in
+          omega (arith, light, rows-light (rows_of_documents c.args.documents.now), ap length c.as_slice.ensures.value, sizes-stored (ids_of c.args.documents.now) c.in_ok-layout.layout.rows.items c.in_ok-rows.rows.items (rows_of_documents c.args.documents.now) entries_are c.in_ok-layout.ensures.rows));
+    }
 
 pub invariant_of-result : goal.invariant_of-result
 invariant_of-result c =
     let entries_are = c.in_ok-rows.ensures ∙ ap entries_of_laid c.as_slice-laid.ensures.value in
-    let values_are = c.in_ok-words.ensures.rows ∙ ap values_of_laid c.as_slice-laid.ensures.value in
     let entries = c.in_ok-rows.rows.items in
-    let values = row_values c.in_ok-words.words.items c.in_ok-words.values in
+    let words = c.in_ok-stored.stored.words.items in
+    let columns = c.in_ok-stored.stored.columns.items in
+    let values = row_values (by_words words) columns (length entries) in
+    let entries_size : length entries ≡ length c.as_slice-laid.result.now = ap length entries_are ∙ (length-map c.in_ok-layout.layout.rows.items (λ (l : Laid). l.entry) ∙ sym (ap length c.as_slice-laid.ensures.value)) in
+    let values_are : values ≡ values_of_laid c.in_ok-layout.layout.rows.items = ap (row_values (by_words words) columns) entries_size ∙ (c.in_ok-stored.ensures.rows ∙ ap values_of_laid c.as_slice-laid.ensures.value) in
     let rows_are : placed c.in_ok-ids.ids.items [] (zip entries values) ≡ rows_of_documents c.args.documents.now =
     ap (λ (ids : List (List ℕ)). placed ids [] (zip entries values)) c.in_ok-ids.ensures
     ∙ (rows-stored (ids_of c.args.documents.now) c.in_ok-layout.layout.rows.items entries values entries_are values_are ∙ c.in_ok-layout.ensures.rows) in
@@ -62,8 +74,9 @@ invariant_of-result c =
     let laid = c.in_ok-layout.layout.rows.items in
     let below : AllFieldsBelow (length c.as_slice-fields.result.now) laid =
     AllFieldsBelow-given (length c.as_slice-fields.result.now) ids laid all c.in_ok-layout.ensures.rows (subst (λ (n : ℕ). RowsBelow n all) (sym fields_size) given.fields) in
-    let dictionaries : AreDictionaries (length c.as_slice-fields.result.now) laid c.in_ok-words.words.items =
-    subst (λ (ls : List Laid). AreDictionaries (length c.as_slice-fields.result.now) ls c.in_ok-words.words.items) c.as_slice-laid.ensures.value c.in_ok-words.ensures.words in
+    let kinds_count : length c.as_slice-kind_list.result.now ≡ length c.as_slice-fields.result.now = ap length c.as_slice-kind_list.ensures.value ∙ (kinds_size ∙ sym fields_size) in
+    let dictionaries : AreDictionaries (length c.as_slice-fields.result.now) laid words =
+    subst (λ (ls : List Laid). AreDictionaries (length c.as_slice-fields.result.now) ls words) c.as_slice-laid.ensures.value (subst (λ (n : ℕ). AreDictionaries n c.as_slice-laid.result.now words) kinds_count c.in_ok-stored.ensures.words) in
     let rows_laid = all-rows-laid documents (subst T (sym given.paths) tt) in
     let enclosed : AreEnclosed all c.in_ok-layout.layout.ends.items =
     subst (AreEnclosed all) (sym c.in_ok-layout.ensures.ends) (AreEnclosed-laid [] (λ q. 0 ≤ q) all (each (map root_ends documents) 0) rows_laid) in
@@ -72,20 +85,20 @@ invariant_of-result c =
     λ i. record { kinds = kinds_are i; contexts = contexts_are i; parents = parents_are i; rows = rows_are i } in
     let kinds_hold : KindsHold c.in_ok-kinds.kinds.items all = subst (λ (ks : List FieldKind). KindsHold ks all) (sym kinds_are) given.kinds in
     record {
-      aligned = ap length values_are ∙ (length-map laid (λ (l : Laid). l.values.now) ∙ (sym (length-map laid (λ (l : Laid). l.entry)) ∙ sym (ap length entries_are)));
-      within = c.in_ok-words.ensures.within;
+      columns = c.in_ok-stored.ensures.columns.sound;
+      typed = λ f k column k_is at. c.in_ok-stored.ensures.columns.typed f k column (ap (λ (ks : List FieldKind). slice_get ks f) c.as_slice-kind_list.ensures.value ∙ k_is) at;
+      column_sizes = c.in_ok-stored.ensures.columns.sizes ∙ ap length c.as_slice-kind_list.ensures.value;
       numbered = subst (λ (n : ℕ). AreNumbered n entries c.in_ok-numbers.numbers.items) (let e : length c.as_slice-nested.result.now + 1 ≡ length c.in_ok-parents.parents.items + 1 = omega (arith, nested_size, parents_size) in e)
           (subst (λ (es : List Entry). AreNumbered (length c.as_slice-nested.result.now + 1) es c.in_ok-numbers.numbers.items) c.as_slice.ensures.value c.in_ok-numbers.ensures);
       few_paths = omega (arith, parents_size, given.few_paths);
       contexts = λ n. omega (arith, ap (λ (rs : List PlacedRow). (row_of rs n).context) rows_are, given.contexts n, parents_size);
       enclosed = subst (λ (rs : List PlacedRow). AreEnclosed rs c.in_ok-layout.layout.ends.items) (sym rows_are) enclosed;
       odd = subst (λ (rs : List PlacedRow). (n : ℕ) → n < length rs → length (row_of rs n).place % 2 ≡ 1) (sym rows_are) rows_laid.odd;
-      dictionaries = λ f. dictionaries-are (length c.as_slice-fields.result.now) ids laid all c.in_ok-words.words.items c.in_ok-layout.ensures.rows given.rising below dictionaries f ∙ ap (words_of f) (sym rows_are);
-      sizes = c.in_ok-words.ensures.words.sizes ∙ (fields_size ∙ sym kinds_size);
+      dictionaries = λ f. dictionaries-are (length c.as_slice-fields.result.now) ids laid all words c.in_ok-layout.ensures.rows given.rising below dictionaries f ∙ ap (words_of f) (sym rows_are);
+      sizes = c.in_ok-stored.ensures.words.sizes ∙ ap length c.as_slice-kind_list.ensures.value;
       few_fields = omega (arith, kinds_size, given.few_fields);
-      rising = subst FieldsRise (sym rows_are) given.rising;
       kinds = subst (KindsHold c.in_ok-kinds.kinds.items) (sym rows_are) kinds_hold;
-      counted = c.in_ok-words.ensures.counted ∙ (ap (λ (ls : List Laid). sum_by total_count (values_of_laid ls)) c.as_slice-laid.ensures.value
+      counted = c.in_ok-stored.ensures.counted ∙ (ap (λ (ls : List Laid). sum_by total_count (values_of_laid ls)) c.as_slice-laid.ensures.value
           ∙ (ap (sum_by total_count) (sym (values-laid ids laid all c.in_ok-layout.ensures.rows)) ∙ (total-values all ∙ ap (λ (rs : List PlacedRow). sum (map value_count rs)) (sym rows_are))));
       light = subst (λ (rs : List PlacedRow). rows_weight rs < 2 ^ 32) (sym rows_are) given.light;
       built = ∣ (c.args.mapping.now, ∣ (documents, record { few = c.requires.few; paths = c.requires.paths; fit = c.requires.fit; light = c.requires.light; columns_are = columns_are }) ∣₁) ∣₁;
@@ -94,9 +107,12 @@ invariant_of-result c =
 pub returns : goal.returns
 returns c =
     let entries_are = c.in_ok-rows.ensures ∙ ap entries_of_laid c.as_slice-laid.ensures.value in
-    let values_are = c.in_ok-words.ensures.rows ∙ ap values_of_laid c.as_slice-laid.ensures.value in
     let entries = c.in_ok-rows.rows.items in
-    let values = row_values c.in_ok-words.words.items c.in_ok-words.values in
+    let words = c.in_ok-stored.stored.words.items in
+    let columns = c.in_ok-stored.stored.columns.items in
+    let values = row_values (by_words words) columns (length entries) in
+    let entries_size : length entries ≡ length c.as_slice-laid.result.now = ap length entries_are ∙ (length-map c.in_ok-layout.layout.rows.items (λ (l : Laid). l.entry) ∙ sym (ap length c.as_slice-laid.ensures.value)) in
+    let values_are : values ≡ values_of_laid c.in_ok-layout.layout.rows.items = ap (row_values (by_words words) columns) entries_size ∙ (c.in_ok-stored.ensures.rows ∙ ap values_of_laid c.as_slice-laid.ensures.value) in
     let rows_are : placed c.in_ok-ids.ids.items [] (zip entries values) ≡ rows_of_documents c.args.documents.now =
     ap (λ (ids : List (List ℕ)). placed ids [] (zip entries values)) c.in_ok-ids.ensures
     ∙ (rows-stored (ids_of c.args.documents.now) c.in_ok-layout.layout.rows.items entries values entries_are values_are ∙ c.in_ok-layout.ensures.rows) in

@@ -1,15 +1,10 @@
-use Rattle.std.proofs.Common.{◌+◌, arith}
+use Rattle.std.proofs.Common.{◌+◌}
 use Rattle.agg_evaluation.specs.Rows.{row_of}
 use Rattle.shard_columns.proofs.Reading.{child-row}
 use Rattle.shard_columns.proofs.shard.Shard.child.Goals as goal
 
 pub bounds-children-place : goal.bounds-children-place
 bounds-children-place c = (child-row c.args.self.now.rows (c.args.path + 1) (row_of c.args.self.now.rows c.args.row) c.args.place c.children.result.now c.children.ensures.rows c.requires.there).0
-
-pub overflow_cast-result-2 : goal.overflow_cast-result-2
-overflow_cast-result-2 c =
-    let within = (child-row c.args.self.now.rows (c.args.path + 1) (row_of c.args.self.now.rows c.args.row) c.args.place c.children.result.now c.children.ensures.rows c.requires.there).0 in
-    omega (arith, c.children.ensures.numbers c.args.place within, c.children.ensures.few)
 
 pub returns-clause-number : goal.returns-clause-number
 returns-clause-number c = c.children.ensures.numbers c.args.place (child-row c.args.self.now.rows (c.args.path + 1) (row_of c.args.self.now.rows c.args.row) c.args.place c.children.result.now c.children.ensures.rows c.requires.there).0

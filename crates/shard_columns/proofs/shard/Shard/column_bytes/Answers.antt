@@ -3,7 +3,7 @@ use Rattle.shard_columns.proofs.Reading.{stored-are, stored-few, bytes-are, byte
 use Rattle.shard_columns.proofs.shard.Shard.column_bytes.Goals as goal
 
 pub overflow_mul-result : goal.overflow_mul-result
-overflow_mul-result c = omega (arith, stored-few c.self.inside c.args.self.now c.self.view_is c.self.invariant, c.len.ensures, c.self.inside.values.stored.ok.0)
+overflow_mul-result c = omega (arith, stored-few c.self.inside c.args.self.now c.self.view_is c.self.invariant)
 
 pub all_bytes-requires : goal.all_bytes-requires
 all_bytes-requires c = record {
@@ -12,10 +12,10 @@ all_bytes-requires c = record {
 }
 
 pub overflow_add-result : goal.overflow_add-result
-overflow_add-result c = omega (arith, stored-few c.self.inside c.args.self.now c.self.view_is c.self.invariant, c.len.ensures, c.self.inside.values.stored.ok.0, c.all_bytes.ensures.bound)
+overflow_add-result c = omega (arith, stored-few c.self.inside c.args.self.now c.self.view_is c.self.invariant, c.all_bytes.ensures.bound)
 
 pub returns : goal.returns
 returns c =
-    let count = c.len.ensures ∙ (c.self.inside.values.stored.ok.0 ∙ stored-are c.self.inside c.args.self.now c.self.view_is c.self.invariant) in
+    let count = stored-are c.self.inside c.args.self.now c.self.view_is c.self.invariant in
     let bytes = c.all_bytes.ensures.sum ∙ bytes-are c.self.inside c.args.self.now c.self.view_is c.self.invariant c.as_slice.result.now c.as_slice.ensures.value in
     (λ i. 8 * count i + bytes i)

@@ -1,23 +1,41 @@
-use Rattle.std.proofs.Common.{[], List, get_or, sym, ◌∙◌, ap, arith}
-use Rattle.shard_columns.specs.Values.{Words, shown}
+use Rattle.std.proofs.Common.{◌+◌, ℤ, List, [], length, get_or, sym, ◌∙◌, ap, arith, rules, w64}
+use Rattle.std.specs.Prelude.{Some}
+use Rattle.std.proofs.lemmas.Int.{to_z-of_z}
+use Rattle.agg_model.specs.declared.row.Scalar.TheVariants.{Whole}
 use Rattle.shard_columns.specs.Cell.{scalar_of}
-use Rattle.shard_columns.proofs.Reading.{row-in, fields-ascend, count-some, count-none, value-at}
+use Rattle.shard_columns.specs.Values.{Words, shown, typed_len}
+use Rattle.shard_columns.specs.declared.values.Span.{Span}
+use Rattle.shard_columns.proofs.Reading.{place-low, whole-at, flag-at, word-at, no-column}
 use Rattle.shard_columns.proofs.shard.Shard.value.Goals as goal
 
-pub held_at-requires : goal.held_at-requires
-held_at-requires c = record { in_range = row-in c.self.inside c.args.self.now c.self.view_is c.self.invariant c.args.row c.requires.in_range; within = c.self.invariant.within; ascend = fields-ascend c.self.inside c.args.self.now c.self.view_is c.self.invariant c.args.row c.requires.in_range }
-
-pub overflow_add-held : goal.overflow_add-held
-overflow_add-held c = omega (arith, count-some c.self.inside c.args.self.now c.self.view_is c.self.invariant c.args.row c.args.field c.in-Some.held c.requires.in_range (sym c.in-Some.ensures.found) c.in-Some.ensures.part, c.requires.there, c.in-Some.ensures.part.0, c.in-Some.ensures.part.1, c.self.inside.values.stored.ok.0, c.self.inside.values.stored.ok.1, c.self.inside.values.stored.small)
+pub unreachable-requires : goal.unreachable-requires
+unreachable-requires c = omega (arith, c.requires.there, ap length (no-column c.self.inside c.args.self.now c.self.view_is c.self.invariant c.args.row c.args.field c.as_slice.result.now c.requires.in_range c.as_slice.ensures.value c.in-None.ensures.none))
 
 pub index-requires : goal.index-requires
-index-requires c = omega (arith, count-some c.self.inside c.args.self.now c.self.view_is c.self.invariant c.args.row c.args.field c.in-Some.held c.requires.in_range (sym c.in-Some.ensures.found) c.in-Some.ensures.part, c.requires.there, c.in-Some.ensures.part.0, c.in-Some.ensures.part.1, c.self.inside.values.stored.ok.0)
+index-requires c = omega (arith, place-low c.self.inside c.args.self.now c.self.view_is c.self.invariant c.args.row c.args.field c.as_slice.result.now c.in-Some.column.now c.requires.in_range c.as_slice.ensures.value c.in-Some.ensures.some c.args.place c.requires.there, ap typed_len c.in-Wholes.is, ap (λ (s : Span). s.start) c.span_at-span.ensures, c.in-Wholes.numbers.ok.0)
 
-pub unreachable-requires : goal.unreachable-requires
-unreachable-requires c = omega (arith, count-none c.self.inside c.args.self.now c.self.view_is c.self.invariant c.args.row c.args.field c.requires.in_range (sym c.in-None.ensures.found), c.requires.there)
+pub index-requires-in-Words : goal.index-requires-in-Words
+index-requires-in-Words c = omega (arith, place-low c.self.inside c.args.self.now c.self.view_is c.self.invariant c.args.row c.args.field c.as_slice.result.now c.in-Some.column.now c.requires.in_range c.as_slice.ensures.value c.in-Some.ensures.some c.args.place c.requires.there, ap typed_len c.in-Words.is, ap (λ (s : Span). s.start) c.span_at-span.ensures, c.in-Words.places.ok.0)
 
-pub returns : goal.returns
-returns c =
-    let words_are = c.words_at-words.ensures ∙ ap (λ (ws : List Words). get_or ws c.in-Some.held.field []) c.as_slice.ensures.value in
-    value-at c.self.inside c.args.self.now c.self.view_is c.self.invariant c.args.row c.args.field c.args.place c.in-Some.held c.index.result.now (scalar_of c.cell_of.result) c.requires.in_range c.requires.there (sym c.in-Some.ensures.found) c.in-Some.ensures.part
-    c.index.ensures (c.cell_of.ensures ∙ ap (λ (ws : Words). shown ws c.index.result.now) words_are)
+pub index-requires-in-Flags : goal.index-requires-in-Flags
+index-requires-in-Flags c = omega (arith, place-low c.self.inside c.args.self.now c.self.view_is c.self.invariant c.args.row c.args.field c.as_slice.result.now c.in-Some.column.now c.requires.in_range c.as_slice.ensures.value c.in-Some.ensures.some c.args.place c.requires.there, ap typed_len c.in-Flags.is, ap (λ (s : Span). s.start) c.span_at-span.ensures, c.in-Flags.flags.ok.0)
+
+pub returns-in-Wholes : goal.returns-in-Wholes
+returns-in-Wholes c =
+    let x = c.index.result.now in
+    whole-at c.self.inside c.args.self.now c.self.view_is c.self.invariant c.args.row c.args.field c.as_slice.result.now c.in-Some.column.now c.requires.in_range c.as_slice.ensures.value c.in-Some.ensures.some c.args.place c.in-Wholes.numbers x c.requires.there c.in-Wholes.is
+    (c.index.ensures ∙ ap (λ (s : Span). get_or c.in-Wholes.numbers.items (s.start + c.args.place) x) c.span_at-span.ensures)
+    ∙ ap (λ (z : ℤ). Some (Whole z)) (sym (to_z-of_z w64 x (search rules)))
+
+pub returns-in-Words : goal.returns-in-Words
+returns-in-Words c =
+    let x = c.index-in-Words.result.now in
+    word-at c.self.inside c.args.self.now c.self.view_is c.self.invariant c.args.row c.args.field c.as_slice.result.now c.in-Some.column.now c.requires.in_range c.as_slice.ensures.value c.in-Some.ensures.some c.args.place c.in-Words.places x (scalar_of c.word_cell.result) c.requires.there c.in-Words.is
+    (c.index-in-Words.ensures ∙ ap (λ (s : Span). get_or c.in-Words.places.items (s.start + c.args.place) x) c.span_at-span.ensures)
+    (c.word_cell.ensures ∙ ap (λ (ws : Words). shown ws x) (c.words_at.ensures ∙ ap (λ (xs : List Words). get_or xs c.args.field []) c.as_slice-in-Words.ensures.value))
+
+pub returns-in-Flags : goal.returns-in-Flags
+returns-in-Flags c =
+    let x = c.index-in-Flags.result.now in
+    flag-at c.self.inside c.args.self.now c.self.view_is c.self.invariant c.args.row c.args.field c.as_slice.result.now c.in-Some.column.now c.requires.in_range c.as_slice.ensures.value c.in-Some.ensures.some c.args.place c.in-Flags.flags x c.requires.there c.in-Flags.is
+    (c.index-in-Flags.ensures ∙ ap (λ (s : Span). get_or c.in-Flags.flags.items (s.start + c.args.place) x) c.span_at-span.ensures)

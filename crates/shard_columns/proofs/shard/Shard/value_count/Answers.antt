@@ -1,18 +1,18 @@
-use Rattle.std.proofs.Common.{sym, arith}
-use Rattle.shard_columns.proofs.Reading.{row-in, fields-ascend, values-few, count-some, count-none}
+use Rattle.std.proofs.Common.{◌-◌, length, sym, ◌∙◌, ap, arith}
+use Rattle.shard_columns.specs.declared.values.Span.{Span}
+use Rattle.shard_columns.proofs.Reading.{column-sound, count-is, no-column}
 use Rattle.shard_columns.proofs.shard.Shard.value_count.Goals as goal
 
-pub held_at-requires : goal.held_at-requires
-held_at-requires c = record { in_range = row-in c.self.inside c.args.self.now c.self.view_is c.self.invariant c.args.row c.requires; within = c.self.invariant.within; ascend = fields-ascend c.self.inside c.args.self.now c.self.view_is c.self.invariant c.args.row c.requires }
+pub span_at-span-requires : goal.span_at-span-requires
+span_at-span-requires c = column-sound c.self.inside c.args.self.now c.self.view_is c.self.invariant c.args.row c.args.field c.as_slice.result.now c.in-Some.column.now c.requires c.as_slice.ensures.value c.in-Some.ensures.some
 
 pub overflow_sub-result : goal.overflow_sub-result
-overflow_sub-result c = c.in-Some.ensures.part.0
-
-pub overflow_cast-result : goal.overflow_cast-result
-overflow_cast-result c = omega (arith, count-some c.self.inside c.args.self.now c.self.view_is c.self.invariant c.args.row c.args.field c.in-Some.held c.requires (sym c.in-Some.ensures.found) c.in-Some.ensures.part, values-few c.self.inside c.args.self.now c.self.view_is c.self.invariant c.args.row c.args.field)
+overflow_sub-result c =
+    let part = (column-sound c.self.inside c.args.self.now c.self.view_is c.self.invariant c.args.row c.args.field c.as_slice.result.now c.in-Some.column.now c.requires c.as_slice.ensures.value c.in-Some.ensures.some).within c.args.row in
+    omega (arith, part.0, ap (λ (s : Span). s.start) c.span_at-span.ensures, ap (λ (s : Span). s.end) c.span_at-span.ensures)
 
 pub returns-in-Some : goal.returns-in-Some
-returns-in-Some c = sym (count-some c.self.inside c.args.self.now c.self.view_is c.self.invariant c.args.row c.args.field c.in-Some.held c.requires (sym c.in-Some.ensures.found) c.in-Some.ensures.part)
+returns-in-Some c = ap (λ (s : Span). s.end - s.start) c.span_at-span.ensures ∙ sym (count-is c.self.inside c.args.self.now c.self.view_is c.self.invariant c.args.row c.args.field c.as_slice.result.now c.in-Some.column.now c.requires c.as_slice.ensures.value c.in-Some.ensures.some)
 
 pub returns-in-None : goal.returns-in-None
-returns-in-None c = sym (count-none c.self.inside c.args.self.now c.self.view_is c.self.invariant c.args.row c.args.field c.requires (sym c.in-None.ensures.found))
+returns-in-None c = sym (ap length (no-column c.self.inside c.args.self.now c.self.view_is c.self.invariant c.args.row c.args.field c.as_slice.result.now c.requires c.as_slice.ensures.value c.in-None.ensures.none))
