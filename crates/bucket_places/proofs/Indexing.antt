@@ -1,5 +1,5 @@
 -- An index over no code, and over one more.
-use Rattle.std.specs.Prelude.{◌≡◌, refl, ◌||◌, ℕ, ℤ, pos, zero, suc, ◌<◌, true, false, cond, List, [], ◌∷◌, ◌++◌, length, Option, Some, None, slice_get}
+use Rattle.std.specs.Prelude.{◌≡◌, refl, ◌||◌, ℕ, ℤ, pos, zero, suc, ◌<◌, false, cond, List, [], ◌∷◌, ◌++◌, length, Option, Some, None, slice_get}
 use Rattle.std.specs.BTreeMap.{BTreeMap, Updates, get}
 use Rattle.std.specs.List.{IsDistinct, list_any, slice_index_or}
 use Rattle.std.specs.Map.{lookup}

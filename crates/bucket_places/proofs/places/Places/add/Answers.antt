@@ -1,4 +1,4 @@
-use Rattle.std.proofs.Common.{sym, ap, subst, arith, rules, ◌≡◌, ◌++◌, ◌∷◌, [], ◌<◌, List, ℕ, ℤ, ◌∙◌, suc, length, false, w64, to_z, of_z}
+use Rattle.std.proofs.Common.{sym, ap, subst, arith, rules, ◌≡◌, ◌++◌, ◌∷◌, [], ◌<◌, List, ℤ, ◌∙◌, suc, length, false, w64, to_z, of_z}
 use Rattle.std.specs.List.{IsDistinct, list_any}
 use Rattle.std.specs.Ordering.{int_eq}
 use Rattle.std.proofs.Math.ListN.{set}

@@ -1,4 +1,4 @@
-use Rattle.std.proofs.Common.{sym, ap, subst, arith, ◌≡◌, ◌<◌, ◌∙◌, ℕ, ℤ, List, length}
+use Rattle.std.proofs.Common.{sym, ap, subst, arith, ◌∙◌, ℕ, ℤ, List, length}
 use Rattle.std.specs.List.{slice_index_or}
 use Rattle.std.proofs.lemmas.List.{get_or-replicate, length-replicate}
 use Rattle.bucket_places.specs.Places.{IsIndexed}

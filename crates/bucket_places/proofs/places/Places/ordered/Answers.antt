@@ -1,4 +1,4 @@
-use Rattle.std.proofs.Common.{sym, ap, subst, arith, ◌≡◌, ◌<◌, List, ℕ, ℤ, length, [], ◌∙◌}
+use Rattle.std.proofs.Common.{sym, ap, subst, arith, ◌≡◌, List, ℕ, ℤ, length}
 use Rattle.bucket_places.specs.Places.{IsIndexed}
 use Rattle.bucket_places.proofs.Indexing.{nothing_indexed}
 use Rattle.bucket_places.proofs.places.Places.ordered.Goals as goal
