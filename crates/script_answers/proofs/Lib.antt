@@ -1,0 +1,9 @@
+pub mod Batches
+pub mod Completing
+pub mod Ending
+pub mod Forming
+pub mod Leading
+pub mod Putting
+pub mod Sections
+pub mod Stepping
+pub mod Waving

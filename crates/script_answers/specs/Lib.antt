@@ -1,0 +1,7 @@
+pub mod Answering
+pub mod Ends
+pub mod Puts
+pub mod Rest
+pub mod Stepping
+pub mod Steps
+pub mod Waves

@@ -1,0 +1,52 @@
+//! The searches of a wave, and the statistics behind the last one.
+ghost use Rattle.std.specs.Prelude.{◌≡◌, ◌≤◌, map, length, Err, OnOk};
+ghost use Rattle.agg_base.specs.Outside.{Rose};
+ghost use Rattle.agg_spec.specs.Requests.{request_of};
+ghost use Rattle.script_answers.specs.Waves.{PutsWave, PutsTotals};
+
+use crate::answerer::Answerer;
+use crate::stop::Stop;
+use crate::writing::{write_answers, write_statistics};
+use agg_base::Sink;
+use agg_model::{Bytes, List};
+use std::alloc::Global;
+
+/// Answers the searches of a wave, and writes their lines in their order. A wave may be empty, and then nothing is answered
+/// nor written.
+///
+/// Where memory runs out or the sink fails, the lines before stand whole, of the next one a front at most that is not all of it,
+/// and nothing is said of the rounds. Takes the time and memory of the answers, and time linear in their lines.
+pub fn answer_wave<K: Sink, A: Answerer>(
+    alloc: Global,
+    sink: &mut K,
+    answerer: &mut A,
+    bodies: &List<Bytes>,
+) -> Result<(), Stop>
+    requires some { 1 ≤ (A.recent answerer.old).settings.width }
+    requires few { length bodies.now ≤ (A.recent answerer.old).settings.width }
+    ensures puts { PutsWave (A.index answerer.old) (A.columns answerer.old) (A.recent answerer.old)
+        (map (request_of (A.index answerer.old)) bodies.now)
+        (K.written sink.old) (K.written sink.new) (A.recent answerer.new) result }
+    ensures same_index { A.index answerer.new ≡ A.index answerer.old }
+    ensures same_columns { A.columns answerer.new ≡ A.columns answerer.old }
+    ensures fault { result ≡ Err Stop.Write → Rose (K.faults sink.old) (K.faults sink.new) }
+    ensures never_falls { K.faults sink.old ≤ K.faults sink.new }
+{
+    if bodies.is_empty() {
+        return Ok(());
+    }
+    let answers = answerer.answer(alloc, bodies)?;
+    write_answers(alloc, sink, &answers)
+}
+
+/// Closes the answerer, and writes the line of its statistics, the last of a script. Where the sink fails or memory runs out,
+/// `write_statistics` tells what was written.
+pub fn close<K: Sink, A: Answerer>(alloc: Global, sink: &mut K, answerer: A) -> Result<(), Stop>
+    ensures puts { PutsTotals (A.index answerer) (A.columns answerer) (A.recent answerer)
+        (K.written sink.old) (K.written sink.new) result }
+    ensures fault { result ≡ Err Stop.Write → Rose (K.faults sink.old) (K.faults sink.new) }
+    ensures never_falls { K.faults sink.old ≤ K.faults sink.new }
+{
+    let totals = answerer.close();
+    write_statistics(alloc, sink, &totals)
+}
