@@ -1,0 +1,12 @@
+pub mod Arriving
+pub mod Putting
+pub mod Levels
+pub mod Children
+pub mod Singles
+pub mod Steps
+pub mod Codes
+pub mod Orderings
+pub mod Grouping
+pub mod Finals
+pub mod Empties
+pub mod Ascents

@@ -1,0 +1,9 @@
+pub mod Trees
+pub mod TreeFalls
+pub mod Taken
+pub mod Decoded
+pub mod Codes
+pub mod ReadyFolds
+pub mod Readiness
+pub mod Shown
+pub mod Grouped

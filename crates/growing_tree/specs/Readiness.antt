@@ -1,0 +1,56 @@
+-- A prepared aggregation that stands for an aggregation on a shard (Elasticsearch Reference 8, 'Aggregations').
+use Rattle.std.specs.Prelude.{◌≡◌, ℕ, Bool, true, false, List, [], ◌∷◌, map, sum_by, slice_get, Option, Some, option_and_then, IsTrue}
+use Rattle.agg_model.specs.Options.{Options, options_of}
+use Rattle.agg_model.specs.declared.aggregation.Agg.{Agg, out-Agg}
+use Rattle.agg_model.specs.declared.aggregation.Kind.{Kind}
+use Rattle.agg_model.specs.declared.aggregation.Kind.TheVariants as kind
+use Rattle.agg_evaluation.specs.Cost.{node_cost}
+use Rattle.agg_evaluation.specs.Whole.{empty_node}
+use Rattle.shard_columns.specs.Columns.{Columns}
+use Rattle.terms_agg.specs.Prepared.{IsReady}
+use Rattle.growing_tree.specs.declared.ready.Ready.{Ready, out-Ready}
+use Rattle.growing_tree.specs.declared.ready.ReadyKind.{ReadyKind}
+use Rattle.growing_tree.specs.declared.ready.ReadyKind.TheVariants.{Single, Metric, Terms}
+
+-- each row that the aggregation counts has its one key
+abbrev pub has_single_key : Kind → Bool
+has_single_key kind.Global = true
+has_single_key (kind.Nested context) = true
+has_single_key (kind.ReverseNested context) = true
+has_single_key _ = false
+
+abbrev pub is_metric : Kind → Bool
+is_metric k = elim (options_of k) [ Options.Metric m ↦ true | _ ↦ false ]
+
+-- what is prepared stands for the kind
+abbrev pub IsKindReady : Columns → Kind → ReadyKind → Type 0
+IsKindReady shard k Single = IsTrue (has_single_key k)
+IsKindReady shard k Metric = IsTrue (is_metric k)
+IsKindReady shard k (Terms p) = IsReady shard k p
+
+-- rows have their own keys
+abbrev pub is_keyed : ReadyKind → Bool
+is_keyed Single = false
+is_keyed Metric = false
+is_keyed (Terms p) = true
+
+-- the same for one aggregation, without those below it
+pub record IsLevelReady (shard : Columns) (a : Agg) (r : Ready) : Type 0 where
+  pub kind : IsKindReady shard (out-Agg a).kind (out-Ready r).kind
+  pub child_bytes : (out-Ready r).child_bytes ≡ sum_by node_cost (map empty_node (out-Agg a).children)
+
+-- the aggregation at the end of a way down, by places among siblings
+abbrev pub agg_at : List ℕ → Agg → Option Agg
+agg_at [] a = Some a
+agg_at (n ∷ way) a = option_and_then (agg_at way) (slice_get (out-Agg a).children n)
+
+abbrev pub ready_at : List ℕ → Ready → Option Ready
+ready_at [] r = Some r
+ready_at (n ∷ way) r = option_and_then (ready_at way) (slice_get (out-Ready r).children n)
+
+-- each prepared aggregation stands for the one at its place
+abbrev pub IsReadyFor : Columns → Agg → Ready → Type 0
+IsReadyFor shard a r = (way : List ℕ) (b : Agg) (s : Ready) → agg_at way a ≡ Some b → ready_at way r ≡ Some s → IsLevelReady shard b s
+
+abbrev pub AreReadyFor : Columns → List Agg → List Ready → Type 0
+AreReadyFor shard aggs rs = (n : ℕ) (a : Agg) (r : Ready) → slice_get aggs n ≡ Some a → slice_get rs n ≡ Some r → IsReadyFor shard a r
