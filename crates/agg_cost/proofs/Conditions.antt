@@ -1,7 +1,7 @@
 -- The conditions of the crates of the kinds hold of a kind that is made for the mapping of the shard.
-use Rattle.std.proofs.Common.{◌≡◌, refl, ℕ, zero, suc, ◌<◌, ◌≤◌, Bool, true, false, List, [], ◌∷◌, length, sym, ◌∙◌, ap, subst, arith}
-use Rattle.std.specs.Prelude.{◌&&◌, ◌==◌, ◌^◌, nat_le, nat_lt, Option, Some, None, IfSome, option_to_list, slice_get}
-use Rattle.std.specs.List.{list_all, AllByRecursion}
+use Rattle.std.proofs.Common.{◌≡◌, refl, ℕ, zero, suc, ◌<◌, Bool, true, false, List, [], ◌∷◌, length, sym, ◌∙◌, ap, subst, arith}
+use Rattle.std.specs.Prelude.{◌&&◌, ◌^◌, nat_le, nat_lt, Option, Some, None, IfSome, option_to_list, slice_get}
+use Rattle.std.specs.List.{list_all}
 use Rattle.std.specs.Option.{option_map_or}
 use Rattle.std.proofs.Math.Bool.{Bool-set}
 use Rattle.std.proofs.Math.Logic.{∥∥₁_elim}
@@ -18,17 +18,16 @@ use Rattle.agg_model.specs.declared.aggregation.Kind.{Kind}
 use Rattle.agg_model.specs.declared.aggregation.Kind.TheVariants as kind
 use Rattle.agg_model.specs.FieldKinds.{is_of_kind, is_whole_kind}
 use Rattle.agg_evaluation.specs.QueryFits.{field_is, are_probes}
-use Rattle.agg_evaluation.specs.SearchFits.{kind_fits, source_fits, interval_fits, is_missing, is_stored, is_interval, is_whole_field, is_within}
+use Rattle.agg_evaluation.specs.SearchFits.{kind_fits, source_fits, interval_fits, is_missing, is_stored, is_interval, is_whole_field}
 use Rattle.composite_agg.specs.Sources.{IsPositive, ArePositive}
-use Rattle.filters_agg.specs.Filtering.{IsFiltering, IsMadeFor}
+use Rattle.filters_agg.specs.Filtering.{IsMadeFor}
 use Rattle.nested_agg.specs.Nesting.{goes_by_nesting}
 use Rattle.shard_columns.specs.Built.{IsShardOf}
 use Rattle.shard_columns.specs.Columns.{Columns}
 use Rattle.terms_agg.specs.Codes.{content_of, is_content}
-use Rattle.terms_agg.specs.Prepared.{IsTermsOf}
 use Rattle.terms_agg.specs.declared.content.Content.TheVariants.{Wholes}
 use Rattle.agg_cost.specs.Counters.{IsCountable}
-use Rattle.agg_cost.specs.Fields.{HasFields, IsOfField, are_known}
+use Rattle.agg_cost.specs.Fields.{HasFields, are_known}
 use Rattle.agg_cost.proofs.Making.{field-kind, some_below}
 
 -- what stands for a missing value is of the field's kind

@@ -1,5 +1,5 @@
 -- The paths that an aggregation hands on, one row after another.
-use Rattle.std.proofs.Common.{◌≡◌, refl, ℕ, zero, suc, ◌+◌, ◌*◌, ◌<◌, ◌≤◌, Bool, true, false, List, [], ◌∷◌, ◌++◌, length, map, get_or, take, sym, ◌∙◌, ap, arith, mul_assoc}
+use Rattle.std.proofs.Common.{◌≡◌, refl, ℕ, zero, suc, ◌+◌, ◌*◌, ◌<◌, ◌≤◌, true, List, [], ◌∷◌, length, map, get_or, take, sym, ◌∙◌, ap, arith, mul_assoc}
 use Rattle.std.specs.Prelude.{sum_by}
 use Rattle.std.proofs.lemmas.Bool.{false≢true}
 use Rattle.std.proofs.lemmas.List.{take_more, take_all, map_more}
@@ -7,7 +7,7 @@ use Rattle.std.proofs.lemmas.List.Sums.{sum_by-cons, sum_by-append}
 use Rattle.agg_model.specs.declared.aggregation.Kind.{Kind}
 use Rattle.agg_model.specs.declared.aggregation.Kind.TheVariants as kind
 use Rattle.agg_model.specs.declared.mapping.FieldKind.{FieldKind}
-use Rattle.agg_evaluation.specs.Ceiling.{Reached, handed_on}
+use Rattle.agg_evaluation.specs.Ceiling.{handed_on}
 use Rattle.agg_evaluation.specs.Groups.{under}
 use Rattle.agg_evaluation.specs.Keys.{keys}
 use Rattle.agg_evaluation.specs.Rows.{PlacedRow, roots, row_of}

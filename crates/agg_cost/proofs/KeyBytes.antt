@@ -1,6 +1,6 @@
 -- The longest key of a field: of words the longest word, and 8 bytes of all else.
-use Rattle.std.proofs.Common.{◌≡◌, refl, ℕ, zero, suc, ◌+◌, ◌≤◌, Bool, true, false, List, [], ◌∷◌, ◌++◌, length, map, sym, ◌∙◌, ap, arith, Option, Some, None}
-use Rattle.std.specs.Prelude.{◌&&◌, flat_map, option_to_list, max, nat_lt, cond}
+use Rattle.std.proofs.Common.{◌≡◌, refl, ℕ, suc, ◌≤◌, Bool, true, false, List, [], ◌∷◌, ◌++◌, length, map, sym, ◌∙◌, ap, arith, Option, Some}
+use Rattle.std.specs.Prelude.{flat_map, option_to_list, max, nat_lt, cond}
 use Rattle.std.specs.List.{list_all}
 use Rattle.std.proofs.lemmas.Bool.{and_parts, and_from, false≢true}
 use Rattle.std.proofs.lemmas.Bool.Decides.{nat_tests}
@@ -13,7 +13,7 @@ use Rattle.agg_model.specs.declared.row.Scalar.TheVariants.{Whole, Word, Flag}
 use Rattle.agg_model.specs.FieldKinds.{is_of_kind}
 use Rattle.agg_model.specs.ValueKeys.{scalar_key}
 use Rattle.agg_evaluation.specs.Cost.{key_bytes}
-use Rattle.agg_evaluation.specs.Rows.{PlacedRow, values_of, row_of}
+use Rattle.agg_evaluation.specs.Rows.{PlacedRow, values_of}
 use Rattle.agg_evaluation.specs.Ceiling.{greatest_of, least_bytes, value_bytes}
 use Rattle.shard_columns.specs.Values.{Words, words_in}
 use Rattle.shard_columns.specs.Dictionary.{all_words, longest_word}

@@ -1,13 +1,12 @@
 -- The bound of an aggregation, one level at a time, over numbers that stop at 64 bits.
-use Rattle.std.proofs.Common.{◌≡◌, refl, ℕ, ◌+◌, ◌*◌, List, [], ◌∷◌, map, length, sym, ◌∙◌, ap, arith}
-use Rattle.std.specs.Prelude.{sum, sum_by}
-use Rattle.std.proofs.lemmas.List.Sums.{sum_by-cons, sum-map}
-use Rattle.list_laws.proofs.Lists.{map-map, sum_by-map}
+use Rattle.std.proofs.Common.{◌≡◌, refl, ℕ, ◌+◌, ◌*◌, List, map, sym, ◌∙◌, ap}
+use Rattle.std.specs.Prelude.{sum_by}
+use Rattle.std.proofs.lemmas.List.Sums.{sum-map}
+use Rattle.list_laws.proofs.Lists.{sum_by-map}
 use Rattle.agg_model.specs.declared.mapping.FieldKind.{FieldKind}
 use Rattle.agg_model.specs.declared.aggregation.Agg.{Agg, out-Agg}
 use Rattle.agg_model.specs.declared.aggregation.Kind.{Kind}
 use Rattle.agg_evaluation.specs.Rows.{PlacedRow}
-use Rattle.agg_evaluation.specs.Shard.{fixed_keys}
 use Rattle.agg_evaluation.specs.Whole.{Shape, by_key, from_start, a_number, shape_of}
 use Rattle.agg_evaluation.specs.Ceiling.{Reached, path_count, handed_on, bucket_bound, key_bound, node_bound, node_bound_at}
 use Rattle.agg_evaluation.proofs.AggFolds.{fold_agg-level}

@@ -1,38 +1,26 @@
 -- What follows for an aggregation that is made for the mapping of a shard.
-use Rattle.std.proofs.Common.{◌≡◌, refl, ℕ, zero, suc, ◌<◌, ◌≤◌, Bool, true, false, List, [], ◌∷◌, length, map, get_or, sym, ◌∙◌, ap, subst, arith}
-use Rattle.std.specs.Prelude.{◌&&◌, ◌||◌, ◌==◌, ◌^◌, not, nat_le, nat_lt, Option, Some, None, option_map, option_to_list, slice_get}
-use Rattle.std.specs.List.{list_all}
+use Rattle.std.proofs.Common.{◌≡◌, refl, ℕ, zero, suc, ◌<◌, Bool, true, false, List, [], ◌∷◌, length, map, get_or, sym, ◌∙◌, ap, arith}
+use Rattle.std.specs.Prelude.{nat_lt, Option, Some, None, option_map, slice_get}
 use Rattle.std.specs.Option.{option_map_or}
 use Rattle.std.proofs.Math.Bool.{Bool-set}
 use Rattle.std.proofs.Math.Logic.{∥∥₁_elim, ∥∥₁_map}
-use Rattle.std.proofs.lemmas.Bool.{and_parts, and_from, false≢true, ltb-true, leb-true}
+use Rattle.std.proofs.lemmas.Bool.{false≢true, ltb-true}
 use Rattle.std.proofs.lemmas.Bool.Decides.{nat_tests}
-use Rattle.agg_model.specs.declared.limits.TheConstants.{MAX_FILTERS}
 use Rattle.agg_model.specs.declared.mapping.Field.{Field}
 use Rattle.agg_model.specs.declared.mapping.FieldKind.{FieldKind}
-use Rattle.agg_model.specs.declared.mapping.FieldKind.TheVariants as kinds
 use Rattle.agg_model.specs.declared.mapping.Mapping.{Mapping}
-use Rattle.agg_model.specs.declared.query.Query.{Query}
-use Rattle.agg_model.specs.declared.row.Document.{Document}
-use Rattle.agg_model.specs.declared.row.Scalar.{Scalar}
-use Rattle.agg_model.specs.declared.row.Scalar.TheVariants as scalar
 use Rattle.agg_model.specs.declared.aggregation.Agg.{Agg, out-Agg}
-use Rattle.agg_model.specs.declared.aggregation.CompositeSource.{CompositeSource}
-use Rattle.agg_model.specs.declared.aggregation.Kind.{Kind}
-use Rattle.agg_model.specs.declared.aggregation.Kind.TheVariants as kind
-use Rattle.agg_model.specs.FieldKinds.{is_of_kind}
-use Rattle.agg_model.specs.Options.{TermsOptions, HistogramOptions, options_of}
 use Rattle.agg_evaluation.specs.Folds.{fold_agg}
-use Rattle.agg_evaluation.specs.QueryFits.{field_is, are_probes, query_fits}
-use Rattle.agg_evaluation.specs.SearchFits.{kind_fits, terms_made, histogram_made, filters_made, composite_made, source_fits, is_missing, is_stored, is_interval, is_whole_field, Made, made_at, is_made, handed, agg_fits, search_fits}
+use Rattle.agg_evaluation.specs.QueryFits.{field_is}
+use Rattle.agg_evaluation.specs.SearchFits.{Made, made_at, handed, agg_fits}
 use Rattle.agg_evaluation.proofs.AggFolds.{fold_agg-level}
 use Rattle.agg_evaluation.proofs.MadeSearches.{made_parts}
 use Rattle.column_query.proofs.Lists.{all_mapped}
 use Rattle.column_query.proofs.PreparedCases.{all_at}
-use Rattle.filters_agg.specs.Filtering.{IsFiltering, IsMadeFor}
-use Rattle.shard_columns.specs.Built.{IsBuiltFrom, IsShardOf}
+use Rattle.filters_agg.specs.Filtering.{IsMadeFor}
+use Rattle.shard_columns.specs.Built.{IsShardOf}
 use Rattle.shard_columns.specs.Columns.{Columns}
-use Rattle.agg_cost.specs.Made.{IsAggFor, IsSearchFor}
+use Rattle.agg_cost.specs.Made.{IsAggFor}
 
 -- the aggregation's kind is made for the shard
 pub kind-made : (shard : Columns) (a : Agg) → IsAggFor shard a → IsMadeFor shard (out-Agg a).kind

@@ -11,7 +11,7 @@ use Rattle.agg_evaluation.specs.Rows.{PlacedRow}
 use Rattle.agg_evaluation.specs.Keys.{keys}
 use Rattle.agg_evaluation.specs.Groups.{under}
 use Rattle.agg_evaluation.specs.Shard.{fixed_keys}
-use Rattle.agg_evaluation.specs.Whole.{Shape, by_key, from_start, a_number, shape_of}
+use Rattle.agg_evaluation.specs.Whole.{Shape, by_key, from_start, shape_of}
 use Rattle.agg_evaluation.specs.Ceiling.{key_bound}
 
 -- what the bound of an aggregation is made of

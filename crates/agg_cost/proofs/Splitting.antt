@@ -1,7 +1,7 @@
 -- The bound of an aggregation is that of its empty nodes and of each path to a row.
-use Rattle.std.proofs.Common.{◌≡◌, refl, ℕ, ◌+◌, ◌*◌, List, [], ◌∷◌, ◌++◌, map, length, sym, ◌∙◌, ap, arith, mul_assoc}
+use Rattle.std.proofs.Common.{◌≡◌, refl, ℕ, ◌+◌, ◌*◌, List, [], ◌∷◌, map, length, sym, ◌∙◌, ap, arith, mul_assoc}
 use Rattle.std.specs.Prelude.{sum, sum_by}
-use Rattle.std.proofs.lemmas.List.Sums.{sum_by-cons, sum-map}
+use Rattle.std.proofs.lemmas.List.Sums.{sum_by-cons}
 use Rattle.list_laws.proofs.Lists.{sum_by-map}
 use Rattle.list_laws.proofs.Sums.{sum_by-plus}
 use Rattle.agg_model.specs.declared.mapping.FieldKind.{FieldKind}

@@ -5,7 +5,6 @@ use Rattle.agg_model.specs.declared.aggregation.Kind.TheVariants as kind
 use Rattle.composite_agg.specs.Sources.{ArePositive}
 use Rattle.filters_agg.specs.Filtering.{IsFiltering}
 use Rattle.filters_agg.specs.PreparedFilters.{IsReady as AreFiltersReady}
-use Rattle.histogram_agg.specs.Histogram.{IsHistogram}
 use Rattle.shard_columns.specs.Columns.{Columns}
 use Rattle.terms_agg.specs.Prepared.{IsTerms, IsReady as AreTermsReady}
 use Rattle.agg_cost.specs.declared.key_counts.Counter.{Counter}

@@ -1,4 +1,5 @@
-//! What a task and a search can hold, computed before they run (Elasticsearch Reference 8, 'Circuit breaker settings').
+//! What the nodes of an aggregation can hold, computed from the rows that reach them before it runs (Elasticsearch Reference 8,
+//! 'Circuit breaker settings').
 #![tactic(auto)]
 
 mod bounds;
@@ -6,3 +7,6 @@ mod handing_on;
 mod key_bytes;
 mod key_counts;
 mod paths;
+
+pub use bounds::node_bytes;
+pub use paths::RowPaths;

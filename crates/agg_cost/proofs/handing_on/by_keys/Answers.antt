@@ -1,4 +1,4 @@
-use Rattle.std.proofs.Common.{◌≡◌, ◌<◌, length}
+use Rattle.std.proofs.Common.{length}
 use Rattle.agg_cost.proofs.Conditions.{countable}
 use Rattle.agg_cost.proofs.Handing.{by-keys, all-carried}
 use Rattle.agg_cost.proofs.handing_on.by_keys.Goals as goal

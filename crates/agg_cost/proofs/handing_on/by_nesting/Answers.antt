@@ -1,7 +1,7 @@
-use Rattle.std.proofs.Common.{◌≡◌, ◌<◌, ◌++◌, ◌∷◌, [], ℕ, List, length, map, take, get_or, sym, ◌∙◌, ap, subst}
+use Rattle.std.proofs.Common.{◌<◌, ◌++◌, ◌∷◌, [], ℕ, List, length, map, take, get_or, ◌∙◌, ap}
 use Rattle.std.proofs.lemmas.List.Elements.{All-same}
 use Rattle.agg_evaluation.specs.Groups.{under}
-use Rattle.agg_evaluation.specs.Rows.{PlacedRow, roots, row_of}
+use Rattle.agg_evaluation.specs.Rows.{roots, row_of}
 use Rattle.agg_cost.specs.Paths.{reached_by, over_paths}
 use Rattle.agg_cost.specs.declared.paths.RowPaths.{RowPaths}
 use Rattle.agg_cost.proofs.Handing.{carried, row-more, rows-all, all-carried}

@@ -1,6 +1,4 @@
-use Rattle.std.proofs.Common.{◌≡◌, true, sym, ◌∙◌, ap, ⊎_elim, subst}
-use Rattle.agg_cost.specs.Staying.{stays}
-use Rattle.agg_model.specs.declared.aggregation.Kind.{Kind}
+use Rattle.std.proofs.Common.{◌∙◌, ap, ⊎_elim, subst}
 use Rattle.filters_agg.specs.Filtering.{IsMadeFor}
 use Rattle.nested_agg.specs.Nesting.{goes_by_nesting}
 use Rattle.agg_cost.proofs.Conditions.{nested-goes}

@@ -1,4 +1,4 @@
-use Rattle.std.proofs.Common.{◌≡◌, ℕ, List, sym, ◌∙◌, ap, ⊎_elim}
+use Rattle.std.proofs.Common.{◌≡◌, sym, ◌∙◌, ap, ⊎_elim}
 use Rattle.std.specs.Prelude.{◌++◌, flat_map, max, option_to_list, Option, Some}
 use Rattle.agg_model.specs.declared.mapping.FieldKind.{FieldKind}
 use Rattle.agg_evaluation.specs.Ceiling.{least_bytes, value_bytes}

@@ -1,4 +1,4 @@
-use Rattle.std.proofs.Common.{◌≡◌, ℕ, ◌+◌, ◌*◌, ◌<◌, ◌-◌, length, vec_len, refl, rules, sym, ◌∙◌, ap, arith}
+use Rattle.std.proofs.Common.{◌≡◌, ℕ, ◌+◌, ◌*◌, ◌-◌, length, vec_len, refl, rules, ◌∙◌, ap, arith}
 use Rattle.agg_evaluation.specs.Rows.{row_of}
 use Rattle.agg_cost.specs.Capped.{capped}
 use Rattle.agg_cost.specs.Paths.{reached_by, over_paths}
