@@ -1,0 +1,10 @@
+pub mod RowBound
+pub mod Splitting
+pub mod Capping
+pub mod Levels
+pub mod Reaching
+pub mod KeyBytes
+pub mod Making
+pub mod Conditions
+pub mod Handing
+pub mod AggSizes

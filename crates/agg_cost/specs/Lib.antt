@@ -1,0 +1,6 @@
+pub mod Capped
+pub mod Paths
+pub mod Fields
+pub mod Counters
+pub mod Made
+pub mod Staying
