@@ -1,7 +1,7 @@
 -- The waves of searches, the first one taken by itself.
 use Rattle.std.specs.Prelude.{◌≡◌, ◌≤◌, ◌<◌, ℕ, zero, suc, ◌+◌, ◌-◌, ◌*◌, ◌/◌, List, [], ◌∷◌, ◌++◌, map, take, drop, length}
 use Rattle.std.specs.List.{range_with_len}
-use Rattle.std.proofs.Common.{◌∙◌, refl, sym, ap, append-nil, arith}
+use Rattle.std.proofs.Common.{◌∙◌, refl, sym, ap, arith}
 use Rattle.std.proofs.Math.Nat.{add-div_left, suc-mul}
 use Rattle.std.proofs.Math.Seq.{drop-append-add, take-append_seam, take-append-add}
 use Rattle.std.proofs.lemmas.List.{length-append, take_all}

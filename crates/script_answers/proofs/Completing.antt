@@ -1,6 +1,6 @@
 -- From each place on a script has an output: one in which each search that is left wants memory.
-use Rattle.std.specs.Prelude.{◌≡◌, ◌⊎◌, ◌≤◌, ℕ, ◌+◌, ◌==◌, ◌&&◌, Bool, true, false, IsTrue, List, [], ◌∷◌, ◌++◌, map, length, Option, Some, None}
-use Rattle.std.specs.List.{AllByRecursion, list_all}
+use Rattle.std.specs.Prelude.{◌≡◌, ◌≤◌, ℕ, ◌+◌, ◌==◌, ◌&&◌, Bool, true, false, IsTrue, List, [], ◌∷◌, ◌++◌, map, length, Option, Some, None}
+use Rattle.std.specs.List.{AllByRecursion}
 use Rattle.std.proofs.Common.{inl, inr, ◌∙◌, refl, sym, ap, subst, arith}
 use Rattle.std.proofs.lemmas.Bool.{eqb-true}
 use Rattle.agg_model.specs.declared.breaker.Totals.{Totals}
@@ -17,15 +17,15 @@ use Rattle.agg_spec.specs.Outcome.{Request}
 use Rattle.agg_spec.specs.Charges.{Amounts, no_amounts, one_at, amounts_sum}
 use Rattle.agg_spec.specs.Reduction.{batches}
 use Rattle.agg_spec.specs.Requests.{Segment, segments, cut_short}
-use Rattle.agg_spec.specs.Rises.{Rises, RoseBy, all_rises, rises, told_trips, exception_trips, sum_of_amounts}
+use Rattle.agg_spec.specs.Rises.{Rises, RoseBy, all_rises, told_trips, exception_trips, sum_of_amounts}
 use Rattle.agg_spec.specs.Failures.{unfailed}
 use Rattle.agg_spec.specs.Rounds.{Round, is_quiet, all_quiet}
-use Rattle.agg_spec.specs.Statistics.{is_solo, AreTotals, AreTotalsBy, AreRises, totals_after, solo_totals}
+use Rattle.agg_spec.specs.Statistics.{is_solo, AreTotals, AreTotalsBy, totals_after, solo_totals}
 use Rattle.agg_spec.specs.Wave.{MayAnswer, MayAnswerEach, MayAnswerWave, body_refusals, wave_ceiling}
-use Rattle.agg_spec.specs.Answers.{Change, Recent, IsAllowed, IsSolo, ArePages, AreWaves, AreRounds, AreAnswered, after_line, with_rounds, latest}
+use Rattle.agg_spec.specs.Answers.{Change, Recent, IsAllowed, IsSolo, ArePages, AreRounds, AreAnswered, after_line, with_rounds, latest}
 use Rattle.agg_spec.specs.Written.{Line, answer, statistics, answer_lines, round_lines}
 use Rattle.agg_spec.specs.Output.{refusal_line}
-use Rattle.script_answers.specs.Rest.{Answers, EndsWell, EndsEarly, EndsRefused, IsRest, IsCut}
+use Rattle.script_answers.specs.Rest.{Answers, EndsRefused, IsRest, IsCut}
 use Rattle.script_answers.proofs.Batches.{none-batched, one-batched, first-batched}
 use Rattle.script_answers.proofs.Forming.{Formed}
 

@@ -1,6 +1,6 @@
 -- Where an output stops, and where it ends.
-use Rattle.std.specs.Prelude.{◌≡◌, ◌⊎◌, ◌≤◌, ◌<◌, ℕ, List, [], ◌∷◌, ◌++◌, map, length, Option, Some, None, Result, Ok, Err, OnOk}
-use Rattle.std.proofs.Common.{inl, inr, ◌∙◌, refl, sym, ap, subst, append_assoc, append-nil, arith}
+use Rattle.std.specs.Prelude.{◌≡◌, ◌≤◌, ℕ, List, [], ◌∷◌, ◌++◌, map, length, Option, Some, Ok, Err}
+use Rattle.std.proofs.Common.{inl, inr, ◌∙◌, refl, sym, ap, subst, append-nil, arith}
 use Rattle.std.proofs.lemmas.List.{length-append, length-map}
 use Rattle.list_laws.proofs.Lists.{map-append}
 use Rattle.serde_json.specs.Data.{Data}
@@ -18,18 +18,17 @@ use Rattle.agg_spec.specs.Answers.{Recent, IsAllowed, AreRounds, with_rounds, ch
 use Rattle.agg_spec.specs.Written.{Line, settings, statistics, round_lines}
 use Rattle.agg_spec.specs.Output.{refusal_line}
 use Rattle.script_entries.specs.Reading.{behind}
-use Rattle.script_answers.specs.Puts.{Breaks, Wants, Stops, Puts}
-use Rattle.script_answers.specs.Rest.{IsCut, IsRest, EndsWell, EndsEarly}
+use Rattle.script_answers.specs.Puts.{Stops}
+use Rattle.script_answers.specs.Rest.{IsRest, EndsWell, EndsEarly}
 use Rattle.script_answers.specs.Stepping.{bodies_of, IsReady, TakesEntry, StopsAt, Finishes}
-use Rattle.script_answers.specs.Steps.{Leads, WroteLines, WroteFront, Wrote}
-use Rattle.script_answers.specs.Waves.{PutsWave, PutsTotals, PutsChange}
-use Rattle.script_answers.specs.declared.end.ScriptEnd.TheVariants as at
+use Rattle.script_answers.specs.Steps.{Leads, WroteLines}
+use Rattle.script_answers.specs.Waves.{PutsWave, PutsTotals}
 use Rattle.script_answers.specs.declared.stop.Stop.{Stop}
 use Rattle.script_answers.specs.declared.stop.Stop.TheVariants.{Write, Memory}
 use Rattle.script_answers.proofs.Completing.{some-rest, some-totals}
 use Rattle.script_answers.proofs.Leading.{wave-leads, change-leads, ends-well, ends-early}
 use Rattle.script_answers.proofs.Putting.{stops-behind, stops-before, wrote-append, front-append, wrote-nothing}
-use Rattle.script_answers.proofs.Stepping.{nothing-leads, cut-behind, cut-within, leads-on}
+use Rattle.script_answers.proofs.Stepping.{nothing-leads, cut-behind, cut-within}
 
 module _ (words : Settings) (index : Index) (columns : ℕ) where
   -- ---- a step that stops

@@ -1,17 +1,16 @@
 -- Rounds behind rounds, and searches in front of a segment.
-use Rattle.std.specs.Prelude.{◌≡◌, ◌≤◌, ◌<◌, ⊤, ℕ, ◌*◌, ◌/◌, Bool, true, false, List, [], ◌∷◌, ◌++◌, map, take, length, flat_map, option_to_list, Option, Some, None}
+use Rattle.std.specs.Prelude.{◌≡◌, ◌≤◌, ℕ, Bool, true, false, List, [], ◌∷◌, ◌++◌, map, length, option_to_list, Option, Some, None}
 use Rattle.std.specs.List.{AllByRecursion}
-use Rattle.std.proofs.Common.{◌∙◌, refl, sym, ap, subst, append_assoc, append-nil, arith}
-use Rattle.list_laws.proofs.Lists.{map-append, flat_map-append}
+use Rattle.std.proofs.Common.{◌∙◌, refl, sym, ap, subst, append_assoc, arith}
+use Rattle.list_laws.proofs.Lists.{map-append}
 use Rattle.serde_json.specs.Data.{Data}
 use Rattle.agg_model.specs.declared.settings.Settings.{Settings}
 use Rattle.agg_reading.specs.Entries.{Entry, body, change}
 use Rattle.agg_spec.specs.Index.{Index}
 use Rattle.agg_spec.specs.Outcome.{Request}
-use Rattle.agg_spec.specs.Requests.{Segment, segments, request_of, with_request, to_full_waves, cut_short}
+use Rattle.agg_spec.specs.Requests.{Segment, segments, request_of, with_request, to_full_waves}
 use Rattle.agg_spec.specs.Rounds.{Round}
-use Rattle.agg_spec.specs.Answers.{Recent, ArePages, AreWaves, AreFormed, AreRounds, page_after, with_rounds}
-use Rattle.agg_spec.specs.Reduction.{batches}
+use Rattle.agg_spec.specs.Answers.{ArePages, AreWaves, AreRounds, page_after}
 use Rattle.script_answers.proofs.Batches.{none-batched, one-batched, first-batched, full-behind}
 
 -- ---- rounds behind rounds

@@ -1,11 +1,10 @@
 -- A wave, and a settings line, in front of what follows.
-use Rattle.std.specs.Prelude.{◌≡◌, ◌≤◌, ◌<◌, ℕ, List, [], ◌∷◌, ◌++◌, map, take, length, flat_map, Option, Some, None}
-use Rattle.std.proofs.Common.{◌∙◌, refl, sym, ap, subst, append_assoc, append-nil, arith}
+use Rattle.std.specs.Prelude.{◌≡◌, ◌≤◌, ◌<◌, ℕ, List, [], ◌∷◌, ◌++◌, map, length, Option, Some, None}
+use Rattle.std.proofs.Common.{◌∙◌, refl, sym, ap, subst, append_assoc, append-nil}
 use Rattle.list_laws.proofs.Lists.{flat_map-append}
 use Rattle.std.proofs.lemmas.List.{length-map}
 use Rattle.serde_json.specs.Data.{Data}
 use Rattle.agg_model.specs.declared.settings.Settings.{Settings}
-use Rattle.agg_model.specs.declared.outcome.Answered.{Answered}
 use Rattle.agg_model.specs.declared.breaker.Totals.{Totals}
 use Rattle.agg_reading.specs.Lines.{ScriptRefusal}
 use Rattle.agg_spec.specs.Statistics.{AreTotals}

@@ -1,6 +1,6 @@
 -- A whole third section: what was written of it so far, and how it ends.
-use Rattle.std.specs.Prelude.{◌≡◌, ◌≤◌, ℕ, Bool, List, [], ◌∷◌, ◌++◌, length, take, Option, Some, None, Ok, Err}
-use Rattle.std.proofs.Common.{◌∙◌, refl, sym, ap, subst, append_assoc, append-nil}
+use Rattle.std.specs.Prelude.{◌≡◌, ℕ, Bool, List, [], ◌∷◌, ◌++◌, Option, Some}
+use Rattle.std.proofs.Common.{◌∙◌, sym, ap, subst, append_assoc, append-nil}
 use Rattle.agg_model.specs.Lines.{Line as InputLine, lines}
 use Rattle.agg_model.specs.declared.settings.Settings.{Settings}
 use Rattle.agg_reading.specs.Entries.{Entry, Entries, entries, no_more, refused_with}

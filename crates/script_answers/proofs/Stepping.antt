@@ -1,6 +1,6 @@
 -- One step of an output behind another, and where a step is cut short.
-use Rattle.std.specs.Prelude.{◌≡◌, ◌⊎◌, ℕ, List, [], ◌∷◌, ◌++◌, Option, Some, None}
-use Rattle.std.proofs.Common.{inl, inr, ◌∙◌, refl, sym, ap, subst, append_assoc, ⊎_elim}
+use Rattle.std.specs.Prelude.{◌≡◌, ℕ, List, [], ◌∷◌, ◌++◌, Option, Some, None}
+use Rattle.std.proofs.Common.{inl, inr, ◌∙◌, sym, ap, subst, append_assoc, ⊎_elim}
 use Rattle.agg_model.specs.declared.settings.Settings.{Settings}
 use Rattle.agg_reading.specs.Entries.{Entry, Entries}
 use Rattle.agg_reading.specs.Lines.{ScriptRefusal}

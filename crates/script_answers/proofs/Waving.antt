@@ -6,8 +6,8 @@ use Rattle.agg_model.specs.declared.outcome.Answered.{Answered}
 use Rattle.agg_spec.specs.Index.{Index}
 use Rattle.agg_spec.specs.Outcome.{Request}
 use Rattle.agg_spec.specs.Rounds.{Round}
-use Rattle.agg_spec.specs.Answers.{Recent, IsAllowed, with_rounds}
-use Rattle.agg_spec.specs.Written.{Line, answer, round_lines}
+use Rattle.agg_spec.specs.Answers.{Recent, IsAllowed}
+use Rattle.agg_spec.specs.Written.{answer, round_lines}
 use Rattle.script_answers.specs.Answering.{AnswersRound}
 use Rattle.script_answers.specs.Puts.{Puts}
 use Rattle.script_answers.specs.Waves.{PutsWave}

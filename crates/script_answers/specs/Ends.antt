@@ -8,7 +8,7 @@ use Rattle.script_lines.specs.declared.fault.ScriptFault.TheVariants as fault
 use Rattle.script_answers.specs.Puts.{Breaks, Wants}
 use Rattle.script_answers.specs.Steps.{WroteLines}
 use Rattle.script_answers.specs.declared.end.ScriptEnd.{ScriptEnd}
-use Rattle.script_answers.specs.declared.end.ScriptEnd.TheVariants.{Finished, Refused, Read, Write, Memory}
+use Rattle.script_answers.specs.declared.end.ScriptEnd.TheVariants.{Refused, Read, Write, Memory}
 use Rattle.script_answers.specs.declared.stop.Stop.{Stop}
 use Rattle.script_answers.specs.declared.stop.Stop.TheVariants as stop
 

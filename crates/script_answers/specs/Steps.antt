@@ -1,5 +1,5 @@
 -- What is written of the output of a script, step by step, and where it ends.
-use Rattle.std.specs.Prelude.{◌≡◌, ◌≢◌, ℕ, List, [], ◌∷◌, ◌++◌, Option, Result, Ok, Err, IsTrue}
+use Rattle.std.specs.Prelude.{◌≡◌, ◌≢◌, ℕ, List, [], ◌++◌, Option, IsTrue}
 use Rattle.std.specs.Io.KnownBytes.{append_known}
 use Rattle.agg_model.specs.declared.settings.Settings.{Settings}
 use Rattle.agg_reading.specs.Entries.{Entry, Entries}
@@ -7,7 +7,7 @@ use Rattle.agg_spec.specs.Index.{Index}
 use Rattle.agg_spec.specs.Answers.{Change, Recent}
 use Rattle.agg_spec.specs.Written.{Line, line_text, ended_line, is_printed, all_printed, text_of}
 use Rattle.script_entries.specs.Reading.{behind}
-use Rattle.script_answers.specs.Rest.{EndsWell, EndsEarly, EndsRefused, IsRest, IsCut}
+use Rattle.script_answers.specs.Rest.{EndsWell, EndsEarly, EndsRefused, IsCut}
 use Rattle.script_answers.specs.declared.end.ScriptEnd.{ScriptEnd}
 use Rattle.script_answers.specs.declared.end.ScriptEnd.TheVariants.{Finished, Refused, Read, Write, Memory}
 

@@ -1,5 +1,5 @@
 -- The lines of a wave, of a settings line and of the statistics, as far as they are written.
-use Rattle.std.specs.Prelude.{◌≡◌, ℕ, List, [], ◌∷◌, Option, Some, Result, OnOk}
+use Rattle.std.specs.Prelude.{◌≡◌, ℕ, List, [], ◌∷◌, Option, Result, OnOk}
 use Rattle.serde_json.specs.Data.{Data}
 use Rattle.agg_model.specs.declared.breaker.Totals.{Totals}
 use Rattle.agg_model.specs.declared.settings.Settings.{Settings}
@@ -8,8 +8,8 @@ use Rattle.agg_spec.specs.Index.{Index}
 use Rattle.agg_spec.specs.Outcome.{Request}
 use Rattle.agg_spec.specs.Rounds.{Round}
 use Rattle.agg_spec.specs.Statistics.{AreTotals}
-use Rattle.agg_spec.specs.Answers.{Recent, IsAllowed, AreRounds, with_rounds, changed_by, after_line}
-use Rattle.agg_spec.specs.Written.{Line, settings, statistics, round_lines}
+use Rattle.agg_spec.specs.Answers.{Recent, IsAllowed, AreRounds, with_rounds, changed_by}
+use Rattle.agg_spec.specs.Written.{settings, statistics, round_lines}
 use Rattle.script_answers.specs.Puts.{Puts}
 use Rattle.script_answers.specs.declared.stop.Stop.{Stop}
 

@@ -1,9 +1,8 @@
-use Rattle.std.proofs.Common.{◌≡◌, ◌∙◌, ◌≤◌, List, ap, sym, subst, length, map, Err}
+use Rattle.std.proofs.Common.{◌∙◌, ◌≤◌, ap, sym, subst, map, Err}
 use Rattle.std.proofs.lemmas.List.{length-map}
 use Rattle.std.proofs.lemmas.Result.{err_from_is_err_and}
 use Rattle.agg_spec.specs.Requests.{request_of}
 use Rattle.script_answers.proofs.Waving.{wave-none, wave-wrote, wave-wants, some-items}
-use Rattle.script_answers.specs.Waves.{PutsWave}
 use Rattle.script_answers.proofs.wave.answer_wave.Goals as goal
 
 pub returns-then-is_empty-clause-puts : goal.returns-then-is_empty-clause-puts

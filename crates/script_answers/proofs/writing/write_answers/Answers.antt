@@ -1,4 +1,3 @@
-use Rattle.std.proofs.Common.{◌∙◌, ap, sym}
 use Rattle.std.proofs.lemmas.Result.{err_from_is_err_and}
 use Rattle.script_answers.proofs.Putting.{answers-stop}
 use Rattle.script_answers.proofs.writing.write_answers.Goals as goal
