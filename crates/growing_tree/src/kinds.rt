@@ -25,10 +25,9 @@ pub fn code_bytes(shard: &Shard, kind: &Kind, ready: &ReadyKind, code: i64) -> u
     }
 }
 
-/// Puts the codes of the keys of a row, in the order of the keys, in the place of what the list has.
-///
-/// `AllocError` says that memory is wanted, or that the rows of this kind have no keys of their own (`ReadyKind::Single` and
-/// `ReadyKind::Metric`), and then nothing is said of the list. Time and memory are those of `terms_agg::codes`.
+/// Puts the codes of the keys of a row, in the order of the keys, in the place of what the list has: 0 for the one key of a
+/// single bucket, and none for a metric. Where memory is wanted, nothing is said of the list. Time and memory are those of
+/// `terms_agg::codes`.
 pub fn row_codes(
     shard: &Shard,
     kind: &Kind,
@@ -43,10 +42,18 @@ pub fn row_codes(
         ≡ keys shard.now.rows kind.now (row_of shard.now.rows row)) }
 {
     match ready {
+        ReadyKind::Single => {
+            codes.clear();
+            codes.push(0)?;
+            Ok(())
+        }
         ReadyKind::Terms(terms) => {
             codes_of_row(shard, terms, row, codes)?;
             Ok(())
         }
-        ReadyKind::Single | ReadyKind::Metric => Err(AllocError),
+        ReadyKind::Metric => {
+            codes.clear();
+            Ok(())
+        }
     }
 }
