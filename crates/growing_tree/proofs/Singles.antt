@@ -14,7 +14,7 @@ use Rattle.agg_evaluation.specs.Rows.{PlacedRow}
 use Rattle.agg_evaluation.proofs.Computing.{computing}
 use Rattle.list_laws.specs.Sorting.{insert_once}
 use Rattle.growth_laws.specs.Gathering.{Gatherer, gathered_buckets, put_groups, put_rows}
-use Rattle.growing_tree.specs.Readiness.{has_single_key, is_metric}
+use Rattle.growing_tree.specs.Readiness.{has_single_key}
 
 abbrev one : List Key
 one = key.Fixed 0 ∷ []
@@ -43,19 +43,3 @@ single-gathered all gs (kind.ReverseNested c) row rows bs h =
     ap (λ ks. put_groups (group all (kind.ReverseNested c) (row ∷ rows)) gs (kind.ReverseNested c) ks bs) (keys-are (keys all (kind.ReverseNested c)) (λ r. refl) row rows)
     ∙ ap (λ rs. put_rows gs rs (key.Fixed 0) bs) (rows-are (keys all (kind.ReverseNested c)) (λ r. refl) (row ∷ rows))
 single-gathered all gs _ row rows bs h = absurd (false≢true h)
-
--- a row has the one key
-pub single-key : (all : List PlacedRow) (k : Kind) (row : PlacedRow) → IsTrue (has_single_key k) → one ≡ keys all k row
-single-key all kind.Global row h = refl
-single-key all (kind.Nested c) row h = refl
-single-key all (kind.ReverseNested c) row h = refl
-single-key all _ row h = absurd (false≢true h)
-
--- a row has no key in a metric
-pub metric-key : (all : List PlacedRow) (k : Kind) (row : PlacedRow) → IsTrue (is_metric k) → [] ≡ keys all k row
-metric-key all (kind.Sum f m) row h = refl
-metric-key all (kind.Min f m) row h = refl
-metric-key all (kind.Max f m) row h = refl
-metric-key all (kind.Avg f m) row h = refl
-metric-key all (kind.ValueCount f m) row h = refl
-metric-key all _ row h = absurd (false≢true h)

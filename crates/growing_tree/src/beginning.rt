@@ -26,7 +26,8 @@ use std::alloc::{AllocError, Global};
 /// of it are answered as want of memory. Time and memory are constant.
 pub fn bucket_bytes(shard: &Shard, kind: &Kind, ready: &Ready, code: i64) -> Result<u64, AllocError>
     requires ready { IsKindReady shard.now kind.now (out-Ready ready.now).kind }
-    ensures { IfOk result (λ n. n ≡ 128 + key_bytes (code_key shard.now (out-Ready ready.now).kind code) + (out-Ready ready.now).child_bytes) }
+    ensures { IfOk result (λ n.
+        n ≡ 128 + key_bytes (code_key shard.now (out-Ready ready.now).kind code) + (out-Ready ready.now).child_bytes) }
 {
     let key = code_bytes(shard, kind, &ready.kind, code);
     sum(sum(BUCKET_BYTES, key)?, ready.child_bytes)

@@ -64,8 +64,7 @@ impl Taken {
     }
 
     /// Takes the values of a field in a row, or what stands for them where it has none, in time by the values of the row and
-    /// without memory. Where more than 2^62 values were taken before, that is answered as want of memory, and the metric stays
-    /// as it was.
+    /// without memory. Where it has taken more than 2^62 values, that is answered as want of memory.
     pub fn take_row(
         &mut self,
         shard: &Shard,
