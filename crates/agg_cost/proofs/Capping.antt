@@ -11,7 +11,7 @@ alike_capped n = omega arith
 pub alike-add : (a b c d : ℕ) → Alike a b → Alike c d → Alike (a + c) (b + d)
 alike-add a b c d e f = omega arith
 
-same_or_great : (a b : ℕ) → Alike a b → (a ≡ b) ⊎ ((2 ^ 64 - 1 ≤ a) × (2 ^ 64 - 1 ≤ b))
+pub same_or_great : (a b : ℕ) → Alike a b → (a ≡ b) ⊎ ((2 ^ 64 - 1 ≤ a) × (2 ^ 64 - 1 ≤ b))
 same_or_great a b e =
     elim (nat_le (2 ^ 64 - 1) a) as (λ t. nat_le (2 ^ 64 - 1) a ≡ t → (a ≡ b) ⊎ ((2 ^ 64 - 1 ≤ a) × (2 ^ 64 - 1 ≤ b))) [
       | true ↦ λ t. let great : 2 ^ 64 - 1 ≤ a = grind (arith, nat_tests) in inr (great, omega arith)

@@ -8,3 +8,5 @@ pub mod Making
 pub mod Conditions
 pub mod Handing
 pub mod AggSizes
+pub mod CollectedRoots
+pub mod Totals

@@ -4,3 +4,4 @@ pub mod Fields
 pub mod Counters
 pub mod Made
 pub mod Staying
+pub mod Roots
