@@ -1,3 +1,4 @@
+-- Bounds on what a task can hold.
 pub mod Capped
 pub mod Paths
 pub mod Fields

@@ -1,1 +1,2 @@
+-- A generated script, line by line.
 pub mod Documents

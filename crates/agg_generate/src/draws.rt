@@ -1,3 +1,4 @@
+//! The numbers of a generated script, drawn one after another.
 ghost use Rattle.std.specs.Prelude.{◌≡◌, ◌<◌};
 ghost use Rattle.agg_spec.specs.Generator.{drawn, below};
 

@@ -1,3 +1,4 @@
+//! The script of `--generate`: its index line, its documents, and its one search.
 ghost use Rattle.std.specs.Prelude.{◌≡◌, ◌++◌, ◌∷◌, [], IfOk, OnOk, codes, decimal, string_bytes};
 ghost use Rattle.std.specs.List.{join_with_byte};
 ghost use Rattle.agg_generate.specs.Documents.{after_document, ended};

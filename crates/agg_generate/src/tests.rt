@@ -1,3 +1,4 @@
+//! A small script whole, and the length and hash of larger ones, as another program writes them.
 use crate::script::make;
 use agg_model::Generate;
 use std::test::Fail;

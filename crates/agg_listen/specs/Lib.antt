@@ -1,1 +1,2 @@
+-- Listeners.
 pub mod Standing

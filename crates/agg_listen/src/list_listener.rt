@@ -1,3 +1,4 @@
+//! A listener that keeps a list of what it heard.
 ghost use Rattle.std.specs.Prelude.{◌≡◌, ◌↔◌, List, [], Option, Some, None, IfOk, true, false};
 ghost use Rattle.std.specs.List.{slice_get};
 ghost use Rattle.agg_listen.specs.Standing.{Standing};

@@ -1,3 +1,4 @@
+//! Listeners of little and of more room.
 use crate::list_listener::ListListener;
 use crate::listener::{Listener, Told, tell};
 use std::test::Fail;

@@ -1,3 +1,4 @@
+-- The reduction of a batch.
 pub mod Parts
 pub mod Taken
 pub mod Ends

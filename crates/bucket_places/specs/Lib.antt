@@ -1,1 +1,2 @@
+-- The places of codes.
 pub mod Places

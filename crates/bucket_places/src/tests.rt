@@ -1,3 +1,4 @@
+//! Codes that are found and added, by both forms of the index.
 use crate::places::{Place, Places};
 use std::test::Fail;
 

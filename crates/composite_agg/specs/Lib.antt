@@ -1,3 +1,4 @@
+-- Keys and pages of composites.
 pub mod Sources
 pub mod Parts
 pub mod Pages

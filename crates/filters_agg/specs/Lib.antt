@@ -1,3 +1,4 @@
+-- Kinds whose buckets are queries.
 pub mod Filtering
 pub mod Numbers
 pub mod PreparedFilters

@@ -1,3 +1,4 @@
+//! The keys of rows at filters, filter and missing.
 ghost use Rattle.std.specs.Prelude.{◌≡◌, ◌<◌, IfOk, length};
 ghost use Rattle.filters_agg.specs.Filtering.{IsFiltering};
 ghost use Rattle.shard_columns.specs.Built.{columns_from};

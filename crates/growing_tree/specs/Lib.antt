@@ -1,3 +1,4 @@
+-- Trees that grow.
 pub mod Trees
 pub mod TreeFalls
 pub mod Taken

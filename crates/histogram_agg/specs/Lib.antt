@@ -1,2 +1,3 @@
+-- Keys of histograms, and codes for them.
 pub mod Codes
 pub mod Histogram

@@ -1,1 +1,2 @@
+-- Bounds on metrics.
 pub mod Bounded

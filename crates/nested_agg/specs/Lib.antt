@@ -1,1 +1,2 @@
+-- Rows by nesting.
 pub mod Nesting

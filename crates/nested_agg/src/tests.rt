@@ -1,3 +1,4 @@
+//! The rows at a nested path.
 ghost use Rattle.std.specs.Prelude.{◌≡◌, IfOk};
 ghost use Rattle.shard_columns.specs.Built.{columns_from};
 ghost use Rattle.shard_columns.specs.Example.{item_of, example_root, example_mapping, example_documents};

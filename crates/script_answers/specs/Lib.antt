@@ -1,3 +1,4 @@
+-- Answers to the third section of a script.
 pub mod Answering
 pub mod Ends
 pub mod Puts

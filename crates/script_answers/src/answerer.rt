@@ -1,3 +1,4 @@
+//! What is asked of one who answers the searches of a script.
 ghost use Rattle.std.specs.Prelude.{◌≡◌, ◌≤◌, ℕ, List as Items, length, map, IfOk};
 ghost use Rattle.agg_spec.specs.Answers.{Recent};
 ghost use Rattle.agg_spec.specs.Index.{Index};

@@ -1,3 +1,4 @@
+//! Why writing stopped.
 use std::alloc::AllocError;
 
 /// Why a line was not written whole.

@@ -1,1 +1,2 @@
+-- The third section of a script, entry by entry.
 pub mod Reading

@@ -1,3 +1,4 @@
+//! Bodies, settings lines and refusals in the third section of a script.
 use crate::reader::{Entry, next_entry};
 use agg_base::{Block, Lines, MemorySource};
 use agg_model::script_refusal::{BAD_HEADER, MISSING_BODY};

@@ -1,2 +1,3 @@
+-- The charges of a task.
 pub mod Charged
 pub mod Ended
