@@ -4,6 +4,7 @@
 #![tactic(auto)]
 
 mod beginning;
+mod groups;
 mod kinds;
 mod number;
 mod ready;
