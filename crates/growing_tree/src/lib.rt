@@ -4,6 +4,7 @@
 #![tactic(auto)]
 
 mod beginning;
+mod gathering;
 mod groups;
 mod kinds;
 mod number;
@@ -12,6 +13,7 @@ mod sums;
 mod tree;
 
 pub use beginning::{begin, bucket_bytes};
+pub use gathering::{count, gather};
 pub use kinds::{code_bytes, row_codes};
 pub use number::Taken;
 pub use ready::{Ready, ReadyKind};
