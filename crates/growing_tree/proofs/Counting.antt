@@ -1,5 +1,5 @@
 -- What more rows that an aggregation counts come to at one level.
-use Rattle.std.specs.Prelude.{◌≡◌, refl, ℕ, ℤ, zero, suc, ◌+◌, ◌≤◌, ◌<◌, true, false, List, [], ◌∷◌, ◌++◌, map, length, take, slice_get, Some, option_map, pos, sum_by, IsTrue}
+use Rattle.std.specs.Prelude.{◌≡◌, refl, ℕ, ℤ, ◌+◌, true, List, [], ◌∷◌, ◌++◌, map, length, take, slice_get, Some, option_map, pos, sum_by, IsTrue}
 use Rattle.std.proofs.Common.{sym, ◌∙◌, ap, subst, arith}
 use Rattle.std.proofs.Math.ListN.{get_or}
 use Rattle.std.proofs.lemmas.Bool.{false≢true}
@@ -16,6 +16,7 @@ use Rattle.agg_evaluation.specs.Cost.{node_cost}
 use Rattle.agg_evaluation.specs.Groups.{under}
 use Rattle.agg_evaluation.specs.Rows.{PlacedRow, row_of}
 use Rattle.evaluation_laws.proofs.CostLaws.{bytes}
+use Rattle.filters_agg.specs.Filtering.{IsFiltering}
 use Rattle.growth_laws.specs.Gathering.{Gatherer, counted, gathered_buckets, gathered_metric, gatherer_of, put_rows}
 use Rattle.growth_laws.specs.Growth.{metric_with}
 use Rattle.shard_columns.specs.Columns.{Columns}
@@ -26,7 +27,7 @@ use Rattle.growing_tree.specs.Shown.{HasBuckets, IsAlike, TakesRows, level_bucke
 use Rattle.growing_tree.specs.Trees.{level_node}
 use Rattle.growing_tree.specs.declared.ready.Ready.{Ready, out-Ready}
 use Rattle.growing_tree.specs.declared.ready.ReadyKind.{ReadyKind}
-use Rattle.growing_tree.specs.declared.ready.ReadyKind.TheVariants.{Single, Metric as Values, Terms}
+use Rattle.growing_tree.specs.declared.ready.ReadyKind.TheVariants.{Single, Metric as Values, Terms, Filters, Histogram, Composite}
 use Rattle.growing_tree.specs.declared.tree.Level.{Level}
 use Rattle.growing_tree.specs.declared.tree.Level.TheVariants.{Keyed, Fixed, Number}
 use Rattle.growing_tree.proofs.Finals.{keeps_all}
@@ -34,11 +35,21 @@ use Rattle.growing_tree.proofs.Levels.{cost-is, counted-keyed, counted-number, d
 use Rattle.growing_tree.proofs.Singles.{single-gathered}
 use Rattle.growing_tree.proofs.Steps.{put_all-more, take-more}
 
+-- filters keep all their buckets
+filtering-keeps : (k : Kind) → IsFiltering k → keeps_all k ≡ true
+filtering-keeps (kind.Filters names filters other) h = refl
+filtering-keeps (kind.Filter query) h = refl
+filtering-keeps (kind.Missing field) h = refl
+filtering-keeps _ h = absurd h
+
 -- an aggregation whose rows have their own keys keeps all its buckets
 pub keyed-keeps : (shard : Columns) (k : Kind) (r : ReadyKind) → IsKindReady shard k r → IsTrue (is_keyed r) → keeps_all k ≡ true
 keyed-keeps shard k Single h keyed = absurd (false≢true keyed)
 keyed-keeps shard k Values h keyed = absurd (false≢true keyed)
 keyed-keeps shard k (Terms p) h keyed = ap keeps_all h.kind_is
+keyed-keeps shard k (Filters p) h keyed = filtering-keeps k h.filtering
+keyed-keeps shard k (Histogram p) h keyed = ap keeps_all h.kind_is
+keyed-keeps shard k Composite h keyed = absurd (false≢true keyed)
 
 -- a list of one row
 pub one-item : (rows : List ℕ) → length rows ≡ 1 → rows ≡ get_or rows 0 0 ∷ []

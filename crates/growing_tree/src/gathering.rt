@@ -382,8 +382,23 @@ fn count_keyed(
 {
     if rows.len() == 1 {
         let mut codes = spare.pop().unwrap_or(Vec::new(alloc));
-        row_codes(shard, &agg.kind, &ready.kind, rows.as_slice()[0], &mut codes)?;
-        let added = put_codes(alloc, agg, ready, shard, rows, spare, codes.as_slice(), level)?;
+        row_codes(
+            shard,
+            &agg.kind,
+            &ready.kind,
+            rows.as_slice()[0],
+            &mut codes,
+        )?;
+        let added = put_codes(
+            alloc,
+            agg,
+            ready,
+            shard,
+            rows,
+            spare,
+            codes.as_slice(),
+            level,
+        )?;
         spare.push(codes)?;
         return Ok(added);
     }
@@ -477,7 +492,7 @@ pub fn count(
             )?;
             Ok(more)
         }
-        ReadyKind::Terms(_) => {
+        ReadyKind::Terms(_) | ReadyKind::Filters(_) | ReadyKind::Histogram(_) => {
             if !has_buckets(&tree.level) {
                 return Err(AllocError);
             }
@@ -488,5 +503,6 @@ pub fn count(
             take_rows(&agg.kind, shard, rows, &mut tree.level)?;
             Ok(0)
         }
+        ReadyKind::Composite => Err(AllocError),
     }
 }

@@ -16,17 +16,20 @@ use crate::number::Taken;
 use crate::ready::ReadyKind;
 use crate::tree::Level;
 use agg_model::{Kind, List};
+use filters_agg::codes as codes_of_filters;
+use histogram_agg::{codes as codes_of_histogram, key_bytes as key_bytes_of_interval};
 use shard_columns::Shard;
 use std::alloc::AllocError;
-use terms_agg::{codes as codes_of_row, key_bytes as key_bytes_of_code};
+use terms_agg::{codes as codes_of_terms, key_bytes as key_bytes_of_term};
 
 /// Whether the codes are numbers of buckets that exist from the start.
 pub(crate) fn has_fixed_keys(kind: &ReadyKind) -> bool
     ensures { IsTrue result → (shard : Columns) → HasFixedKeys shard kind.now }
 {
     match kind {
-        ReadyKind::Single | ReadyKind::Metric => true,
-        ReadyKind::Terms(_) => false,
+        ReadyKind::Single | ReadyKind::Metric | ReadyKind::Filters(_) | ReadyKind::Composite =>
+            true,
+        ReadyKind::Terms(_) | ReadyKind::Histogram(_) => false,
     }
 }
 
@@ -54,14 +57,16 @@ pub fn code_bytes(shard: &Shard, kind: &Kind, ready: &ReadyKind, code: i64) -> u
     ensures { result ≡ key_bytes (code_key shard.now ready.now code) }
 {
     match ready {
-        ReadyKind::Single | ReadyKind::Metric => 0,
-        ReadyKind::Terms(terms) => key_bytes_of_code(shard, terms, code),
+        ReadyKind::Single | ReadyKind::Metric | ReadyKind::Filters(_) | ReadyKind::Composite => 0,
+        ReadyKind::Terms(terms) => key_bytes_of_term(shard, terms, code),
+        ReadyKind::Histogram(histogram) => key_bytes_of_interval(histogram, code),
     }
 }
 
 /// Puts the codes of the keys of a row, in the order of the keys, in the place of what the list has: 0 for the one key of a
-/// single bucket, and none for a metric. Where memory is wanted, nothing is said of the list. Time and memory are those of
-/// `terms_agg::codes`.
+/// single bucket, and none for a metric. A composite has no codes, which is answered as want of memory: it never comes, since its
+/// page grows elsewhere. Where memory is wanted, nothing is said of the list. It takes time by the row's values, and memory only
+/// where the list has no room for the codes.
 pub fn row_codes(
     shard: &Shard,
     kind: &Kind,
@@ -82,13 +87,22 @@ pub fn row_codes(
             Ok(())
         }
         ReadyKind::Terms(terms) => {
-            codes_of_row(shard, terms, row, codes)?;
+            codes_of_terms(shard, terms, row, codes)?;
+            Ok(())
+        }
+        ReadyKind::Filters(filters) => {
+            codes_of_filters(shard, filters, row, codes)?;
+            Ok(())
+        }
+        ReadyKind::Histogram(histogram) => {
+            codes_of_histogram(shard, histogram, row, codes)?;
             Ok(())
         }
         ReadyKind::Metric => {
             codes.clear();
             Ok(())
         }
+        ReadyKind::Composite => Err(AllocError),
     }
 }
 

@@ -1,8 +1,7 @@
-use Rattle.std.proofs.Common.{sym, ◌∙◌, ap, subst, arith, rules, ⊎_elim, ◌≡◌, ◌<◌, ◌≤◌, ◌+◌, ◌-◌, ◌++◌, ℕ, ℤ, List, [], ◌∷◌, length, map, take, sum_by, get_or, w64, to_z, of_z, suc, pos}
-use Rattle.std.specs.Prelude.{slice_get, Some, flat_map, option_map}
+use Rattle.std.proofs.Common.{sym, ◌∙◌, ap, subst, arith, rules, ◌≡◌, ◌<◌, ◌≤◌, ◌+◌, ◌-◌, ℕ, ℤ, List, [], length, map, take, sum_by, get_or, w64, to_z, of_z, pos}
+use Rattle.std.specs.Prelude.{slice_get, flat_map, option_map}
 use Rattle.std.specs.List.{IsDistinct}
 use Rattle.std.specs.Ordering.{int_eq}
-use Rattle.std.proofs.Math.ListN.{set}
 use Rattle.std.proofs.lemmas.Bool.{false≢true}
 use Rattle.std.proofs.lemmas.Int.{to_z-of_z}
 use Rattle.std.proofs.lemmas.List.{length-map}
@@ -13,7 +12,7 @@ use Rattle.agg_evaluation.specs.Groups.{group, under}
 use Rattle.agg_evaluation.specs.Keys.{keys}
 use Rattle.agg_evaluation.specs.Rows.{row_of, beneath}
 use Rattle.evaluation_laws.proofs.CostLaws.{bytes}
-use Rattle.growth_laws.specs.Gathering.{counted, gathered_buckets, gathered_children, gatherer_of, put_rows}
+use Rattle.growth_laws.specs.Gathering.{counted, gathered_buckets, gatherer_of, put_rows}
 use Rattle.growing_tree.specs.Codes.{code_key, fixed_key}
 use Rattle.growing_tree.specs.Decoded.{decoded, decoded_children}
 use Rattle.growing_tree.specs.Readiness.{IsKindReady}
@@ -25,7 +24,7 @@ use Rattle.growing_tree.proofs.Codes.{codes-own}
 use Rattle.growing_tree.proofs.Ascents.{level-up}
 use Rattle.growing_tree.proofs.Counting.{groups-more, handed-is, keyed-counted, keyed-keeps, level-cost, metric-cost, metric-counted, one-item, single-counted}
 use Rattle.growing_tree.proofs.Finals.{groups-are, groups-within, many-rows, one-row}
-use Rattle.growing_tree.proofs.Levels.{children-ready, level-ready, decoded-is, cost-is, counted-none, empties-are, gathered-is}
+use Rattle.growing_tree.proofs.Levels.{children-ready, level-ready, counted-none, empties-are, gathered-is}
 use Rattle.growing_tree.proofs.Putting.{number-bytes, put-number}
 use Rattle.growing_tree.proofs.Steps.{found-buckets, found-cost, added-buckets, added-cost, item-at, mapped-at, put_all-more, take-more}
 use Rattle.growing_tree.proofs.gathering.+gather.Goals as goal
@@ -39,8 +38,7 @@ gather_children-gather-requires t c =
     let within : place < length c.args.ready.now = omega (arith, c.if-place-len.false, c.len.ensures) in
     let a_get = c.index-as_slice-place.is ∙ ap (λ xs. get_or xs place a) c.as_slice.ensures in
     let r_get = c.index-as_slice-place-in-loop-place.is ∙ ap (λ xs. get_or xs place r) c.as_slice-in-loop-place.ensures in
-    let less = item-most c.args.aggs.now place a below a_get in
-    (
+    let less = item-most c.args.aggs.now place a below a_get in (
       omega (arith, c.decreases, less),
       (
         c.requires.ready place a r (item-at c.args.aggs.now place a below a_get) (item-at c.args.ready.now place r within r_get),
@@ -282,8 +280,7 @@ count_keyed-put_groups-requires t c =
     let shard = c.args.shard.now in
     let k = (out-Agg c.args.agg.now).kind in
     let ready = (out-Ready c.args.ready.now).kind in
-    let own = codes-own shard k ready (level-ready shard c.args.agg.now c.args.ready.now c.requires.ready).kind in
-    (
+    let own = codes-own shard k ready (level-ready shard c.args.agg.now c.args.ready.now c.requires.ready).kind in (
       omega (arith, c.decreases),
       (
         c.requires.ready,

@@ -1,4 +1,4 @@
-use Rattle.std.proofs.Common.{ℕ, ◌+◌, ◌<◌, slice_index_or}
+use Rattle.std.proofs.Common.{ℕ, ◌+◌, ◌<◌}
 use Rattle.std.specs.Prelude.{slice_index}
 use Rattle.growing_tree.proofs.kinds.ascend.Given as goal
 

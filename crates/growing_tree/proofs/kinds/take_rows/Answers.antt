@@ -1,4 +1,4 @@
-use Rattle.std.proofs.Common.{◌∙◌, sym, ap, arith, ◌<◌, ◌++◌, ◌∷◌, [], map, take, length, get_or}
+use Rattle.std.proofs.Common.{◌∙◌, sym, ap, arith, ◌<◌, ◌∷◌, [], map, take, length, get_or}
 use Rattle.std.proofs.lemmas.Option.{slice_get-get_or}
 use Rattle.list_laws.proofs.Lists.{map-append}
 use Rattle.agg_evaluation.specs.Rows.{row_of}
