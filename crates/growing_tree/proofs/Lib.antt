@@ -12,3 +12,4 @@ pub mod Empties
 pub mod Ascents
 pub mod AggSizes
 pub mod Cuts
+pub mod Counting

@@ -33,9 +33,13 @@ pub fn bucket_bytes(shard: &Shard, kind: &Kind, ready: &Ready, code: i64) -> Res
     sum(sum(BUCKET_BYTES, key)?, ready.child_bytes)
 }
 
-// A bucket without rows.
+/// A bucket without rows.
 #[cycle(begin)]
-fn begin_bucket(alloc: Global, aggs: &List<Agg>, ready: &List<Ready>) -> Result<Growing, AllocError>
+pub(crate) fn begin_bucket(
+    alloc: Global,
+    aggs: &List<Agg>,
+    ready: &List<Ready>,
+) -> Result<Growing, AllocError>
     ensures count { IfOk result (λ b. b.count ≡ 0) }
     ensures children { IfOk result (λ b. (shard : Columns) →
         decoded_children (map (decoded shard) ready.now) b.children.items ≡ map empty_node aggs.now) }

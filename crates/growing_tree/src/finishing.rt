@@ -16,11 +16,13 @@ ghost use Rattle.growing_tree.specs.Readiness.{AreReadyFor, IsKindReady, IsReady
 ghost use Rattle.growing_tree.specs.Trees.{coded_buckets, numbered_buckets};
 ghost use Rattle.growing_tree.specs.declared.ready.Ready.{out-Ready};
 
+use crate::kinds::place_of;
 use crate::ready::{Ready, ReadyKind};
 use crate::sums::sum;
 use crate::tree::{Growing, Keyed, Level, Tree};
 use agg_model::{Agg, Bucket, Key, Kind, List, Node};
 use bucket_order::sort_by_key;
+use histogram_agg::key as key_of_interval;
 use shard_columns::Shard;
 use std::alloc::{AllocError, Global};
 use terms_agg::{has_key, key as key_of_term, trim};
@@ -37,7 +39,7 @@ fn key_at(place: usize) -> Result<Key, AllocError>
 fn fixed_key(code: i64) -> Result<Key, AllocError>
     ensures { IfOk result (λ k. k ≡ fixed_key_of code) }
 {
-    let place = usize::try_from(code).map_err(|_| AllocError)?;
+    let place = place_of(code)?;
     key_at(place)
 }
 
@@ -53,7 +55,10 @@ fn key_of_code(
     ensures { IfOk result (λ k. k ≡ code_key shard.now ready.now code) }
 {
     match ready {
-        ReadyKind::Single | ReadyKind::Metric => fixed_key(code),
+        ReadyKind::Single | ReadyKind::Metric | ReadyKind::Filters(_) | ReadyKind::Composite => {
+            fixed_key(code)
+        }
+        ReadyKind::Histogram(histogram) => Ok(key_of_interval(histogram, code)),
         ReadyKind::Terms(terms) => {
             if !has_key(shard, terms, code) {
                 return Err(AllocError);

@@ -1,10 +1,11 @@
 //! The tree of an aggregation over the rows of a shard, in the form in which it grows (Elasticsearch Reference 8,
 //! 'Aggregations'): the tree over no row, what a bucket costs before its first row, the codes that stand for the keys of a row,
-//! and the metric of the values taken so far.
+//! the metric of the values taken so far, more rows in a tree, and a tree that has all its rows as what the shard answers.
 #![tactic(auto)]
 
 mod beginning;
 mod finishing;
+mod gathering;
 mod groups;
 mod kinds;
 mod number;
@@ -14,6 +15,7 @@ mod tree;
 
 pub use beginning::{begin, bucket_bytes};
 pub use finishing::{finish, finish_children};
+pub use gathering::{count, gather};
 pub use kinds::{code_bytes, row_codes};
 pub use number::Taken;
 pub use ready::{Ready, ReadyKind};
