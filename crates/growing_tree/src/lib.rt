@@ -1,6 +1,6 @@
 //! The tree of an aggregation over the rows of a shard, in the form in which it grows (Elasticsearch Reference 8,
 //! 'Aggregations'): the tree over no row, what a bucket costs before its first row, the codes that stand for the keys of a row,
-//! and the metric of the values taken so far.
+//! the metric of the values taken so far, and the tree with more rows.
 #![tactic(auto)]
 
 mod beginning;
@@ -12,8 +12,8 @@ mod ready;
 mod sums;
 mod tree;
 
-pub use beginning::{begin, bucket_bytes};
-pub use gathering::{count, gather};
+pub use beginning::{begin, begin_trees, bucket_bytes};
+pub use gathering::{count, gather, gather_children};
 pub use kinds::{code_bytes, row_codes};
 pub use number::Taken;
 pub use ready::{Ready, ReadyKind};
