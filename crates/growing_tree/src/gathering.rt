@@ -1,4 +1,5 @@
-//! More rows in a tree.
+//! More rows in a tree: those that an aggregation counts go into the buckets of their keys, and in each bucket into the trees
+//! of the aggregations below.
 ghost use Rattle.std.specs.Prelude.{◌≡◌, ◌<◌, ◌+◌, All, IfOk, IsTrue, List as AnyList, OnOk, length, map, sum_by};
 ghost use Rattle.agg_model.specs.declared.key.Key.{Key};
 ghost use Rattle.agg_model.specs.declared.aggregation.Agg.{out-Agg};
@@ -27,9 +28,10 @@ use nested_agg::{rows_around, rows_beneath};
 use shard_columns::Shard;
 use std::alloc::{AllocError, Global};
 
-// More rows in each of the children, which are those of these aggregations.
+/// Puts more rows into each of the trees side by side, which are those of these aggregations: the children of one bucket. The
+/// answer is by how many bytes their cost rose. Lists of codes, errors and time as in `gather`.
 #[cycle(gather)]
-fn gather_children(
+pub fn gather_children(
     alloc: Global,
     aggs: &List<Agg>,
     ready: &List<Ready>,
@@ -407,7 +409,15 @@ fn count_keyed(
     Ok(added)
 }
 
-/// The tree with more rows that the aggregation is handed. The answer is by how many bytes its cost rose.
+/// Puts more rows that the aggregation is handed into its tree: a nested aggregation counts the rows at its path within them, a
+/// reverse nested one the rows of its context around them, and a global one, whose rows are those of the whole shard, none of
+/// them. The answer is by how many bytes the cost of the tree rose. `spare` lends the levels lists for the codes of a row, so
+/// that a single row takes no memory for them; what it has is no matter.
+///
+/// `AllocError` says that memory is wanted; that a count or a cost has more than 64 bits; that the tree or what is prepared has
+/// another form than the aggregation; that a composite is among them, whose page grows elsewhere; or that rows which a reverse
+/// nested aggregation is handed do not ascend, as those of a shard do. Nothing is said of the tree then. At each level it takes
+/// time n log n in the keys of the rows, and for each bucket that they go into by the logarithm of the buckets.
 #[cycle(gather)]
 pub fn gather(
     alloc: Global,
@@ -452,7 +462,8 @@ pub fn gather(
     }
 }
 
-/// The tree with more rows that the aggregation counts. The answer is by how many bytes its cost rose.
+/// Puts more rows that the aggregation counts into its tree, as those of the whole shard into that of a global aggregation. The
+/// answer is by how many bytes its cost rose. Lists of codes, errors and time as in `gather`.
 #[cycle(gather)]
 pub fn count(
     alloc: Global,

@@ -13,9 +13,9 @@ mod ready;
 mod sums;
 mod tree;
 
-pub use beginning::{begin, bucket_bytes};
+pub use beginning::{begin, begin_trees, bucket_bytes};
 pub use finishing::{finish, finish_children};
-pub use gathering::{count, gather};
+pub use gathering::{count, gather, gather_children};
 pub use kinds::{code_bytes, row_codes};
 pub use number::Taken;
 pub use ready::{Ready, ReadyKind};
