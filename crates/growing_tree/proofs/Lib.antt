@@ -10,3 +10,5 @@ pub mod Grouping
 pub mod Finals
 pub mod Empties
 pub mod Ascents
+pub mod ReadyLaws
+pub mod EmptyCosts

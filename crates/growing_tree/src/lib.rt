@@ -6,6 +6,7 @@
 mod beginning;
 mod kinds;
 mod number;
+mod preparing;
 mod ready;
 mod sums;
 mod tree;
@@ -13,5 +14,6 @@ mod tree;
 pub use beginning::{begin, bucket_bytes};
 pub use kinds::{code_bytes, row_codes};
 pub use number::Taken;
+pub use preparing::{prepare, prepare_all};
 pub use ready::{Ready, ReadyKind};
 pub use tree::Tree;
