@@ -8,3 +8,5 @@ pub mod ReadyFolds
 pub mod Readiness
 pub mod Shown
 pub mod Grouped
+pub mod Finished
+pub mod Starting
