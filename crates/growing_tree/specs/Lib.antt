@@ -8,3 +8,4 @@ pub mod ReadyFolds
 pub mod Readiness
 pub mod Shown
 pub mod Grouped
+pub mod Gathered
