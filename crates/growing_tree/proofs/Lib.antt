@@ -11,4 +11,5 @@ pub mod Finals
 pub mod Empties
 pub mod Ascents
 pub mod AggSizes
+pub mod Cuts
 pub mod Counting

@@ -9,3 +9,4 @@ pub mod Readiness
 pub mod Shown
 pub mod Grouped
 pub mod Gathered
+pub mod Finished
