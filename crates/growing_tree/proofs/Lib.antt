@@ -13,3 +13,5 @@ pub mod Ascents
 pub mod AggSizes
 pub mod Cuts
 pub mod Counting
+pub mod ReadyLaws
+pub mod EmptyCosts

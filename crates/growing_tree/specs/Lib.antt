@@ -10,3 +10,4 @@ pub mod Shown
 pub mod Grouped
 pub mod Gathered
 pub mod Finished
+pub mod Starting

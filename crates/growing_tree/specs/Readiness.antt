@@ -1,5 +1,5 @@
 -- A prepared aggregation that stands for an aggregation on a shard (Elasticsearch Reference 8, 'Aggregations').
-use Rattle.std.specs.Prelude.{◌≡◌, ℕ, Bool, true, false, List, [], ◌∷◌, map, sum_by, slice_get, Option, Some, option_and_then, IsTrue}
+use Rattle.std.specs.Prelude.{◌≡◌, ℕ, Bool, true, false, List, [], ◌∷◌, length, map, sum_by, slice_get, Option, Some, option_and_then, IsTrue}
 use Rattle.agg_model.specs.Options.{Options, options_of}
 use Rattle.agg_model.specs.declared.aggregation.Agg.{Agg, out-Agg}
 use Rattle.agg_model.specs.declared.aggregation.Kind.{Kind}
@@ -54,6 +54,7 @@ HasChildBytes a r = (out-Ready r).child_bytes ≡ sum_by node_cost (map empty_no
 pub record IsLevelReady (shard : Columns) (a : Agg) (r : Ready) : Type 0 where
   pub kind : IsKindReady shard (out-Agg a).kind (out-Ready r).kind
   pub child_bytes : HasChildBytes a r
+  pub many : length (out-Ready r).children ≡ length (out-Agg a).children
 
 -- the aggregation at the end of a way down, by places among siblings
 abbrev pub agg_at : List ℕ → Agg → Option Agg

@@ -72,7 +72,7 @@ pub fn begin_trees(
 }
 
 // The number of the buckets of filters.
-fn count_of(filters: &List<Query>, other: &Option<Text>) -> Result<usize, AllocError>
+pub(crate) fn count_of(filters: &List<Query>, other: &Option<Text>) -> Result<usize, AllocError>
     ensures { IfOk result (λ n. n ≡ option_map_or (λ name. length filters.now + 1) other.now (length filters.now)) }
 {
     match other {

@@ -44,27 +44,16 @@ pub(crate) fn is_allowed(prepared: &PreparedTerms, code: i64) -> bool
 }
 
 // The word of a code, which the shard or the prepared form lends.
-fn word_of<'a>(shard: &'a Shard, prepared: &'a PreparedTerms, code: i64) -> &'a [u8]
+fn word_of<'a>(shard: &'a Shard, prepared: &'a PreparedTerms, code: i64) -> &'a str
     ensures { result.now ≡ word_at (code_words shard.now prepared.now) code }
 {
     let words = i64::from(shard.words(prepared.field));
     if code >= 0 && code < words {
-        return shard.word(prepared.field, code as u32);
+        return shard.text(prepared.field, code as u32);
     }
     match &prepared.other {
-        Some(word) if code == words => word.as_str().as_bytes(),
-        _ => &[],
-    }
-}
-
-// The bytes as a text. All words of a shard are texts, so that those that are none never come: they are answered as want of
-// memory.
-fn text_of(alloc: Global, bytes: &[u8]) -> Result<Text, AllocError>
-    ensures { IfOk result (λ text. text ≡ bytes.now) }
-{
-    match str::from_utf8(bytes) {
-        Ok(text) => Text::of(alloc, text),
-        Err(_) => Err(AllocError),
+        Some(word) if code == words => word.as_str(),
+        _ => "",
     }
 }
 
@@ -81,7 +70,7 @@ pub fn key(
     match content_of_field(shard, prepared.field) {
         Content::Wholes => Ok(Key::Whole(i128::from(code))),
         Content::Flags => Ok(Key::Flag(code != 0)),
-        Content::Words => Ok(Key::Word(text_of(alloc, word_of(shard, prepared, code))?)),
+        Content::Words => Ok(Key::Word(Text::of(alloc, word_of(shard, prepared, code))?)),
     }
 }
 
