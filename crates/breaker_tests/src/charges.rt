@@ -1,9 +1,9 @@
-// Passes that charge in turn, and in two threads at once.
+//! Passes that charge in turn, and in two threads at once.
 ghost use Rattle.std.specs.Prelude.{◌≡◌, ◌+◌, ◌≤◌};
 ghost use Rattle.breaker_words.specs.Passes.{IsOf};
 
-use crate::{BreakerStats, Totals, Tripped, charge, close, give_back, stats};
 use agg_model::{Child, Limits, Which};
+use breaker_tree::{BreakerStats, Totals, Tripped, charge, close, give_back, stats};
 use breaker_words::{Pass, Trial, Words, join, set_ceiling, split};
 use std::test::Fail;
 use std::thread;

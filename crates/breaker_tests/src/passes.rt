@@ -1,5 +1,5 @@
-// Two passes that charge step by step, in turn.
-use crate::{
+//! Two passes that charge step by step, in turn.
+use breaker_words::{
     Child, Limits, Step, Trial, Which, Words, give_child, give_parent, join, look, set_ceiling,
     split, take_back_child, take_back_parent, try_child, try_parent,
 };

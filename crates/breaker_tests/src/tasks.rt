@@ -1,8 +1,8 @@
-// A task that grows, stands still, shrinks and is refused.
-use crate::{begin, give_up, settle};
+//! A task that grows, stands still, shrinks and is refused.
 use agg_model::{Limits, Tripped, Which};
 use breaker_words::{Words, set_ceiling};
 use std::test::Fail;
+use task_charges::{begin, give_up, settle};
 
 #[test]
 fn a_task_holds_one_number_after_another(rt: HostRuntime) -> Result<(), Fail> {

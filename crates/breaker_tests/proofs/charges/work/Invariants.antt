@@ -1,7 +1,7 @@
 use Rattle.std.proofs.Common.{◌≡◌, ◌+◌, ◌≤◌}
 use Rattle.breaker_words.specs.Passes.{IsOf}
 use Rattle.breaker_words.specs.declared.trial.Trial.TheVariants.{Rest}
-use Rattle.breaker_tree.proofs.tests.work.Given as goal
+use Rattle.breaker_tests.proofs.charges.work.Given as goal
 
 -- the pass is as it was, but for what it has counted
 abbrev pub invariant-loop-done : goal.invariant-loop-done
