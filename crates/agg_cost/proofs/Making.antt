@@ -20,7 +20,7 @@ use Rattle.column_query.proofs.PreparedCases.{all_at}
 use Rattle.filters_agg.specs.Filtering.{IsMadeFor}
 use Rattle.shard_columns.specs.Built.{IsShardOf}
 use Rattle.shard_columns.specs.Columns.{Columns}
-use Rattle.agg_cost.specs.Made.{IsAggFor}
+use Rattle.shard_columns.specs.Made.{IsAggFor}
 
 -- the aggregation's kind is made for the shard
 pub kind-made : (shard : Columns) (a : Agg) → IsAggFor shard a → IsMadeFor shard (out-Agg a).kind

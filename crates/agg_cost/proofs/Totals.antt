@@ -24,7 +24,7 @@ use Rattle.agg_cost.specs.Capped.{capped, Alike}
 use Rattle.agg_cost.specs.Paths.{reached_by}
 use Rattle.agg_cost.specs.Roots.{once_each, collected_by}
 use Rattle.agg_cost.specs.declared.paths.RowPaths.{RowPaths}
-use Rattle.agg_cost.specs.Made.{IsAggFor, IsSearchFor}
+use Rattle.shard_columns.specs.Made.{IsAggFor, IsSearchFor}
 use Rattle.agg_cost.proofs.Capping.{alike_capped, alike-mul, same_or_great}
 
 pub query-made : (shard : Columns) (s : Search) → IsSearchFor shard s → IsQueryFor shard 0 s.query

@@ -3,6 +3,5 @@ pub mod Capped
 pub mod Paths
 pub mod Fields
 pub mod Counters
-pub mod Made
 pub mod Staying
 pub mod Roots

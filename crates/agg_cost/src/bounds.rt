@@ -2,7 +2,7 @@
 ghost use Rattle.std.specs.Prelude.{◌≡◌, ◌+◌, ◌*◌, IfOk, List, length, map};
 ghost use Rattle.agg_cost.specs.Capped.{capped};
 ghost use Rattle.agg_cost.specs.Fields.{HasFields};
-ghost use Rattle.agg_cost.specs.Made.{IsAggFor};
+ghost use Rattle.shard_columns.specs.Made.{IsAggFor};
 ghost use Rattle.agg_cost.specs.Paths.{reached_by, AreBelow};
 ghost use Rattle.agg_evaluation.specs.Ceiling.{bucket_bound, key_bound, node_bound, path_count as number_of_paths};
 ghost use Rattle.agg_evaluation.specs.Counted.{IsApart};

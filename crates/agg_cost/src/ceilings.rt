@@ -2,7 +2,7 @@
 ghost use Rattle.std.specs.Prelude.{◌≡◌, IfOk, length, map, nat_lt};
 ghost use Rattle.std.specs.List.{list_any};
 ghost use Rattle.agg_cost.specs.Capped.{capped};
-ghost use Rattle.agg_cost.specs.Made.{IsAggFor, IsSearchFor};
+ghost use Rattle.shard_columns.specs.Made.{IsAggFor, IsSearchFor};
 ghost use Rattle.agg_cost.specs.Paths.{reached_by, AreBelow};
 ghost use Rattle.agg_evaluation.specs.Ceiling.{ceiling as ceiling_of, greatest_combinations, is_wide_at, node_bound};
 ghost use Rattle.agg_evaluation.specs.Ceiling.{within_greatest as unless_greater};

@@ -18,3 +18,4 @@ pub mod Beneath
 pub mod Rising
 pub mod Example
 pub mod Contexts
+pub mod Made
