@@ -1,5 +1,5 @@
 //! Codes that are found and added, by both forms of the index.
-use crate::places::{Place, Places};
+use bucket_places::{Place, Places};
 use std::test::Fail;
 
 #[test]

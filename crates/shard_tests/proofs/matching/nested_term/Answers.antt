@@ -5,14 +5,14 @@ use Rattle.agg_model.specs.declared.query.Query.{Query}
 use Rattle.agg_model.specs.declared.query.Query.TheVariants as query
 use Rattle.agg_evaluation.specs.QueryFits.{query_fits}
 use Rattle.agg_evaluation.proofs.Computing.{computing}
-use Rattle.column_query.specs.Example.{example_mapping}
-use Rattle.column_query.proofs.tests.first_alone.Goals as goal
+use Rattle.shard_tests.specs.Example.{example_mapping}
+use Rattle.shard_tests.proofs.matching.nested_term.Goals as goal
 
-query-fits : (w : List ℕ) → query_fits example_mapping 0 (query.Nested 0 (query.Term 1 (probe.Word w))) ≡ true
+query-fits : (w : List ℕ) → query_fits example_mapping 0 (query.Nested 0 (query.Term 0 (probe.Word w))) ≡ true
 unfolding computing Rattle.agg_model.specs.Contexts.is_in_context
 query-fits w = refl
 
-made-of : (q : Query) (w : List ℕ) → q ≡ query.Term 1 (probe.Word w) → query_fits example_mapping 0 (query.Nested 0 q) ≡ true
+made-of : (q : Query) (w : List ℕ) → q ≡ query.Term 0 (probe.Word w) → query_fits example_mapping 0 (query.Nested 0 q) ≡ true
 made-of q w is = ap (λ (x : Query). query_fits example_mapping 0 (query.Nested 0 x)) is ∙ query-fits w
 
 pub prepare-requires : goal.prepare-requires

@@ -1,15 +1,14 @@
-//! The rows at a nested path.
-ghost use Rattle.std.specs.Prelude.{◌≡◌, IfOk};
-ghost use Rattle.shard_columns.specs.Built.{columns_from};
-ghost use Rattle.shard_columns.specs.Example.{item_of, example_root, example_mapping, example_documents};
+//! The worked example of the tests: a shard of one document with three nested objects, of one word each.
+ghost use Rattle.std.specs.Prelude.{◌≡◌, ◌∷◌, [], IfOk};
+ghost use Rattle.agg_model.specs.declared.mapping.FieldKind.TheVariants.{Keyword};
+ghost use Rattle.shard_columns.specs.Built.{IsShardOf};
+ghost use Rattle.shard_tests.specs.Example.{item_of, example_root, example_mapping, example_documents};
 
-use crate::beneath::rows_beneath;
 use agg_model::{
     Children, Document, Field, FieldKind, FieldValues, List, Mapping, NestedPath, Row, Scalar, Text,
 };
 use shard_columns::Shard;
 use std::alloc::{AllocError, Global};
-use std::test::Fail;
 
 // A nested object with one word of the field 0.
 fn item(alloc: Global, word: &str) -> Result<Row, AllocError>
@@ -82,25 +81,13 @@ fn documents(alloc: Global) -> Result<List<Document>, AllocError>
     Ok(documents)
 }
 
-fn example(alloc: Global) -> Result<Shard, AllocError>
-    ensures { IfOk result (λ s. s ≡ columns_from example_mapping example_documents) }
+/// The shard of that document.
+pub(crate) fn sample_shard(alloc: Global) -> Result<Shard, AllocError>
+    ensures kinds { IfOk result (λ s. s.kinds ≡ Keyword ∷ []) }
+    ensures built { IfOk result (λ s. IsShardOf example_mapping s) }
 {
     let documents = documents(alloc)?;
     let mapping = mapping(alloc)?;
-    Shard::build(alloc, &documents, &mapping)
-}
-
-#[test]
-fn rows_at_a_path_within_rows(rt: HostRuntime) -> Result<(), Fail> {
-    let alloc = rt.alloc();
-    let shard = example(alloc)?;
-    assert_eq!(rt; shard.len(), 4);
-    let mut rows = List::new(alloc);
-    let none = rows_beneath(alloc, &shard, 0, &rows)?;
-    assert_eq!(rt; none.len(), 0);
-    rows.push(0)?;
-    rows.push(2)?;
-    let found = rows_beneath(alloc, &shard, 0, &rows)?;
-    assert_eq!(rt; found.as_slice(), [1, 2, 3, 2].as_slice());
-    Ok(())
+    let shard = Shard::build(alloc, &documents, &mapping)?;
+    Ok(shard)
 }

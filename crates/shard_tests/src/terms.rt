@@ -1,11 +1,12 @@
+//! The terms that a shard keeps.
 ghost use Rattle.std.specs.Prelude.{◌≡◌, ◌<◌, ◌^◌, IfOk, sum_by};
 ghost use Rattle.agg_evaluation.specs.Orders.{bucket_count};
 ghost use Rattle.terms_agg.specs.Trim.{node_buckets};
 
-use crate::trimming::trim;
 use agg_model::{Agg, Bucket, Key, Kind, List, Node, Order, OrderBy, Text};
 use std::alloc::{AllocError, Global};
 use std::test::Fail;
+use terms_agg::trim;
 
 fn terms(alloc: Global, shard_size: u32, order: Order) -> Result<Agg, AllocError> {
     let mut orders = List::new(alloc);

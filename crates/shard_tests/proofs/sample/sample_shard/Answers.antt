@@ -1,5 +1,5 @@
 -- The example's documents are such as its mapping gives.
-use Rattle.std.proofs.Common.{◌≡◌, refl, ◌<◌, ◌≤◌, ◌+◌, ◌∙◌, List, length, map, sym, ap, subst, arith, true}
+use Rattle.std.proofs.Common.{◌≡◌, refl, ◌<◌, ◌≤◌, ◌+◌, ◌^◌, List, length, sym, ◌∙◌, subst, arith, true}
 use Rattle.std.specs.Prelude.{IsTrue}
 use Rattle.agg_model.specs.declared.limits.TheConstants.{MAX_PATHS, WEIGHT_LIMIT}
 use Rattle.agg_model.specs.declared.mapping.Mapping.{Mapping}
@@ -10,16 +10,15 @@ use Rattle.agg_evaluation.specs.Rows.{rows_of_documents}
 use Rattle.agg_evaluation.specs.RowsWeight.{rows_weight}
 use Rattle.agg_evaluation.proofs.Computing.{computing}
 use Rattle.shard_columns.specs.Built.{columns_from}
-use Rattle.shard_columns.specs.Columns.{Columns}
-use Rattle.column_query.specs.Example.{example_mapping, example_documents}
-use Rattle.column_query.proofs.tests.example.Goals as goal
+use Rattle.shard_tests.specs.Example.{example_mapping, example_documents}
+use Rattle.shard_tests.proofs.sample.sample_shard.Goals as goal
 
 documents-fit : all_fit example_mapping example_documents ≡ true
 unfolding computing
 documents-fit = refl
 
--- five rows, eleven values and six bytes
-weight-is : rows_weight (rows_of_documents example_documents) ≡ 22
+-- four rows, three values and four bytes
+weight-is : rows_weight (rows_of_documents example_documents) ≡ 11
 unfolding computing
 weight-is = refl
 
@@ -36,10 +35,6 @@ returns-clause-built c =
       },
     ) ∣₁
 
-pub returns-clause-kinds : goal.returns-clause-kinds
-returns-clause-kinds c =
-    ap (λ (s : Columns). length s.kinds) c.in_ok-shard.ensures ∙ ap (λ (m : Mapping). length (map (λ f. f.kind) m.fields)) c.in_ok-mapping.ensures
-
 pub build-requires-clause-few : goal.build-requires-clause-few
 build-requires-clause-few c = subst (λ (m : Mapping). length m.fields + length m.nested ≤ MAX_PATHS) (sym c.in_ok-mapping.ensures) (omega arith)
 
@@ -47,7 +42,8 @@ pub build-requires-clause-paths : goal.build-requires-clause-paths
 build-requires-clause-paths c = subst (λ (m : Mapping). IsTrue (parents_before m)) (sym c.in_ok-mapping.ensures) refl
 
 pub build-requires-clause-fit : goal.build-requires-clause-fit
-build-requires-clause-fit c = (λ i. all_fit (c.in_ok-mapping.ensures i) (c.in_ok-documents.ensures i)) ∙ documents-fit
+build-requires-clause-fit c =
+    (λ i. all_fit (c.in_ok-mapping.ensures i) (c.in_ok-documents.ensures i)) ∙ documents-fit
 
 pub build-requires-clause-light : goal.build-requires-clause-light
 build-requires-clause-light c = subst (λ (ds : List Document). rows_weight (rows_of_documents ds) < WEIGHT_LIMIT) (sym c.in_ok-documents.ensures) (omega (arith, weight-is))
