@@ -1,8 +1,8 @@
 //! Bodies, settings lines and refusals in the third section of a script.
-use crate::reader::{Entry, next_entry};
 use agg_base::{Block, Lines, MemorySource};
 use agg_model::script_refusal::{BAD_HEADER, MISSING_BODY};
 use agg_model::{Bytes, List as Numbers, Text};
+use script_entries::{Entry, next_entry};
 use script_lines::{ScriptFault, ScriptRefusal};
 use std::alloc::Global;
 use std::test::Fail;

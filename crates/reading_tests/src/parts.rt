@@ -1,11 +1,10 @@
-use crate::at::At;
-use crate::bytes::{json, reading};
-use crate::members::{check_names, list, object, required, text};
-use crate::numbers::{choice, signed, signed_in, truth, truth_in, whole, whole_in};
-use crate::ranges::{fits_kind, is_longer, stored};
-use crate::scalars::{probe_of, word};
+//! The parts of JSON values, found or refused.
 use agg_model::{FieldKind, Probe, Text};
 use agg_reading::RequestFault;
+use json_walk::{
+    At, check_names, choice, fits_kind, is_longer, json, list, object, probe_of, reading, required,
+    signed, signed_in, stored, text, truth, truth_in, whole_in, word,
+};
 use serde_json::Value;
 use std::alloc::Global;
 use std::test::Fail;
@@ -69,22 +68,30 @@ fn numbers_words_and_booleans_are_read_or_refused(rt: HostRuntime) -> Result<(),
     let at = At::Start("");
     let a = rt.alloc();
     let five = value_of(a, b"5")?;
-    let zero = value_of(a, b"-0")?;
     let name = value_of(a, b"\"asc\"")?;
-    assert!(rt; whole(a, 1, 5, &at, &five) == Ok(5));
-    assert!(rt; is_bad(whole(a, 6, 9, &at, &five), 104, ""));
-    assert!(rt; is_bad(whole(a, 0, 9, &at, &zero), 104, ""));
-    assert!(rt; is_bad(whole(a, 0, 9, &at, &name), 103, ""));
     assert!(rt; signed(a, &at, &five) == Ok(5));
     assert!(rt; is_bad(truth(a, &at, &five), 103, ""));
     assert!(rt; choice(a, &["asc", "desc"], &at, &name) == Ok("asc"));
     assert!(rt; is_bad(choice(a, &["desc"], &at, &name), 104, ""));
-    let value = value_of(a, b"{\"n\":-7,\"t\":true,\"x\":null}")?;
-    if let Ok(members) = object(a, 103, &at, &value) {
-        assert!(rt; signed_in(a, "n", &at, members) == Ok(Some(-7)));
-        assert!(rt; truth_in(a, "t", &at, members) == Ok(Some(true)));
-        assert!(rt; whole_in(a, 0, 9, "y", &at, members) == Ok(None));
-        assert!(rt; is_bad(whole_in(a, 0, 9, "x", &at, members), 103, "/x"));
+    let value = value_of(
+        a,
+        b"{\"n\":-7,\"t\":true,\"x\":null,\"five\":5,\"zero\":-0,\"name\":\"asc\"}",
+    )?;
+    let Ok(members) = object(a, 103, &at, &value) else {
+        assert!(rt; false);
+        return Ok(());
+    };
+    assert!(rt; signed_in(a, "n", &at, members) == Ok(Some(-7)));
+    assert!(rt; truth_in(a, "t", &at, members) == Ok(Some(true)));
+    assert!(rt; whole_in(a, 1, 5, "five", &at, members) == Ok(Some(5)));
+    assert!(rt; whole_in(a, 0, 9, "y", &at, members) == Ok(None));
+    for (low, name, code, pointer) in [
+        (6, "five", 104, "/five"),
+        (0, "zero", 104, "/zero"),
+        (0, "name", 103, "/name"),
+        (0, "x", 103, "/x"),
+    ] {
+        assert!(rt; is_bad(whole_in(a, low, 9, name, &at, members), code, pointer));
     }
     Ok(())
 }

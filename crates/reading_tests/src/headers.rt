@@ -1,9 +1,10 @@
-use crate::fault::{ScriptFault, ScriptRefusal};
-use crate::header::{Header, header_of};
-use crate::line::{is_empty_line, next_line, take_line};
+//! Headers, settings lines and lines that a script lacks.
 use agg_base::{Block, Lines, MemorySource};
 use agg_model::script_refusal::{BAD_HEADER, MISSING_SECTION};
 use agg_model::{Bytes, List as Numbers, Text};
+use script_lines::{
+    Header, ScriptFault, ScriptRefusal, header_of, is_empty_line, next_line, take_line,
+};
 use std::alloc::{AllocError, Global};
 use std::test::Fail;
 

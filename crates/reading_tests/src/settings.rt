@@ -1,9 +1,6 @@
-use crate::amount::byte_size;
-use crate::change_fault::ChangeFault;
-use crate::fault::SettingsFault;
-use crate::settings::settings_of;
-use crate::settings_line::{change, is_settings_line};
+//! Words of the command line and settings lines, read or refused.
 use agg_model::{Generate, Limits, Settings, Text};
+use agg_settings::{ChangeFault, SettingsFault, byte_size, change, is_settings_line, settings_of};
 use json_walk::reading;
 use std::alloc::{AllocError, Global};
 use std::test::Fail;

@@ -1,11 +1,10 @@
+//! Lines of an input, whole and with faults, and what a sink takes.
 ghost use Rattle.std.specs.Prelude.{◌≤◌};
 
-use crate::adapters::{StdSink, StdSource};
-use crate::lines::{Block, LineFault, Lines};
-use crate::memory_sink::MemorySink;
-use crate::memory_source::MemorySource;
-use crate::sink::{Sink, write_all};
-use crate::source::{Failed, Source};
+use agg_base::{
+    Block, Failed, LineFault, Lines, MemorySink, MemorySource, Sink, Source, StdSink, StdSource,
+    write_all,
+};
 use agg_model::{Bytes, List as Numbers};
 use std::alloc::{AllocError, Global};
 use std::io;
