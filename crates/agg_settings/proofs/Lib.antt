@@ -6,3 +6,4 @@ mod RefusedWords
 pub mod ComputingLines
 mod ChangedSettings
 pub mod ChangesKeep
+mod OneAtOnce

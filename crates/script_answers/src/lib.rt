@@ -16,3 +16,5 @@ mod writing;
 pub use answerer::{Answerer, Reopening};
 pub use end::ScriptEnd;
 pub use running::answer_script;
+pub use stop::Stop;
+pub use writing::{write_line, write_refusal};

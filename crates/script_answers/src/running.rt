@@ -6,10 +6,13 @@ ghost use Rattle.agg_base.specs.Outside.{Rose};
 ghost use Rattle.agg_model.specs.Lines.{Line, lines as lines_of};
 ghost use Rattle.agg_reading.specs.Entries.{Entries};
 ghost use Rattle.agg_settings.specs.Changes.{changed};
+ghost use Rattle.agg_settings.specs.Ranges.{AreInRange};
+ghost use Rattle.agg_spec.specs.Answers.{Recent};
 ghost use Rattle.agg_spec.specs.Output.{whole_lines};
 ghost use Rattle.script_entries.specs.Reading.{HasRead};
 ghost use Rattle.script_lines.specs.declared.fault.ScriptFault.TheVariants as script_fault;
 ghost use Rattle.script_answers.specs.Ends.{end_of, EndsAt};
+ghost use Rattle.script_answers.specs.Answering.{MayBe};
 ghost use Rattle.script_answers.specs.Steps.{Wrote};
 ghost use Rattle.script_answers.specs.declared.end.ScriptEnd.TheVariants as ended;
 
@@ -69,12 +72,13 @@ pub fn answer_script<S: Source, K: Sink, A: Answerer>(
     words: &Settings,
 ) -> ScriptEnd
     requires kept { kept lines.old ≡ None }
-    requires some { 1 ≤ words.now.width }
-    requires wide { (A.recent answerer).settings.width ≡ words.now.width }
+    requires in_range { AreInRange words.now }
+    requires wide { (A.in_force answerer).width ≡ words.now.width }
 
     // Where the source tells its bytes, by the entries of the whole input and by those of the whole lines that were read.
-    ensures output { (bytes : Items ℕ) (whole : Items Line → Entries) → HasRead whole bytes [] lines.old →
-        Wrote changed words.now (A.index answerer) (A.columns answerer) (A.recent answerer) (whole (lines_of bytes))
+    ensures output { (recent : Recent) → MayBe (A.in_force answerer) (A.answered answerer) recent →
+        (bytes : Items ℕ) (whole : Items Line → Entries) → HasRead whole bytes [] lines.old →
+        Wrote changed words.now (A.index answerer) (A.columns answerer) recent (whole (lines_of bytes))
         (whole (whole_lines (take (bytes_read lines.new) bytes))) result (K.written sink.old) (K.written sink.new) }
 
     // Why each end comes.

@@ -5,6 +5,9 @@ ghost use Rattle.agg_base.specs.Outside.{Rose};
 ghost use Rattle.agg_reading.specs.Entries as entry;
 ghost use Rattle.agg_reading.specs.Entries.{Entries, no_more};
 ghost use Rattle.agg_reading.specs.SettingsLines.{is_settings_line};
+ghost use Rattle.agg_spec.specs.Answers.{Recent};
+ghost use Rattle.script_answers.specs.Answering.{MayBe, fresh_with};
+ghost use Rattle.agg_settings.specs.Ranges.{AreInRange};
 ghost use Rattle.script_entries.specs.Reading.{IsFormed, behind, entry_of};
 ghost use Rattle.script_answers.specs.Stepping.{bodies_of, IsReady, TakesEntry, StopsAt, Finishes};
 
@@ -33,11 +36,16 @@ fn take_body<K: Sink, A: Answerer>(
     words: &Settings,
     body: Bytes,
 ) -> Result<Waiting<A>, Stop>
-    requires ready { IsReady words.now (A.recent waiting.answerer) waiting.wave }
-    ensures takes { IfOk result (λ now. TakesEntry words.now (A.index waiting.answerer) (A.columns waiting.answerer) (A.recent waiting.answerer) waiting.wave
-        (entry.body body) (K.written sink.old) (K.written sink.new) (A.recent now.answerer) now.wave) }
-    ensures ready { IfOk result (λ now. IsReady words.now (A.recent now.answerer) now.wave) }
-    ensures stops { IfErr result (λ stop. (left : Entries) → StopsAt words.now (A.index waiting.answerer) (A.columns waiting.answerer) (A.recent waiting.answerer)
+    requires ready { IsReady words.now (fresh_with (A.in_force waiting.answerer)) waiting.wave }
+    ensures takes { IfOk result (λ now. (recent : Recent) →
+        MayBe (A.in_force waiting.answerer) (A.answered waiting.answerer) recent → (next : Recent)
+        × TakesEntry words.now (A.index waiting.answerer) (A.columns waiting.answerer) recent waiting.wave
+        (entry.body body) (K.written sink.old) (K.written sink.new) next now.wave
+        × MayBe (A.in_force now.answerer) (A.answered now.answerer) next) }
+    ensures ready { IfOk result (λ now. IsReady words.now (fresh_with (A.in_force now.answerer)) now.wave) }
+    ensures stops { IfErr result (λ stop. (recent : Recent) →
+        MayBe (A.in_force waiting.answerer) (A.answered waiting.answerer) recent → (left : Entries) →
+        StopsAt words.now (A.index waiting.answerer) (A.columns waiting.answerer) recent
         (behind (bodies_of waiting.wave ++ entry.body body ∷ []) left) (K.written sink.old) (K.written sink.new) stop) }
     ensures same_index { IfOk result (λ now. A.index now.answerer ≡ A.index waiting.answerer) }
     ensures same_columns { IfOk result (λ now. A.columns now.answerer ≡ A.columns waiting.answerer) }
@@ -67,12 +75,18 @@ fn take_settings<K: Sink, A: Answerer>(
     words: &Settings,
     line: &Value,
 ) -> Result<Waiting<A>, Stop>
-    requires ready { IsReady words.now (A.recent waiting.answerer) waiting.wave }
+    requires ready { IsReady words.now (fresh_with (A.in_force waiting.answerer)) waiting.wave }
     requires line { is_settings_line (view line.now) ≡ true }
-    ensures takes { IfOk result (λ now. TakesEntry words.now (A.index waiting.answerer) (A.columns waiting.answerer) (A.recent waiting.answerer) waiting.wave
-        (entry.change (view line.now)) (K.written sink.old) (K.written sink.new) (A.recent now.answerer) now.wave) }
-    ensures ready { IfOk result (λ now. IsReady words.now (A.recent now.answerer) now.wave) }
-    ensures stops { IfErr result (λ stop. (left : Entries) → StopsAt words.now (A.index waiting.answerer) (A.columns waiting.answerer) (A.recent waiting.answerer)
+    requires in_range { AreInRange words.now }
+    ensures takes { IfOk result (λ now. (recent : Recent) →
+        MayBe (A.in_force waiting.answerer) (A.answered waiting.answerer) recent → (next : Recent)
+        × TakesEntry words.now (A.index waiting.answerer) (A.columns waiting.answerer) recent waiting.wave
+        (entry.change (view line.now)) (K.written sink.old) (K.written sink.new) next now.wave
+        × MayBe (A.in_force now.answerer) (A.answered now.answerer) next) }
+    ensures ready { IfOk result (λ now. IsReady words.now (fresh_with (A.in_force now.answerer)) now.wave) }
+    ensures stops { IfErr result (λ stop. (recent : Recent) →
+        MayBe (A.in_force waiting.answerer) (A.answered waiting.answerer) recent → (left : Entries) →
+        StopsAt words.now (A.index waiting.answerer) (A.columns waiting.answerer) recent
         (behind (bodies_of waiting.wave ++ entry.change (view line.now) ∷ []) left) (K.written sink.old) (K.written sink.new) stop) }
     ensures same_index { IfOk result (λ now. A.index now.answerer ≡ A.index waiting.answerer) }
     ensures same_columns { IfOk result (λ now. A.columns now.answerer ≡ A.columns waiting.answerer) }
@@ -96,12 +110,18 @@ pub(crate) fn take_entry<K: Sink, A: Answerer>(
     words: &Settings,
     entry: Entry,
 ) -> Result<Waiting<A>, Stop>
-    requires ready { IsReady words.now (A.recent waiting.answerer) waiting.wave }
+    requires ready { IsReady words.now (fresh_with (A.in_force waiting.answerer)) waiting.wave }
     requires formed { IsFormed (Some entry) }
-    ensures takes { IfOk result (λ now. TakesEntry words.now (A.index waiting.answerer) (A.columns waiting.answerer) (A.recent waiting.answerer) waiting.wave
-        (entry_of entry) (K.written sink.old) (K.written sink.new) (A.recent now.answerer) now.wave) }
-    ensures ready { IfOk result (λ now. IsReady words.now (A.recent now.answerer) now.wave) }
-    ensures stops { IfErr result (λ stop. (left : Entries) → StopsAt words.now (A.index waiting.answerer) (A.columns waiting.answerer) (A.recent waiting.answerer)
+    requires in_range { AreInRange words.now }
+    ensures takes { IfOk result (λ now. (recent : Recent) →
+        MayBe (A.in_force waiting.answerer) (A.answered waiting.answerer) recent → (next : Recent)
+        × TakesEntry words.now (A.index waiting.answerer) (A.columns waiting.answerer) recent waiting.wave
+        (entry_of entry) (K.written sink.old) (K.written sink.new) next now.wave
+        × MayBe (A.in_force now.answerer) (A.answered now.answerer) next) }
+    ensures ready { IfOk result (λ now. IsReady words.now (fresh_with (A.in_force now.answerer)) now.wave) }
+    ensures stops { IfErr result (λ stop. (recent : Recent) →
+        MayBe (A.in_force waiting.answerer) (A.answered waiting.answerer) recent → (left : Entries) →
+        StopsAt words.now (A.index waiting.answerer) (A.columns waiting.answerer) recent
         (behind (bodies_of waiting.wave ++ entry_of entry ∷ []) left) (K.written sink.old) (K.written sink.new) stop) }
     ensures same_index { IfOk result (λ now. A.index now.answerer ≡ A.index waiting.answerer) }
     ensures same_columns { IfOk result (λ now. A.columns now.answerer ≡ A.columns waiting.answerer) }
@@ -121,10 +141,14 @@ pub(crate) fn finish<K: Sink, A: Answerer>(
     waiting: Waiting<A>,
     words: &Settings,
 ) -> Result<(), Stop>
-    requires ready { IsReady words.now (A.recent waiting.answerer) waiting.wave }
-    ensures finishes { OnOk result (Finishes words.now (A.index waiting.answerer) (A.columns waiting.answerer) (A.recent waiting.answerer)
+    requires ready { IsReady words.now (fresh_with (A.in_force waiting.answerer)) waiting.wave }
+    ensures finishes { OnOk result ((recent : Recent) →
+        MayBe (A.in_force waiting.answerer) (A.answered waiting.answerer) recent →
+        Finishes words.now (A.index waiting.answerer) (A.columns waiting.answerer) recent
         (behind (bodies_of waiting.wave) no_more) (K.written sink.old) (K.written sink.new)) }
-    ensures stops { IfErr result (λ stop. StopsAt words.now (A.index waiting.answerer) (A.columns waiting.answerer) (A.recent waiting.answerer)
+    ensures stops { IfErr result (λ stop. (recent : Recent) →
+        MayBe (A.in_force waiting.answerer) (A.answered waiting.answerer) recent →
+        StopsAt words.now (A.index waiting.answerer) (A.columns waiting.answerer) recent
         (behind (bodies_of waiting.wave) no_more) (K.written sink.old) (K.written sink.new) stop) }
     ensures fault { result ≡ Err Stop.Write → Rose (K.faults sink.old) (K.faults sink.new) }
     ensures never_falls { K.faults sink.old ≤ K.faults sink.new }
