@@ -1,0 +1,3 @@
+-- Pages of composites while they grow.
+pub mod GrowingPages
+pub mod Starts
