@@ -22,7 +22,7 @@ use Rattle.agg_evaluation.proofs.Computing.{computing}
 use Rattle.agg_evaluation.proofs.FoldLaws.{fold_key-Many}
 use Rattle.evaluation_laws.proofs.CostLaws.{bytes, cost-Keyed, cost-Fixed, cost-Number}
 use Rattle.growing_tree.proofs.Empties.{empty-level}
-use Rattle.growing_page.specs.Starts.{started_of, started_count}
+use Rattle.growing_tree.specs.Starting.{start_count}
 
 pub key_bytes-Many : (ks : List Key) → key_bytes (key.Many ks) ≡ sum_by key_bytes ks
 key_bytes-Many ks = fold_key-Many key_bytes_at ks ∙ sum-map key_bytes ks
@@ -31,6 +31,16 @@ key_bytes-Many ks = fold_key-Many key_bytes_at ks ∙ sum-map key_bytes ks
 fixed-bytes : (n : ℕ) → key_bytes (key.Fixed n) ≡ 0
 unfolding computing
 fixed-bytes n = refl
+
+abbrev started_of : Shape → Kind → ℕ
+started_of by_key k = 0
+started_of from_start k = length (fixed_keys k)
+started_of a_number k = 0
+
+-- how many buckets exist from the start
+counts : (k : Kind) → start_count k ≡ started_of (shape_of k) k
+counts (kind.Filters names filters other) = sym (length-map-range_with_len key.Fixed 0 _)
+counts _ = refl
 
 module _ (children : List Node) where
   -- a key's bucket without rows
@@ -55,12 +65,13 @@ module _ (children : List Node) where
   shape-cost from_start k = cost-Fixed (map none_at (fixed_keys k)) ∙ ap (λ n. 512 + n) (fixed-cost k)
   shape-cost a_number k = cost-Number (record { count = 0; sum = pos 0; least = None; greatest = None }) ∙ ap (λ n. 512 + n) (sym (zero-mul (128 + sum_by node_cost children)))
 
-pub tree-cost : (a : Agg) → node_cost (empty_node a) ≡ 512 + started_count (out-Agg a).kind * (128 + sum_by node_cost (map empty_node (out-Agg a).children))
+pub tree-cost : (a : Agg) → node_cost (empty_node a) ≡ 512 + start_count (out-Agg a).kind * (128 + sum_by node_cost (map empty_node (out-Agg a).children))
 tree-cost a = ap node_cost (empty-level a _ refl) ∙ shape-cost (map empty_node (out-Agg a).children) (shape_of (out-Agg a).kind) (out-Agg a).kind
+    ∙ ap (λ n. 512 + n * (128 + sum_by node_cost (map empty_node (out-Agg a).children))) (sym (counts (out-Agg a).kind))
 
 pub trees-cost : (aggs : List Agg) → sum_by (λ a. node_cost (empty_node a)) aggs ≡ sum_by node_cost (map empty_node aggs)
 trees-cost aggs = sym (sum_by-map node_cost empty_node aggs)
 
 pub filters-started : (k : Kind) (names : Option (List (List ℕ))) (filters : List Query) (other : Option (List ℕ)) → k ≡ kind.Filters names filters other
-    → started_count k ≡ option_map_or (λ name. length filters + 1) other (length filters)
-filters-started k names filters other e = ap started_count e ∙ length-map-range_with_len key.Fixed 0 _
+    → start_count k ≡ option_map_or (λ name. length filters + 1) other (length filters)
+filters-started k names filters other e = ap start_count e

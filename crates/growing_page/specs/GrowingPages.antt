@@ -2,7 +2,6 @@
 use Rattle.std.specs.Prelude.{◌≡◌, ◌≤◌, ℕ, Bool, not, ◌&&◌, ◌||◌, nat_le, List, [], ◌∷◌, length, map, T}
 use Rattle.std.specs.List.{list_all, AllByRecursion}
 use Rattle.std.specs.Ordering.{is_lt}
-use Rattle.agg_model.specs.declared.aggregation.Agg.{Agg}
 use Rattle.agg_model.specs.declared.aggregation.CompositeSource.{CompositeSource}
 use Rattle.agg_model.specs.declared.aggregation.Kind.{Kind}
 use Rattle.agg_model.specs.declared.key.Key.{Key}
@@ -10,28 +9,13 @@ use Rattle.agg_model.specs.declared.partial.Bucket.{Bucket}
 use Rattle.agg_model.specs.declared.partial.Node.{Node}
 use Rattle.agg_model.specs.declared.partial.Node.TheVariants.{Keyed}
 use Rattle.agg_evaluation.specs.CompositeKeys.{is_composite_of}
-use Rattle.agg_evaluation.specs.Rows.{PlacedRow, row_of}
 use Rattle.agg_evaluation.specs.Shard.{sorted_by_key}
 use Rattle.composite_agg.specs.FirstPages.{FirstPage, empty_page, page_cmp}
 use Rattle.composite_agg.specs.Pages.{is_beyond_any, is_cursor}
-use Rattle.growing_tree.specs.Decoded.{decoded, decoded_children}
-use Rattle.growing_tree.specs.declared.ready.Ready.{Ready}
+use Rattle.growing_tree.specs.Decoded.{decoded_children}
 use Rattle.growth_laws.specs.BucketBytes.{bucket_bytes}
-use Rattle.growth_laws.specs.Gathering.{Gatherer, gatherer_of}
-use Rattle.shard_columns.specs.Columns.{Columns}
 use Rattle.growing_page.specs.declared.page.Held.{Held}
 use Rattle.growing_page.specs.declared.page.Page.{Page}
-
--- what reads the trees of the children
-abbrev pub decoders : Columns → List Ready → List (Node → Node)
-decoders shard ready = map (decoded shard) ready
-
--- what gathers rows into them
-abbrev pub gatherers : Columns → List Agg → List Gatherer
-gatherers shard aggs = map (gatherer_of shard.rows) aggs
-
-abbrev pub rows_at : Columns → List ℕ → List PlacedRow
-rows_at shard rows = map (row_of shard.rows) rows
 
 -- a bucket as it stands in a node
 abbrev pub shown : List (Node → Node) → Held → Bucket

@@ -1,3 +1,2 @@
 -- Pages of composites while they grow.
 pub mod GrowingPages
-pub mod Starts

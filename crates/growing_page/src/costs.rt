@@ -2,7 +2,7 @@
 ghost use Rattle.std.specs.Prelude.{◌≡◌, ◌+◌, ◌*◌, IfOk, map, sum_by};
 ghost use Rattle.agg_evaluation.specs.Cost.{key_bytes, node_cost};
 ghost use Rattle.agg_evaluation.specs.Whole.{empty_node};
-ghost use Rattle.growing_page.specs.Starts.{started_count as count_of_started};
+ghost use Rattle.growing_tree.specs.Starting.{start_count as number_from_start};
 
 use agg_model::costs::{BUCKET_BYTES, NODE_BYTES};
 use agg_model::{Agg, Key, Kind, List};
@@ -49,8 +49,8 @@ pub(crate) fn bytes_of_bucket(key: &Key, aggs: &List<Agg>) -> Result<u64, AllocE
 }
 
 // How many buckets of an aggregation exist from the start.
-fn started_count(kind: &Kind) -> Result<u64, AllocError>
-    ensures { IfOk result (λ n. n ≡ count_of_started kind.now) }
+fn start_count(kind: &Kind) -> Result<u64, AllocError>
+    ensures { IfOk result (λ n. n ≡ number_from_start kind.now) }
 {
     match kind {
         Kind::Terms { .. }
@@ -91,6 +91,6 @@ fn bytes_of_tree(agg: &Agg) -> Result<u64, AllocError>
     ensures { IfOk result (λ n. n ≡ node_cost (empty_node agg.now)) }
 {
     let bucket = sum_of(BUCKET_BYTES, bytes_of_trees(&agg.children)?)?;
-    let count = started_count(&agg.kind)?;
+    let count = start_count(&agg.kind)?;
     sum_of(NODE_BYTES, product_of(count, bucket)?)
 }

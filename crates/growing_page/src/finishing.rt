@@ -6,7 +6,8 @@ ghost use Rattle.composite_agg.specs.FirstPages.{is_composite};
 ghost use Rattle.growing_tree.specs.Readiness.{AreReadyFor};
 ghost use Rattle.growth_laws.specs.Cutting.{cut_bucket, cut_tree, cutter_at};
 ghost use Rattle.shard_columns.specs.Built.{IsShard};
-ghost use Rattle.growing_page.specs.GrowingPages.{decoders, page_node, shown, shown_all};
+ghost use Rattle.growing_tree.specs.Gathered.{decoders};
+ghost use Rattle.growing_page.specs.GrowingPages.{page_node, shown, shown_all};
 
 use crate::page::{Held, Page};
 use agg_model::{Agg, Bucket, List, Node};

@@ -15,7 +15,8 @@ ghost use Rattle.growing_tree.specs.Readiness.{AreReadyFor};
 ghost use Rattle.growth_laws.specs.BucketBytes.{bucket_bytes};
 ghost use Rattle.growth_laws.specs.Gathering.{counted, empty_bucket, gathered_bucket, kept_buckets, put_groups, put_rows};
 ghost use Rattle.shard_columns.specs.Built.{IsShard};
-ghost use Rattle.growing_page.specs.GrowingPages.{IsCosted, IsInOrder, IsPageOf, decoders, gatherers, held_key, is_refused, page_node, rows_at, shown, shown_all, sources_of};
+ghost use Rattle.growing_tree.specs.Gathered.{decoders, gatherers, rows_at};
+ghost use Rattle.growing_page.specs.GrowingPages.{IsCosted, IsInOrder, IsPageOf, held_key, is_refused, page_node, shown, shown_all, sources_of};
 
 use crate::costs::{bytes_of_bucket, sum_of};
 use crate::page::{Held, Page};

@@ -5,7 +5,8 @@ use Rattle.agg_model.specs.declared.partial.Node.TheVariants.{Keyed}
 use Rattle.agg_evaluation.specs.Folds.{fold_agg}
 use Rattle.agg_evaluation.specs.Shard.{sorted_by_key}
 use Rattle.growth_laws.specs.Cutting.{cutter_at}
-use Rattle.growing_page.specs.GrowingPages.{decoders, shown_all}
+use Rattle.growing_tree.specs.Gathered.{decoders}
+use Rattle.growing_page.specs.GrowingPages.{shown_all}
 use Rattle.growing_page.proofs.Finals.{cut-page, cut-sorted}
 use Rattle.growing_page.proofs.finishing.finish_page.Goals as goal
 

@@ -2,7 +2,7 @@ use Rattle.std.proofs.Common.{◌∙◌, sym, ap, length, zero-add}
 use Rattle.agg_evaluation.specs.Rows.{row_of}
 use Rattle.growing_tree.proofs.Levels.{empties-are}
 use Rattle.growth_laws.specs.Gathering.{gathered_children}
-use Rattle.growing_page.specs.GrowingPages.{gatherers, rows_at}
+use Rattle.growing_tree.specs.Gathered.{gatherers, rows_at}
 use Rattle.growing_page.proofs.Moves.{length-mapped}
 use Rattle.growing_page.proofs.gathering.new_bucket.Goals as goal
 

@@ -4,7 +4,8 @@ use Rattle.agg_model.specs.declared.aggregation.Agg.{out-Agg}
 use Rattle.agg_model.specs.declared.aggregation.CompositeSource.{CompositeSource}
 use Rattle.list_laws.proofs.Booleans.{holds}
 use Rattle.composite_agg.specs.FirstPages.{empty_page}
-use Rattle.growing_page.specs.GrowingPages.{all_before, all_behind, decoders, gatherers, held_key, is_refused, rows_at}
+use Rattle.growing_tree.specs.Gathered.{decoders, gatherers, rows_at}
+use Rattle.growing_page.specs.GrowingPages.{all_before, all_behind, held_key, is_refused}
 use Rattle.growing_page.specs.declared.page.Held.{Held}
 use Rattle.growing_page.proofs.Moves.{refused, buckets-changed, cost-changed, page-changed, buckets-entered, page-entered, cost-stays, cost-leaves, got-at}
 use Rattle.growing_page.proofs.gathering.put_key.Goals as goal

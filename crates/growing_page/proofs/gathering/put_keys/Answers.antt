@@ -3,7 +3,8 @@ use Rattle.agg_model.specs.declared.aggregation.Agg.{out-Agg}
 use Rattle.agg_model.specs.declared.partial.Bucket.{Bucket}
 use Rattle.agg_evaluation.specs.Shard.{sorted_by_key}
 use Rattle.growth_laws.specs.Gathering.{kept_buckets, put_rows}
-use Rattle.growing_page.specs.GrowingPages.{decoders, gatherers, rows_at, shown_all}
+use Rattle.growing_tree.specs.Gathered.{decoders, gatherers, rows_at}
+use Rattle.growing_page.specs.GrowingPages.{shown_all}
 use Rattle.growing_page.proofs.Finals.{groups-more}
 use Rattle.growing_page.proofs.gathering.put_keys.Goals as goal
 

@@ -3,7 +3,8 @@ use Rattle.agg_model.specs.declared.aggregation.Agg.{out-Agg}
 use Rattle.agg_evaluation.specs.Shard.{sorted_by_key}
 use Rattle.growth_laws.specs.BucketBytes.{bucket_bytes}
 use Rattle.growth_laws.specs.Gathering.{put_groups}
-use Rattle.growing_page.specs.GrowingPages.{IsPageOf, decoders, gatherers, rows_at, shown_all}
+use Rattle.growing_tree.specs.Gathered.{decoders, gatherers, rows_at}
+use Rattle.growing_page.specs.GrowingPages.{IsPageOf, shown_all}
 use Rattle.growing_page.proofs.gathering.put_keys.Given as goal
 
 abbrev pub invariant-loop-key : goal.invariant-loop-key

@@ -10,7 +10,8 @@ use Rattle.agg_evaluation.specs.Rows.{PlacedRow, row_of}
 use Rattle.agg_evaluation.specs.Shard.{sorted_by_key}
 use Rattle.growth_laws.specs.Gathering.{put_groups}
 use Rattle.list_laws.proofs.Booleans.{true_is}
-use Rattle.growing_page.specs.GrowingPages.{decoders, gatherers, rows_at, shown_all, sources_of}
+use Rattle.growing_tree.specs.Gathered.{decoders, gatherers, rows_at}
+use Rattle.growing_page.specs.GrowingPages.{shown_all, sources_of}
 use Rattle.growing_page.proofs.Finals.{counted-row, composite-is, page-cost, row-parts}
 use Rattle.growing_page.proofs.gathering.put_row.Goals as goal
 

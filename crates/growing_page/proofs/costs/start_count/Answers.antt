@@ -1,7 +1,7 @@
 use Rattle.std.proofs.Common.{◌≡◌, ◌+◌, ◌∙◌, sym, ap, subst, IfOk, length}
 use Rattle.std.specs.Option.{option_map_or}
 use Rattle.growing_page.proofs.Starting.{filters-started}
-use Rattle.growing_page.proofs.costs.started_count.Goals as goal
+use Rattle.growing_page.proofs.costs.start_count.Goals as goal
 
 pub returns-in-Some : goal.returns-in-Some
 returns-in-Some c =
