@@ -16,6 +16,7 @@ use Rattle.growing_tree.specs.Decoded.{decoded_children}
 use Rattle.growth_laws.specs.BucketBytes.{bucket_bytes}
 use Rattle.growing_page.specs.declared.page.Held.{Held}
 use Rattle.growing_page.specs.declared.page.Page.{Page}
+pub use Rattle.growing_tree.specs.Gathered.{decoders}
 
 -- a bucket as it stands in a node
 abbrev pub shown : List (Node → Node) → Held → Bucket
