@@ -1,5 +1,5 @@
 -- The page of a composite aggregation while it grows (Elasticsearch Reference 8, 'Composite aggregation').
-use Rattle.std.specs.Prelude.{◌≡◌, ◌≤◌, ℕ, Bool, not, ◌&&◌, ◌||◌, nat_le, List, [], ◌∷◌, length, map, T}
+use Rattle.std.specs.Prelude.{◌≡◌, ◌≤◌, Bool, not, ◌&&◌, ◌||◌, nat_le, List, [], ◌∷◌, length, map, T}
 use Rattle.std.specs.List.{list_all, AllByRecursion}
 use Rattle.std.specs.Ordering.{is_lt}
 use Rattle.agg_model.specs.declared.aggregation.CompositeSource.{CompositeSource}

@@ -9,6 +9,7 @@ ghost use Rattle.shard_columns.specs.Built.{IsShard};
 ghost use Rattle.growing_tree.specs.Gathered.{decoders};
 ghost use Rattle.growing_page.specs.GrowingPages.{page_node, shown, shown_all};
 
+use crate::on_heap::OnHeap;
 use crate::page::{Held, Page};
 use agg_model::{Agg, Bucket, List, Node};
 use bucket_order::sort_by_key;
@@ -21,7 +22,7 @@ fn finish_bucket(
     aggs: &List<Agg>,
     ready: &List<Ready>,
     shard: &Shard,
-    bucket: Held,
+    bucket: OnHeap<Held>,
 ) -> Result<Bucket, AllocError>
     requires ready { AreReadyFor shard.now aggs.now ready.now }
     requires built { IsShard shard.now }
@@ -32,7 +33,7 @@ fn finish_bucket(
         count,
         children,
         bytes: _,
-    } = bucket;
+    } = bucket.into_inner();
     Ok(Bucket {
         key,
         count,
@@ -46,7 +47,7 @@ fn finish_buckets(
     aggs: &List<Agg>,
     ready: &List<Ready>,
     shard: &Shard,
-    buckets: Vec<Held>,
+    buckets: Vec<OnHeap<Held>>,
 ) -> Result<Vec<Bucket>, AllocError>
     requires ready { AreReadyFor shard.now aggs.now ready.now }
     requires built { IsShard shard.now }

@@ -19,6 +19,7 @@ ghost use Rattle.growing_tree.specs.Gathered.{decoders, gatherers, rows_at};
 ghost use Rattle.growing_page.specs.GrowingPages.{IsCosted, IsInOrder, IsPageOf, held_key, is_refused, page_node, shown, shown_all, sources_of};
 
 use crate::costs::{bytes_of_bucket, sum_of};
+use crate::on_heap::OnHeap;
 use crate::page::{Held, Page};
 use crate::places::{comes_last, find};
 use agg_model::{Agg, CompositeSource, Key, Kind, List};
@@ -55,7 +56,7 @@ fn size_of_composite(kind: &Kind) -> u32
 }
 
 // Most keys come after all of a full page, so that is tried first.
-fn is_outside(kind: &Kind, buckets: &[Held], key: &Key) -> bool
+fn is_outside(kind: &Kind, buckets: &[OnHeap<Held>], key: &Key) -> bool
     requires composite { IsTrue (is_composite kind.now) }
     requires order { IsInOrder held_key (sources_of kind.now) buckets.now }
     ensures { result ≡ is_refused (empty_page kind.now) buckets.now key.now }
@@ -82,7 +83,7 @@ fn new_bucket(
     rows: &List<u32>,
     spare: &mut Vec<Vec<i64>>,
     key: Key,
-) -> Result<Held, AllocError>
+) -> Result<OnHeap<Held>, AllocError>
     requires ready { AreReadyFor shard.now aggs.now ready.now }
     requires built { IsShard shard.now }
     requires apart { IsApart shard.now.rows }
@@ -94,16 +95,18 @@ fn new_bucket(
     let bytes = bytes_of_bucket(&key, aggs)?;
     let mut children = begin_trees(alloc, aggs, ready)?;
     let added = gather_children(alloc, aggs, ready, shard, rows, spare, &mut children)?;
-    Ok(Held {
+    let bucket = Held {
         key,
         count: rows.len() as u64,
         children,
         bytes: sum_of(bytes, added)?,
-    })
+    };
+    let boxed = OnHeap::new(alloc, bucket)?;
+    Ok(boxed)
 }
 
 // More rows in a bucket. The answer is by how many bytes its cost rose.
-fn grow(
+fn grow_held(
     alloc: Global,
     aggs: &List<Agg>,
     ready: &List<Ready>,
@@ -129,13 +132,37 @@ fn grow(
     Ok(added)
 }
 
+// The same on the heap.
+fn grow(
+    alloc: Global,
+    aggs: &List<Agg>,
+    ready: &List<Ready>,
+    shard: &Shard,
+    rows: &List<u32>,
+    spare: &mut Vec<Vec<i64>>,
+    bucket: &mut OnHeap<Held>,
+) -> Result<u64, AllocError>
+    requires ready { AreReadyFor shard.now aggs.now ready.now }
+    requires built { IsShard shard.now }
+    requires apart { IsApart shard.now.rows }
+    requires in_range { All (λ n. n < length shard.now.rows) rows.now }
+    requires costs { IsCosted (decoders shard.now ready.now) bucket.old }
+    ensures bucket { OnOk result (shown (decoders shard.now ready.now) bucket.new
+        ≡ gathered_bucket (gatherers shard.now aggs.now) (rows_at shard.now rows.now) (shown (decoders shard.now ready.now) bucket.old)) }
+    ensures costs { OnOk result (IsCosted (decoders shard.now ready.now) bucket.new) }
+    ensures added { IfOk result (λ added. bucket.new.bytes ≡ bucket.old.bytes + added) }
+{
+    let added = grow_held(alloc, aggs, ready, shard, rows, spare, &mut bucket.inner)?;
+    Ok(added)
+}
+
 // Puts a bucket at a place; the last one leaves a full page.
 fn enter(
     size: u32,
-    buckets: &mut Vec<Held>,
+    buckets: &mut Vec<OnHeap<Held>>,
     place: usize,
-    bucket: Held,
-) -> Result<Option<Held>, AllocError>
+    bucket: OnHeap<Held>,
+) -> Result<Option<OnHeap<Held>>, AllocError>
     requires { place ≤ length buckets.old.items }
     ensures items { IfOk result (λ left. insert buckets.old.items place bucket ≡ buckets.new.items ++ option_to_list left) }
     ensures full { IfOk result (λ left. is_some left ≡ nat_le size (length buckets.old.items)) }
@@ -153,7 +180,7 @@ fn put_key(
     shard: &Shard,
     rows: &List<u32>,
     spare: &mut Vec<Vec<i64>>,
-    buckets: &mut Vec<Held>,
+    buckets: &mut Vec<OnHeap<Held>>,
     key: Key,
 ) -> Result<Change, AllocError>
     requires ready { AreReadyFor shard.now (out-Agg agg.now).children ready.now }
@@ -184,11 +211,11 @@ fn put_key(
         }
         Err(place) => {
             let bucket = new_bucket(alloc, &agg.children, ready, shard, rows, spare, key)?;
-            let added = bucket.bytes;
+            let added = bucket.get().bytes;
             match enter(size_of_composite(&agg.kind), buckets, place, bucket)? {
                 Some(left) => Ok(Change {
                     added,
-                    removed: left.bytes,
+                    removed: left.get().bytes,
                 }),
                 None => Ok(Change { added, removed: 0 }),
             }
@@ -204,7 +231,7 @@ fn put_keys(
     shard: &Shard,
     rows: &List<u32>,
     spare: &mut Vec<Vec<i64>>,
-    buckets: &mut Vec<Held>,
+    buckets: &mut Vec<OnHeap<Held>>,
     keys: List<Key>,
 ) -> Result<Change, AllocError>
     requires ready { AreReadyFor shard.now (out-Agg agg.now).children ready.now }

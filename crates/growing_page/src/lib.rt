@@ -6,6 +6,7 @@ mod costs;
 mod finishing;
 mod gathering;
 pub mod laws;
+mod on_heap;
 mod page;
 mod places;
 

@@ -7,6 +7,7 @@ ghost use Rattle.composite_agg.specs.FirstPages.{empty_page, is_composite};
 ghost use Rattle.composite_agg.specs.Pages.{is_cursor};
 ghost use Rattle.growing_page.specs.GrowingPages.{IsPageOf, page_node};
 
+use crate::on_heap::OnHeap;
 use agg_model::{Key, Kind};
 use growing_tree::Tree;
 use std::alloc::{AllocError, Global};
@@ -24,7 +25,7 @@ pub(crate) struct Held {
 /// The buckets that a composite keeps of some rows: at most `size`, in the order of its sources, behind `after`.
 #[derive(Drop)]
 pub struct Page {
-    pub(crate) buckets: Vec<Held>,
+    pub(crate) buckets: Vec<OnHeap<Held>>,
 }
 
 impl Page {

@@ -7,6 +7,7 @@ ghost use Rattle.composite_agg.specs.FirstPages.{page_cmp};
 ghost use Rattle.growing_page.specs.GrowingPages.{IsInOrder, all_before, all_behind, held_key};
 ghost use Rattle.growing_page.specs.declared.page.Held.{Held as AnyHeld};
 
+use crate::on_heap::OnHeap;
 use crate::page::Held;
 use agg_model::{CompositeSource, Key, List};
 use bucket_order::compare_composites;
@@ -19,22 +20,26 @@ fn is_before(sources: &List<CompositeSource>, a: &Key, b: &Key) -> bool
 }
 
 // The number of buckets that come before a key, by binary search.
-fn place_of(sources: &List<CompositeSource>, buckets: &[Held], key: &Key) -> usize
+fn place_of(sources: &List<CompositeSource>, buckets: &[OnHeap<Held>], key: &Key) -> usize
     requires { IsInOrder held_key sources.now buckets.now }
     ensures within { result ≤ length buckets.now }
     ensures before { IsTrue (all_before held_key sources.now key.now (take result buckets.now)) }
     ensures behind { AllByRecursion (λ h. is_lt (page_cmp sources.now h.key key.now) ≡ false) (drop result buckets.now) }
 {
-    buckets.partition_point(|bucket| is_before(sources, &bucket.key, key))
+    buckets.partition_point(|bucket| is_before(sources, &bucket.get().key, key))
 }
 
 /// Whether a key comes after all buckets, by one comparison with the last.
-pub(crate) fn comes_last(sources: &List<CompositeSource>, buckets: &[Held], key: &Key) -> bool
+pub(crate) fn comes_last(
+    sources: &List<CompositeSource>,
+    buckets: &[OnHeap<Held>],
+    key: &Key,
+) -> bool
     requires { IsInOrder held_key sources.now buckets.now }
     ensures { result ≡ all_before held_key sources.now key.now buckets.now }
 {
     match buckets.last() {
-        Some(last) => is_before(sources, &last.key, key),
+        Some(last) => is_before(sources, &last.get().key, key),
         None => true,
     }
 }
@@ -42,7 +47,7 @@ pub(crate) fn comes_last(sources: &List<CompositeSource>, buckets: &[Held], key:
 /// The place of the bucket that has the key, by binary search, or else where one with the key would stand.
 pub(crate) fn find(
     sources: &List<CompositeSource>,
-    buckets: &[Held],
+    buckets: &[OnHeap<Held>],
     key: &Key,
 ) -> Result<usize, usize>
     requires order { IsInOrder held_key sources.now buckets.now }
@@ -56,7 +61,7 @@ pub(crate) fn find(
     let place = place_of(sources, buckets, key);
     match buckets.get(place) {
         Some(bucket) => {
-            if compare_composites(sources, &bucket.key, key) == Ordering::Equal {
+            if compare_composites(sources, &bucket.get().key, key) == Ordering::Equal {
                 Ok(place)
             } else {
                 Err(place)

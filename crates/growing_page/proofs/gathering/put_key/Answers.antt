@@ -126,7 +126,10 @@ returns-in-Some-clause-cost c =
     let absent = subst (λ (ss : List CompositeSource). (i ≤ length hs) × IsTrue (all_before held_key ss q (take i hs)) × IsTrue (all_behind held_key ss q (drop i hs))) c.sources_of_composite.ensures there in
     let left = c.in_ok-left-in-Err.field-0 in
     let full = c.in_ok-left-in-Err.ensures.full ∙ ap (λ n. nat_le n (length hs)) c.size_of_composite.ensures in
-    cost-leaves k c.requires.composite ds gs rows q hs c.requires.page c.requires.parts inside i h c.in_ok-bucket-in-Err.ensures.bucket c.in_ok-bucket-in-Err.ensures.costs (holds _ absent.1) (holds _ absent.2) c.enter.new.buckets.items left c.in_ok-left-in-Err.ensures.items full c.in-Some.left c.in-Some.is
+    let all = cost-leaves k c.requires.composite ds gs rows q hs c.requires.page c.requires.parts inside i h c.in_ok-bucket-in-Err.ensures.bucket c.in_ok-bucket-in-Err.ensures.costs (holds _ absent.1) (holds _ absent.2) c.enter.new.buckets.items left c.in_ok-left-in-Err.ensures.items full c.in-Some.left c.in-Some.is in
+    let one = ap (λ (h : Held). h.bytes) c.get.ensures in
+    let two = ap (λ (h : Held). h.bytes) c.get-in-Some.ensures in
+    omega (arith, all, one, two)
 
 pub returns-in-None-clause-buckets : goal.returns-in-None-clause-buckets
 returns-in-None-clause-buckets c =
@@ -180,4 +183,6 @@ returns-in-None-clause-cost c =
     let absent = subst (λ (ss : List CompositeSource). (i ≤ length hs) × IsTrue (all_before held_key ss q (take i hs)) × IsTrue (all_behind held_key ss q (drop i hs))) c.sources_of_composite.ensures there in
     let left = c.in_ok-left-in-Err.field-0 in
     let full = c.in_ok-left-in-Err.ensures.full ∙ ap (λ n. nat_le n (length hs)) c.size_of_composite.ensures in
-    cost-stays k c.requires.composite ds gs rows q hs c.requires.page c.requires.parts inside i h c.in_ok-bucket-in-Err.ensures.bucket c.in_ok-bucket-in-Err.ensures.costs (holds _ absent.1) (holds _ absent.2) c.enter.new.buckets.items left c.in_ok-left-in-Err.ensures.items full c.in-None.is
+    let all = cost-stays k c.requires.composite ds gs rows q hs c.requires.page c.requires.parts inside i h c.in_ok-bucket-in-Err.ensures.bucket c.in_ok-bucket-in-Err.ensures.costs (holds _ absent.1) (holds _ absent.2) c.enter.new.buckets.items left c.in_ok-left-in-Err.ensures.items full c.in-None.is in
+    let one = ap (λ (h : Held). h.bytes) c.get.ensures in
+    omega (arith, all, one)

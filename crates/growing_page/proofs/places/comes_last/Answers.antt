@@ -15,4 +15,4 @@ returns-in-Some c =
     let hs = c.args.buckets.now in
     let some : 0 < length hs = omega (arith, c.in-Some.ensures.item.3.0) in
     let last = last-get hs some ∙ sym c.last.ensures.value ∙ ap option_copied c.in-Some.is in
-    c.is_before.ensures ∙ sym (last-decides held_key c.args.sources.now c.args.key.now hs c.requires ∙ ap (λ o. option_map_or p o true) last)
+    c.is_before.ensures ∙ ap p c.get.ensures ∙ sym (last-decides held_key c.args.sources.now c.args.key.now hs c.requires ∙ ap (λ o. option_map_or p o true) last)

@@ -30,7 +30,7 @@ returns-else-eq-clause-absent c =
     let i = c.place_of-place.result in
     let l = c.in-Some.ensures.lookup in
     let front = drop-at hs i c.in-Some.bucket.now l.3.0 l.1 in
-    let other : page_cmp sources (held_key c.in-Some.bucket.now) c.args.key.now ≡ Equal → ⊥ = (λ tie. false≢true (sym c.if-eq.false ∙ c.eq.ensures ∙ ap (λ o. ordering_index o == 1) (c.compare_composites.ensures ∙ tie))) in (
+    let other : page_cmp sources (held_key c.in-Some.bucket.now) c.args.key.now ≡ Equal → ⊥ = (λ tie. false≢true (sym c.if-eq.false ∙ c.eq.ensures ∙ ap (λ o. ordering_index o == 1) (c.compare_composites.ensures ∙ ap (λ (h : Held). page_cmp sources (held_key h) c.args.key.now) c.get-in-Some.ensures ∙ tie))) in (
       c.place_of-place.ensures.within,
       c.place_of-place.ensures.before,
       true_is _ (after_all held_key sources c.args.key.now (drop i hs) (order-drop held_key sources hs i c.requires.order) c.place_of-place.ensures.behind
