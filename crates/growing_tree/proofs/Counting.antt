@@ -17,13 +17,14 @@ use Rattle.agg_evaluation.specs.Groups.{under}
 use Rattle.agg_evaluation.specs.Rows.{PlacedRow, row_of}
 use Rattle.evaluation_laws.proofs.CostLaws.{bytes}
 use Rattle.filters_agg.specs.Filtering.{IsFiltering}
-use Rattle.growth_laws.specs.Gathering.{Gatherer, counted, gathered_buckets, gathered_metric, gatherer_of, put_rows}
+use Rattle.growth_laws.specs.Gathering.{Gatherer, counted, gathered_buckets, gathered_metric, put_rows}
 use Rattle.growth_laws.specs.Growth.{metric_with}
 use Rattle.shard_columns.specs.Columns.{Columns}
 use Rattle.growing_tree.specs.Codes.{code_key}
 use Rattle.growing_tree.specs.Decoded.{decoded}
+use Rattle.growing_tree.specs.Gathered.{gatherers, key_at, rows_at, shown_level}
 use Rattle.growing_tree.specs.Readiness.{IsKindReady, is_keyed}
-use Rattle.growing_tree.specs.Shown.{HasBuckets, IsAlike, TakesRows, level_buckets, node_with, put_all}
+use Rattle.growing_tree.specs.Shown.{HasBuckets, IsAlike, TakesRows, node_with, put_all}
 use Rattle.growing_tree.specs.Trees.{level_node}
 use Rattle.growing_tree.specs.declared.ready.Ready.{Ready, out-Ready}
 use Rattle.growing_tree.specs.declared.ready.ReadyKind.{ReadyKind}
@@ -84,33 +85,26 @@ metric-more k [] row m = refl
 metric-more k (first ∷ rows) row m = metric-more k rows row (metric_with k first m)
 
 module _ (shard : Columns) (a : Agg) (r : Ready) where
-  -- the buckets of a level, with the keys of its codes
-  abbrev shown : Level → List Bucket
-  shown = level_buckets (map (decoded shard) (out-Ready r).children) (code_key shard (out-Ready r).kind)
-
-  abbrev gatherers : List Gatherer
-  gatherers = map (gatherer_of shard.rows) (out-Agg a).children
-
   -- rows in the buckets of their keys
-  pub keyed-counted : (rows : List PlacedRow) (old new : Level) → shown new ≡ gathered_buckets shard.rows gatherers (out-Agg a).kind rows (shown old) → IsAlike old new → HasBuckets old
+  pub keyed-counted : (rows : List PlacedRow) (old new : Level) → shown_level shard r new ≡ gathered_buckets shard.rows (gatherers shard (out-Agg a).children) (out-Agg a).kind rows (shown_level shard r old) → IsAlike old new → HasBuckets old
       → decoded shard r (level_node new) ≡ counted shard.rows a rows (decoded shard r (level_node old))
   keyed-counted rows old new e alike has =
-      decoded-is shard r new ∙ alike (shown new) ∙ ap (node_with old) e
-      ∙ sym (ap (counted shard.rows a rows) (decoded-is shard r old) ∙ counted-keyed shard.rows a rows old (shown old) _ refl has)
+      decoded-is shard r new ∙ alike (shown_level shard r new) ∙ ap (node_with old) e
+      ∙ sym (ap (counted shard.rows a rows) (decoded-is shard r old) ∙ counted-keyed shard.rows a rows old (shown_level shard r old) _ refl has)
 
   -- rows that all have the one key
   pub single-counted : (rows : List ℕ) (old new : Level) → (out-Ready r).kind ≡ Single → IsKindReady shard (out-Agg a).kind (out-Ready r).kind → (rows ≡ [] → ⊥)
-      → shown new ≡ put_all (λ k. map (row_of shard.rows) rows) gatherers (map (code_key shard (out-Ready r).kind) (pos 0 ∷ [])) (shown old) → IsAlike old new → HasBuckets old
-      → decoded shard r (level_node new) ≡ counted shard.rows a (map (row_of shard.rows) rows) (decoded shard r (level_node old))
+      → shown_level shard r new ≡ put_all (λ k. rows_at shard rows) (gatherers shard (out-Agg a).children) (map (key_at shard r) (pos 0 ∷ [])) (shown_level shard r old) → IsAlike old new → HasBuckets old
+      → decoded shard r (level_node new) ≡ counted shard.rows a (rows_at shard rows) (decoded shard r (level_node old))
   single-counted [] old new single ready some e alike has = absurd (some refl)
   single-counted (row ∷ rows) old new single ready some e alike has =
-      keyed-counted (map (row_of shard.rows) (row ∷ rows)) old new
-      (e ∙ ap (λ k. put_all (λ q. map (row_of shard.rows) (row ∷ rows)) gatherers (map (code_key shard k) (pos 0 ∷ [])) (shown old)) single
-      ∙ sym (single-gathered shard.rows gatherers (out-Agg a).kind (row_of shard.rows row) (map (row_of shard.rows) rows) (shown old) (subst (IsKindReady shard (out-Agg a).kind) single ready)))
+      keyed-counted (rows_at shard (row ∷ rows)) old new
+      (e ∙ ap (λ k. put_all (λ q. rows_at shard (row ∷ rows)) (gatherers shard (out-Agg a).children) (map (code_key shard k) (pos 0 ∷ [])) (shown_level shard r old)) single
+      ∙ sym (single-gathered shard.rows (gatherers shard (out-Agg a).children) (out-Agg a).kind (row_of shard.rows row) (rows_at shard rows) (shown_level shard r old) (subst (IsKindReady shard (out-Agg a).kind) single ready)))
       alike has
 
   -- what the tree costs then
-  pub level-cost : (old new : Level) (added : ℕ) → sum_by bytes (shown new) ≡ sum_by bytes (shown old) + added → node_cost (decoded shard r (level_node new)) ≡ node_cost (decoded shard r (level_node old)) + added
+  pub level-cost : (old new : Level) (added : ℕ) → sum_by bytes (shown_level shard r new) ≡ sum_by bytes (shown_level shard r old) + added → node_cost (decoded shard r (level_node new)) ≡ node_cost (decoded shard r (level_node old)) + added
   level-cost old new added e =
       let before = cost-is shard r old in
       let after = cost-is shard r new in

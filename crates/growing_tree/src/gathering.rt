@@ -5,14 +5,15 @@ ghost use Rattle.agg_model.specs.declared.key.Key.{Key};
 ghost use Rattle.agg_model.specs.declared.aggregation.Agg.{out-Agg};
 ghost use Rattle.agg_evaluation.specs.Cost.{node_cost};
 ghost use Rattle.agg_evaluation.specs.Counted.{IsApart};
-ghost use Rattle.agg_evaluation.specs.Rows.{PlacedRow, row_of};
+ghost use Rattle.agg_evaluation.specs.Rows.{PlacedRow};
 ghost use Rattle.evaluation_laws.proofs.CostLaws.{bytes};
 ghost use Rattle.shard_columns.specs.Built.{IsShard};
-ghost use Rattle.growing_tree.specs.Codes.{code_key, HasFixedKeys};
-ghost use Rattle.growing_tree.specs.Decoded.{decoded, decoded_children};
-ghost use Rattle.growth_laws.specs.Gathering.{counted, gathered, gathered_buckets, gathered_children, gatherer_of, put_rows};
+ghost use Rattle.growth_laws.specs.Gathering.{counted, gathered, gathered_buckets, gathered_children, put_rows};
+ghost use Rattle.growing_tree.specs.Codes.{HasFixedKeys};
+ghost use Rattle.growing_tree.specs.Decoded.{decoded};
+ghost use Rattle.growing_tree.specs.Gathered.{decoders, gatherers, key_at, rows_at, shown_children, shown_fixed, shown_keyed, shown_level};
 ghost use Rattle.growing_tree.specs.Readiness.{AreReadyFor, IsReadyFor, is_keyed};
-ghost use Rattle.growing_tree.specs.Shown.{HasGathered, IsAlike, keyed_buckets, fixed_buckets, level_buckets, node_with, put_all};
+ghost use Rattle.growing_tree.specs.Shown.{HasGathered, IsAlike, put_all};
 ghost use Rattle.growing_tree.specs.Trees.{IsAligned, IsIndexed};
 ghost use Rattle.growing_tree.specs.declared.ready.Ready.{out-Ready};
 
@@ -44,11 +45,11 @@ pub fn gather_children(
     requires built { IsShard shard.now }
     requires apart { IsApart shard.now.rows }
     requires in_range { All (λ n. n < length shard.now.rows) rows.now }
-    ensures trees { OnOk result (decoded_children (map (decoded shard.now) ready.now) children.new.items
-        ≡ gathered_children (map (gatherer_of shard.now.rows) aggs.now) (map (row_of shard.now.rows) rows.now)
-        (decoded_children (map (decoded shard.now) ready.now) children.old.items)) }
-    ensures cost { IfOk result (λ added. sum_by node_cost (decoded_children (map (decoded shard.now) ready.now) children.new.items)
-        ≡ sum_by node_cost (decoded_children (map (decoded shard.now) ready.now) children.old.items) + added) }
+    ensures trees { OnOk result (shown_children shard.now ready.now children.new.items
+        ≡ gathered_children (gatherers shard.now aggs.now) (rows_at shard.now rows.now)
+        (shown_children shard.now ready.now children.old.items)) }
+    ensures cost { IfOk result (λ added. sum_by node_cost (shown_children shard.now ready.now children.new.items)
+        ≡ sum_by node_cost (shown_children shard.now ready.now children.old.items) + added) }
 {
     let mut added = 0;
     for place in 0..aggs.len() {
@@ -87,10 +88,10 @@ fn gather_bucket(
     requires built { IsShard shard.now }
     requires apart { IsApart shard.now.rows }
     requires in_range { All (λ n. n < length shard.now.rows) rows.now }
-    ensures bucket { OnOk result (HasGathered (map (gatherer_of shard.now.rows) aggs.now) (map (row_of shard.now.rows) rows.now)
-        (map (decoded shard.now) ready.now) bucket.old bucket.new) }
-    ensures cost { IfOk result (λ added. sum_by node_cost (decoded_children (map (decoded shard.now) ready.now) bucket.new.children.items)
-        ≡ sum_by node_cost (decoded_children (map (decoded shard.now) ready.now) bucket.old.children.items) + added) }
+    ensures bucket { OnOk result (HasGathered (gatherers shard.now aggs.now) (rows_at shard.now rows.now)
+        (decoders shard.now ready.now) bucket.old bucket.new) }
+    ensures cost { IfOk result (λ added. sum_by node_cost (shown_children shard.now ready.now bucket.new.children.items)
+        ≡ sum_by node_cost (shown_children shard.now ready.now bucket.old.children.items) + added) }
 {
     bucket.count = sum(bucket.count, rows.len() as u64)?;
     let added = gather_children(alloc, aggs, ready, shard, rows, spare, &mut bucket.children)?;
@@ -114,16 +115,12 @@ fn put_coded(
     requires built { IsShard shard.now }
     requires apart { IsApart shard.now.rows }
     requires in_range { All (λ n. n < length shard.now.rows) rows.now }
-    ensures buckets { OnOk result (keyed_buckets (map (decoded shard.now) (out-Ready ready.now).children)
-        (code_key shard.now (out-Ready ready.now).kind) places.new buckets.new.items
-        ≡ put_rows (map (gatherer_of shard.now.rows) (out-Agg agg.now).children) (map (row_of shard.now.rows) rows.now)
-        (code_key shard.now (out-Ready ready.now).kind code)
-        (keyed_buckets (map (decoded shard.now) (out-Ready ready.now).children)
-        (code_key shard.now (out-Ready ready.now).kind) places.old buckets.old.items)) }
-    ensures cost { IfOk result (λ added. sum_by bytes (keyed_buckets (map (decoded shard.now) (out-Ready ready.now).children)
-        (code_key shard.now (out-Ready ready.now).kind) places.new buckets.new.items)
-        ≡ sum_by bytes (keyed_buckets (map (decoded shard.now) (out-Ready ready.now).children)
-        (code_key shard.now (out-Ready ready.now).kind) places.old buckets.old.items) + added) }
+    ensures buckets { OnOk result (shown_keyed shard.now ready.now places.new buckets.new.items
+        ≡ put_rows (gatherers shard.now (out-Agg agg.now).children) (rows_at shard.now rows.now)
+        (key_at shard.now ready.now code)
+        (shown_keyed shard.now ready.now places.old buckets.old.items)) }
+    ensures cost { IfOk result (λ added. sum_by bytes (shown_keyed shard.now ready.now places.new buckets.new.items)
+        ≡ sum_by bytes (shown_keyed shard.now ready.now places.old buckets.old.items) + added) }
     ensures aligned { IsIndexed places.old buckets.old.items → IsIndexed places.new buckets.new.items }
 {
     let found = places.find_or_add(code)?;
@@ -182,16 +179,12 @@ fn put_fixed(
     requires built { IsShard shard.now }
     requires apart { IsApart shard.now.rows }
     requires in_range { All (λ n. n < length shard.now.rows) rows.now }
-    ensures buckets { OnOk result (fixed_buckets (map (decoded shard.now) (out-Ready ready.now).children)
-        (code_key shard.now (out-Ready ready.now).kind) buckets.new.items
-        ≡ put_rows (map (gatherer_of shard.now.rows) (out-Agg agg.now).children) (map (row_of shard.now.rows) rows.now)
-        (code_key shard.now (out-Ready ready.now).kind code)
-        (fixed_buckets (map (decoded shard.now) (out-Ready ready.now).children)
-        (code_key shard.now (out-Ready ready.now).kind) buckets.old.items)) }
-    ensures cost { IfOk result (λ added. sum_by bytes (fixed_buckets (map (decoded shard.now) (out-Ready ready.now).children)
-        (code_key shard.now (out-Ready ready.now).kind) buckets.new.items)
-        ≡ sum_by bytes (fixed_buckets (map (decoded shard.now) (out-Ready ready.now).children)
-        (code_key shard.now (out-Ready ready.now).kind) buckets.old.items) + added) }
+    ensures buckets { OnOk result (shown_fixed shard.now ready.now buckets.new.items
+        ≡ put_rows (gatherers shard.now (out-Agg agg.now).children) (rows_at shard.now rows.now)
+        (key_at shard.now ready.now code)
+        (shown_fixed shard.now ready.now buckets.old.items)) }
+    ensures cost { IfOk result (λ added. sum_by bytes (shown_fixed shard.now ready.now buckets.new.items)
+        ≡ sum_by bytes (shown_fixed shard.now ready.now buckets.old.items) + added) }
 {
     let place = place_of(code)?;
     if place >= buckets.len() {
@@ -225,16 +218,12 @@ fn put(
     requires built { IsShard shard.now }
     requires apart { IsApart shard.now.rows }
     requires in_range { All (λ n. n < length shard.now.rows) rows.now }
-    ensures buckets { OnOk result (level_buckets (map (decoded shard.now) (out-Ready ready.now).children)
-        (code_key shard.now (out-Ready ready.now).kind) level.new
-        ≡ put_rows (map (gatherer_of shard.now.rows) (out-Agg agg.now).children) (map (row_of shard.now.rows) rows.now)
-        (code_key shard.now (out-Ready ready.now).kind code)
-        (level_buckets (map (decoded shard.now) (out-Ready ready.now).children)
-        (code_key shard.now (out-Ready ready.now).kind) level.old)) }
-    ensures cost { IfOk result (λ added. sum_by bytes (level_buckets (map (decoded shard.now) (out-Ready ready.now).children)
-        (code_key shard.now (out-Ready ready.now).kind) level.new)
-        ≡ sum_by bytes (level_buckets (map (decoded shard.now) (out-Ready ready.now).children)
-        (code_key shard.now (out-Ready ready.now).kind) level.old) + added) }
+    ensures buckets { OnOk result (shown_level shard.now ready.now level.new
+        ≡ put_rows (gatherers shard.now (out-Agg agg.now).children) (rows_at shard.now rows.now)
+        (key_at shard.now ready.now code)
+        (shown_level shard.now ready.now level.old)) }
+    ensures cost { IfOk result (λ added. sum_by bytes (shown_level shard.now ready.now level.new)
+        ≡ sum_by bytes (shown_level shard.now ready.now level.old) + added) }
     ensures form { OnOk result (IsAlike level.old level.new) }
     ensures aligned { IsAligned level.old → IsAligned level.new }
 {
@@ -280,16 +269,12 @@ fn put_codes(
     requires built { IsShard shard.now }
     requires apart { IsApart shard.now.rows }
     requires in_range { All (λ n. n < length shard.now.rows) rows.now }
-    ensures buckets { OnOk result (level_buckets (map (decoded shard.now) (out-Ready ready.now).children)
-        (code_key shard.now (out-Ready ready.now).kind) level.new
-        ≡ put_all (λ k. map (row_of shard.now.rows) rows.now) (map (gatherer_of shard.now.rows) (out-Agg agg.now).children)
-        (map (code_key shard.now (out-Ready ready.now).kind) codes.now)
-        (level_buckets (map (decoded shard.now) (out-Ready ready.now).children)
-        (code_key shard.now (out-Ready ready.now).kind) level.old)) }
-    ensures cost { IfOk result (λ added. sum_by bytes (level_buckets (map (decoded shard.now) (out-Ready ready.now).children)
-        (code_key shard.now (out-Ready ready.now).kind) level.new)
-        ≡ sum_by bytes (level_buckets (map (decoded shard.now) (out-Ready ready.now).children)
-        (code_key shard.now (out-Ready ready.now).kind) level.old) + added) }
+    ensures buckets { OnOk result (shown_level shard.now ready.now level.new
+        ≡ put_all (λ k. rows_at shard.now rows.now) (gatherers shard.now (out-Agg agg.now).children)
+        (map (key_at shard.now ready.now) codes.now)
+        (shown_level shard.now ready.now level.old)) }
+    ensures cost { IfOk result (λ added. sum_by bytes (shown_level shard.now ready.now level.new)
+        ≡ sum_by bytes (shown_level shard.now ready.now level.old) + added) }
     ensures form { OnOk result (IsAlike level.old level.new) }
     ensures aligned { IsAligned level.old → IsAligned level.new }
 {
@@ -317,18 +302,14 @@ fn put_groups(
     requires apart { IsApart shard.now.rows }
     requires in_range { All (λ rows. All (λ n. n < length shard.now.rows) rows) groups.now.rows.items }
     ensures buckets { OnOk result ((rows_of : Key → AnyList PlacedRow) →
-        map (map (row_of shard.now.rows)) groups.now.rows.items
-        ≡ map (λ c. rows_of (code_key shard.now (out-Ready ready.now).kind c)) groups.now.places →
-        level_buckets (map (decoded shard.now) (out-Ready ready.now).children)
-        (code_key shard.now (out-Ready ready.now).kind) level.new
-        ≡ put_all rows_of (map (gatherer_of shard.now.rows) (out-Agg agg.now).children)
-        (map (code_key shard.now (out-Ready ready.now).kind) groups.now.places)
-        (level_buckets (map (decoded shard.now) (out-Ready ready.now).children)
-        (code_key shard.now (out-Ready ready.now).kind) level.old)) }
-    ensures cost { IfOk result (λ added. sum_by bytes (level_buckets (map (decoded shard.now) (out-Ready ready.now).children)
-        (code_key shard.now (out-Ready ready.now).kind) level.new)
-        ≡ sum_by bytes (level_buckets (map (decoded shard.now) (out-Ready ready.now).children)
-        (code_key shard.now (out-Ready ready.now).kind) level.old) + added) }
+        map (rows_at shard.now) groups.now.rows.items
+        ≡ map (λ c. rows_of (key_at shard.now ready.now c)) groups.now.places →
+        shown_level shard.now ready.now level.new
+        ≡ put_all rows_of (gatherers shard.now (out-Agg agg.now).children)
+        (map (key_at shard.now ready.now) groups.now.places)
+        (shown_level shard.now ready.now level.old)) }
+    ensures cost { IfOk result (λ added. sum_by bytes (shown_level shard.now ready.now level.new)
+        ≡ sum_by bytes (shown_level shard.now ready.now level.old) + added) }
     ensures form { OnOk result (IsAlike level.old level.new) }
     ensures aligned { IsAligned level.old → IsAligned level.new }
 {
@@ -370,15 +351,11 @@ fn count_keyed(
     requires apart { IsApart shard.now.rows }
     requires in_range { All (λ n. n < length shard.now.rows) rows.now }
     requires aligned { IsAligned level.old }
-    ensures buckets { OnOk result (level_buckets (map (decoded shard.now) (out-Ready ready.now).children)
-        (code_key shard.now (out-Ready ready.now).kind) level.new
-        ≡ gathered_buckets shard.now.rows (map (gatherer_of shard.now.rows) (out-Agg agg.now).children) (out-Agg agg.now).kind
-        (map (row_of shard.now.rows) rows.now) (level_buckets (map (decoded shard.now) (out-Ready ready.now).children)
-        (code_key shard.now (out-Ready ready.now).kind) level.old)) }
-    ensures cost { IfOk result (λ added. sum_by bytes (level_buckets (map (decoded shard.now) (out-Ready ready.now).children)
-        (code_key shard.now (out-Ready ready.now).kind) level.new)
-        ≡ sum_by bytes (level_buckets (map (decoded shard.now) (out-Ready ready.now).children)
-        (code_key shard.now (out-Ready ready.now).kind) level.old) + added) }
+    ensures buckets { OnOk result (shown_level shard.now ready.now level.new
+        ≡ gathered_buckets shard.now.rows (gatherers shard.now (out-Agg agg.now).children) (out-Agg agg.now).kind
+        (rows_at shard.now rows.now) (shown_level shard.now ready.now level.old)) }
+    ensures cost { IfOk result (λ added. sum_by bytes (shown_level shard.now ready.now level.new)
+        ≡ sum_by bytes (shown_level shard.now ready.now level.old) + added) }
     ensures form { OnOk result (IsAlike level.old level.new) }
     ensures aligned { IsAligned level.new }
 {
@@ -433,7 +410,7 @@ pub fn gather(
     requires apart { IsApart shard.now.rows }
     requires in_range { All (λ n. n < length shard.now.rows) rows.now }
     ensures tree { OnOk result (decoded shard.now ready.now tree.new
-        ≡ gathered shard.now.rows agg.now (map (row_of shard.now.rows) rows.now) (decoded shard.now ready.now tree.old)) }
+        ≡ gathered shard.now.rows agg.now (rows_at shard.now rows.now) (decoded shard.now ready.now tree.old)) }
     ensures cost { IfOk result (λ added. node_cost (decoded shard.now ready.now tree.new)
         ≡ node_cost (decoded shard.now ready.now tree.old) + added) }
 {
@@ -479,7 +456,7 @@ pub fn count(
     requires apart { IsApart shard.now.rows }
     requires in_range { All (λ n. n < length shard.now.rows) rows.now }
     ensures tree { OnOk result (decoded shard.now ready.now tree.new
-        ≡ counted shard.now.rows agg.now (map (row_of shard.now.rows) rows.now) (decoded shard.now ready.now tree.old)) }
+        ≡ counted shard.now.rows agg.now (rows_at shard.now rows.now) (decoded shard.now ready.now tree.old)) }
     ensures cost { IfOk result (λ added. node_cost (decoded shard.now ready.now tree.new)
         ≡ node_cost (decoded shard.now ready.now tree.old) + added) }
 {

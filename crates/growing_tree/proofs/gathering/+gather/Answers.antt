@@ -14,9 +14,10 @@ use Rattle.agg_evaluation.specs.Rows.{row_of, beneath}
 use Rattle.evaluation_laws.proofs.CostLaws.{bytes}
 use Rattle.growth_laws.specs.Gathering.{counted, gathered_buckets, gatherer_of, put_rows}
 use Rattle.growing_tree.specs.Codes.{code_key, fixed_key}
-use Rattle.growing_tree.specs.Decoded.{decoded, decoded_children}
+use Rattle.growing_tree.specs.Decoded.{decoded}
+use Rattle.growing_tree.specs.Gathered.{decoders, gatherers, key_at, rows_at, shown_children, shown_fixed, shown_keyed, shown_level}
 use Rattle.growing_tree.specs.Readiness.{IsKindReady}
-use Rattle.growing_tree.specs.Shown.{fixed_buckets, keyed_buckets, level_buckets, put_all}
+use Rattle.growing_tree.specs.Shown.{put_all}
 use Rattle.growing_tree.specs.declared.ready.Ready.{out-Ready}
 use Rattle.growing_tree.proofs.AggSizes.{children_less, item-most}
 use Rattle.growing_tree.proofs.Children.{child-more, child-cost, take-full}
@@ -71,8 +72,8 @@ gather_children-loop-place-preserved t c =
     let children = c.loop-place.children.items in
     let a = c.index-as_slice-place.result in
     let r = c.index-as_slice-place-in-loop-place.result in
-    let ds = map (decoded shard) c.args.ready.now in
-    let gs = map (gatherer_of shard.rows) c.args.aggs.now in
+    let ds = decoders shard c.args.ready.now in
+    let gs = gatherers shard c.args.aggs.now in
     let below : place < length c.args.aggs.now = omega (arith, c.loop-place-test.true, c.len-place-end.ensures) in
     let within : place < length c.args.ready.now = omega (arith, c.if-place-len.false, c.len.ensures) in
     let there : place < length children = omega (arith, c.if-place-len-2.false, c.len-in-loop-place.ensures, c.loop-place.children.ok) in
@@ -83,7 +84,7 @@ gather_children-loop-place-preserved t c =
     let before = c.loop-place.invariant.cost in
     let added : c.in_ok-added.added ≡ c.loop-place.added + c.in_ok-more.more = c.in_ok-added.ensures in
     (record {
-      trees = child-more ds gs (map (row_of shard.rows) c.args.rows.now) (decoded_children ds c.args.children.now.items) children place (decoded shard r) (gatherer_of shard.rows a) c.index_mut.result.now c.gather.new.tree d_is g_is old_is
+      trees = child-more ds gs (rows_at shard c.args.rows.now) (shown_children shard c.args.ready.now c.args.children.now.items) children place (decoded shard r) (gatherer_of shard.rows a) c.index_mut.result.now c.gather.new.tree d_is g_is old_is
           c.loop-place.invariant.trees c.in_ok-more.ensures.tree;
       cost = omega arith;
     })
@@ -125,7 +126,7 @@ put_coded-returns-in_ok-more-in-Found-clause-buckets t c =
     let code = c.args.code in
     let same : to_z w64 (of_z w64 code) ≡ code = to_z-of_z w64 code (search rules) in
     let l : c.in-Found.place < length c.args.buckets.now.items = omega (arith, c.if-place-len.false, c.len.ensures, c.args.buckets.now.ok) in
-    found-buckets (map (gatherer_of shard.rows) (out-Agg a).children) (map (row_of shard.rows) c.args.rows.now) (map (decoded shard) (out-Ready r).children) (code_key shard (out-Ready r).kind) code (to_z w64 (of_z w64 code)) same
+    found-buckets (gatherers shard (out-Agg a).children) (rows_at shard c.args.rows.now) (decoders shard (out-Ready r).children) (key_at shard r) code (to_z w64 (of_z w64 code)) same
     c.args.places.now c.find_or_add.new.self c.args.buckets.now.items c.in_ok-found.found c.in_ok-found.ensures.place c.in_ok-found.ensures.distinct
     (codes-own shard (out-Agg a).kind (out-Ready r).kind (level-ready shard a r c.requires.ready).kind) c.in-Found.place c.index_mut.result.now c.gather_bucket.new.bucket c.in-Found.is l c.index_mut.ensures.value c.in_ok-more-in-Found.ensures.bucket
 
@@ -137,7 +138,7 @@ put_coded-returns-in_ok-more-in-Found-clause-cost t c =
     let code = c.args.code in
     let same : to_z w64 (of_z w64 code) ≡ code = to_z-of_z w64 code (search rules) in
     let l : c.in-Found.place < length c.args.buckets.now.items = omega (arith, c.if-place-len.false, c.len.ensures, c.args.buckets.now.ok) in
-    found-cost (map (gatherer_of shard.rows) (out-Agg a).children) (map (row_of shard.rows) c.args.rows.now) (map (decoded shard) (out-Ready r).children) (code_key shard (out-Ready r).kind) code (to_z w64 (of_z w64 code)) same
+    found-cost (gatherers shard (out-Agg a).children) (rows_at shard c.args.rows.now) (decoders shard (out-Ready r).children) (key_at shard r) code (to_z w64 (of_z w64 code)) same
     c.args.places.now c.find_or_add.new.self c.args.buckets.now.items c.in_ok-found.found c.in_ok-found.ensures.place c.in_ok-found.ensures.distinct
     c.in-Found.place c.index_mut.result.now c.gather_bucket.new.bucket c.in_ok-more-in-Found.more c.in-Found.is l c.index_mut.ensures.value c.in_ok-more-in-Found.ensures.cost
 
@@ -147,12 +148,12 @@ put_coded-returns-in_ok-added-in-Added-clause-buckets t c =
     let a = c.args.agg.now in
     let r = c.args.ready.now in
     let code = c.args.code in
-    let ds = map (decoded shard) (out-Ready r).children in
-    let key_of = code_key shard (out-Ready r).kind in
+    let ds = decoders shard (out-Ready r).children in
+    let key_of = key_at shard r in
     let same : to_z w64 (of_z w64 code) ≡ code = to_z-of_z w64 code (search rules) in
     let l : c.in-Added.place ≡ length c.args.buckets.now.items = omega (arith, c.if-place-len-2.false, c.len-in-Added.ensures, c.args.buckets.now.ok) in
-    ap (keyed_buckets ds key_of c.find_or_add.new.self) c.in_ok-push-in-Added.ensures.items
-    ∙ added-buckets (map (gatherer_of shard.rows) (out-Agg a).children) (map (row_of shard.rows) c.args.rows.now) ds key_of code (to_z w64 (of_z w64 code)) same
+    ap (shown_keyed shard r c.find_or_add.new.self) c.in_ok-push-in-Added.ensures.items
+    ∙ added-buckets (gatherers shard (out-Agg a).children) (rows_at shard c.args.rows.now) ds key_of code (to_z w64 (of_z w64 code)) same
     c.args.places.now c.find_or_add.new.self c.args.buckets.now.items c.in_ok-found.found c.in_ok-found.ensures.place c.in_ok-found.ensures.distinct
     (codes-own shard (out-Agg a).kind (out-Ready r).kind (level-ready shard a r c.requires.ready).kind) c.in-Added.place c.in_ok-bucket-in-Added.bucket c.gather_bucket-in-Added.new.bucket c.in-Added.is l
     c.in_ok-bucket-in-Added.ensures.count (c.in_ok-bucket-in-Added.ensures.children shard ∙ empties-are shard.rows (out-Agg a).children) c.in_ok-more-in-Added.ensures.bucket
@@ -163,17 +164,17 @@ put_coded-returns-in_ok-added-in-Added-clause-cost t c =
     let a = c.args.agg.now in
     let r = c.args.ready.now in
     let code = c.args.code in
-    let ds = map (decoded shard) (out-Ready r).children in
-    let key_of = code_key shard (out-Ready r).kind in
+    let ds = decoders shard (out-Ready r).children in
+    let key_of = key_at shard r in
     let same : to_z w64 (of_z w64 code) ≡ code = to_z-of_z w64 code (search rules) in
     let l : c.in-Added.place ≡ length c.args.buckets.now.items = omega (arith, c.if-place-len-2.false, c.len-in-Added.ensures, c.args.buckets.now.ok) in
     let begun : c.in_ok-begun-in-Added.begun ≡ 128 + key_bytes (key_of code) + (out-Ready r).child_bytes = c.in_ok-begun-in-Added.ensures ∙ ap (λ x. 128 + key_bytes (key_of x) + (out-Ready r).child_bytes) same in
-    ap (λ bs. sum_by bytes (keyed_buckets ds key_of c.find_or_add.new.self bs)) c.in_ok-push-in-Added.ensures.items
-    ∙ added-cost (map (gatherer_of shard.rows) (out-Agg a).children) (map (row_of shard.rows) c.args.rows.now) ds key_of code (to_z w64 (of_z w64 code)) same
+    ap (λ bs. sum_by bytes (shown_keyed shard r c.find_or_add.new.self bs)) c.in_ok-push-in-Added.ensures.items
+    ∙ added-cost (gatherers shard (out-Agg a).children) (rows_at shard c.args.rows.now) ds key_of code (to_z w64 (of_z w64 code)) same
     c.args.places.now c.find_or_add.new.self c.args.buckets.now.items c.in_ok-found.found c.in_ok-found.ensures.place c.in_ok-found.ensures.distinct
     c.in-Added.place c.in_ok-begun-in-Added.begun (out-Ready r).child_bytes c.in_ok-more-in-Added.more c.in_ok-bucket-in-Added.bucket c.gather_bucket-in-Added.new.bucket c.in-Added.is l begun
     ((level-ready shard a r c.requires.ready).child_bytes ∙ ap (sum_by node_cost) (sym (c.in_ok-bucket-in-Added.ensures.children shard))) c.in_ok-more-in-Added.ensures.cost
-    ∙ ap (λ n. sum_by bytes (keyed_buckets ds key_of c.args.places.now c.args.buckets.now.items) + n) (sym c.in_ok-added-in-Added.ensures)
+    ∙ ap (λ n. sum_by bytes (shown_keyed shard r c.args.places.now c.args.buckets.now.items) + n) (sym c.in_ok-added-in-Added.ensures)
 
 pub put_fixed-returns-clause-buckets : goal.put_fixed-returns-clause-buckets
 put_fixed-returns-clause-buckets t c =
@@ -181,15 +182,15 @@ put_fixed-returns-clause-buckets t c =
     let a = c.args.agg.now in
     let r = c.args.ready.now in
     let code = c.args.code in
-    let ds = map (decoded shard) (out-Ready r).children in
-    let key_of = code_key shard (out-Ready r).kind in
-    let gs = map (gatherer_of shard.rows) (out-Agg a).children in
-    let rows = map (row_of shard.rows) c.args.rows.now in
+    let ds = decoders shard (out-Ready r).children in
+    let key_of = key_at shard r in
+    let gs = gatherers shard (out-Agg a).children in
+    let rows = rows_at shard c.args.rows.now in
     let same : to_z w64 (of_z w64 code) ≡ code = to_z-of_z w64 code (search rules) in
     let is : key_of code ≡ fixed_key (pos c.in_ok-place.place) = c.requires.fixed code ∙ ap fixed_key (sym same ∙ c.in_ok-place.ensures) in
     let l : c.in_ok-place.place < length c.args.buckets.now.items = omega (arith, c.if-place-len.false, c.len.ensures, c.args.buckets.now.ok) in
     put-number gs rows ds key_of c.args.buckets.now.items 0 c.in_ok-place.place c.in_ok-place.place c.index_mut.result.now c.gather_bucket.new.bucket (omega arith) (item-at c.args.buckets.now.items c.in_ok-place.place c.index_mut.result.now l c.index_mut.ensures.value) c.in_ok-more.ensures.bucket
-    ∙ ap (λ k. put_rows gs rows k (fixed_buckets ds key_of c.args.buckets.now.items)) (sym is)
+    ∙ ap (λ k. put_rows gs rows k (shown_fixed shard r c.args.buckets.now.items)) (sym is)
 
 pub put_fixed-returns-clause-cost : goal.put_fixed-returns-clause-cost
 put_fixed-returns-clause-cost t c =
@@ -197,7 +198,7 @@ put_fixed-returns-clause-cost t c =
     let a = c.args.agg.now in
     let r = c.args.ready.now in
     let l : c.in_ok-place.place < length c.args.buckets.now.items = omega (arith, c.if-place-len.false, c.len.ensures, c.args.buckets.now.ok) in
-    number-bytes (map (gatherer_of shard.rows) (out-Agg a).children) (map (row_of shard.rows) c.args.rows.now) (map (decoded shard) (out-Ready r).children) (code_key shard (out-Ready r).kind) c.args.buckets.now.items 0 c.in_ok-place.place
+    number-bytes (gatherers shard (out-Agg a).children) (rows_at shard c.args.rows.now) (decoders shard (out-Ready r).children) (key_at shard r) c.args.buckets.now.items 0 c.in_ok-place.place
     c.index_mut.result.now c.gather_bucket.new.bucket c.in_ok-more.more (item-at c.args.buckets.now.items c.in_ok-place.place c.index_mut.result.now l c.index_mut.ensures.value) c.in_ok-more.ensures.cost
 
 pub put_codes-loop-place-preserved : goal.put_codes-loop-place-preserved
@@ -206,10 +207,10 @@ put_codes-loop-place-preserved t c =
     let r = c.args.ready.now in
     let place = c.loop-place.place in
     let codes = c.args.codes.now in
-    let key_of = code_key shard (out-Ready r).kind in
-    let gs = map (gatherer_of shard.rows) (out-Agg c.args.agg.now).children in
-    let rows = map (row_of shard.rows) c.args.rows.now in
-    let ds = map (decoded shard) (out-Ready r).children in
+    let key_of = key_at shard r in
+    let gs = gatherers shard (out-Agg c.args.agg.now).children in
+    let rows = rows_at shard c.args.rows.now in
+    let ds = decoders shard (out-Ready r).children in
     let code = get_or codes place (pos 0) in
     let same : to_z w64 (of_z w64 code) ≡ code = to_z-of_z w64 code (search rules) in
     let below : place < length codes = omega (arith, c.loop-place-test.true) in
@@ -218,8 +219,8 @@ put_codes-loop-place-preserved t c =
     let added : c.in_ok-added.added ≡ c.loop-place.added + c.in_ok-more.more = c.in_ok-added.ensures in
     (record {
       buckets = c.in_ok-more.ensures.buckets ∙ (λ i. put_rows gs rows (key_of (same i)) (c.loop-place.invariant.buckets i))
-          ∙ sym (ap (λ ks. put_all (λ k. rows) gs ks (level_buckets ds key_of c.args.level.now)) (take-more (map key_of codes) place (key_of code) (slice_get-map key_of codes place ∙ ap (option_map key_of) (slice_get-get_or codes place (pos 0) below)))
-          ∙ put_all-more (λ k. rows) gs (take place (map key_of codes)) (key_of code) (level_buckets ds key_of c.args.level.now));
+          ∙ sym (ap (λ ks. put_all (λ k. rows) gs ks (shown_level shard r c.args.level.now)) (take-more (map key_of codes) place (key_of code) (slice_get-map key_of codes place ∙ ap (option_map key_of) (slice_get-get_or codes place (pos 0) below)))
+          ∙ put_all-more (λ k. rows) gs (take place (map key_of codes)) (key_of code) (shown_level shard r c.args.level.now));
       cost = omega arith;
       form = λ bs. c.in_ok-more.ensures.form bs ∙ c.loop-place.invariant.form bs;
       aligned = λ h. c.in_ok-more.ensures.aligned (c.loop-place.invariant.aligned h);
@@ -236,9 +237,9 @@ put_groups-loop-place-preserved t c =
     let place = c.loop-place.place in
     let groups = c.args.groups.now.rows.items in
     let codes = c.codes-codes.result.now in
-    let key_of = code_key shard (out-Ready r).kind in
-    let gs = map (gatherer_of shard.rows) (out-Agg c.args.agg.now).children in
-    let ds = map (decoded shard) (out-Ready r).children in
+    let key_of = key_at shard r in
+    let gs = gatherers shard (out-Agg c.args.agg.now).children in
+    let ds = decoders shard (out-Ready r).children in
     let code = get_or codes place (pos 0) in
     let same : to_z w64 (of_z w64 code) ≡ code = to_z-of_z w64 code (search rules) in
     let below : place < length codes = omega (arith, c.loop-place-test.true) in
@@ -249,7 +250,7 @@ put_groups-loop-place-preserved t c =
     (record {
       buckets = λ rows_of h.
           groups-more (row_of shard.rows) rows_of gs key_of groups c.args.groups.now.places place c.index.result.now code (to_z w64 (of_z w64 code))
-          (level_buckets ds key_of c.args.level.now) (level_buckets ds key_of c.loop-place.level) (level_buckets ds key_of c.put.new.level) same h
+          (shown_level shard r c.args.level.now) (shown_level shard r c.loop-place.level) (shown_level shard r c.put.new.level) same h
           (item-at groups place c.index.result.now there c.index.ensures)
           (ap (λ (cs : List ℤ). slice_get cs place) (sym c.codes-codes.ensures.codes) ∙ slice_get-get_or codes place (pos 0) below)
           (c.loop-place.invariant.buckets rows_of h) c.in_ok-more.ensures.buckets;
@@ -262,12 +263,12 @@ pub put_groups-returns-clause-buckets : goal.put_groups-returns-clause-buckets
 put_groups-returns-clause-buckets t c = λ rows_of h.
     let shard = c.args.shard.now in
     let r = c.args.ready.now in
-    let key_of = code_key shard (out-Ready r).kind in
+    let key_of = key_at shard r in
     let codes = c.args.groups.now.places in
     let many = ap (λ (cs : List ℤ). length cs) c.codes-codes.ensures.codes in
     let all : length (map key_of codes) ≤ c.loop-place.place = omega (arith, length-map codes key_of, many, c.loop-place-test.false) in
     c.loop-place.invariant.buckets rows_of h
-    ∙ ap (λ ks. put_all rows_of (map (gatherer_of shard.rows) (out-Agg c.args.agg.now).children) ks (level_buckets (map (decoded shard) (out-Ready r).children) key_of c.args.level.now)) (take-full (map key_of codes) c.loop-place.place all)
+    ∙ ap (λ ks. put_all rows_of (gatherers shard (out-Agg c.args.agg.now).children) ks (shown_level shard r c.args.level.now)) (take-full (map key_of codes) c.loop-place.place all)
 
 pub count_keyed-row_codes-requires-clause-ready : goal.count_keyed-row_codes-requires-clause-ready
 count_keyed-row_codes-requires-clause-ready t c = (level-ready c.args.shard.now c.args.agg.now c.args.ready.now c.requires.ready).kind
@@ -299,12 +300,12 @@ count_keyed-returns-then-len-eq1-clause-buckets t c =
     let shard = c.args.shard.now in
     let k = (out-Agg c.args.agg.now).kind in
     let r = c.args.ready.now in
-    let key_of = code_key shard (out-Ready r).kind in
-    let gs = map (gatherer_of shard.rows) (out-Agg c.args.agg.now).children in
+    let key_of = key_at shard r in
+    let gs = gatherers shard (out-Agg c.args.agg.now).children in
     let row_at = row_of shard.rows in
     let rows = c.args.rows.now in
     let row = get_or rows 0 0 in
-    let buckets = level_buckets (map (decoded shard) (out-Ready r).children) key_of c.args.level.now in
+    let buckets = shown_level shard r c.args.level.now in
     let one = one-item rows (omega (arith, c.len.ensures, c.if-len-eq1.true)) in
     let keys_are = ap (map key_of) c.as_slice-then-len-eq1.ensures.value ∙ c.in_ok-row_codes.ensures ∙ ap (λ (rs : List ℕ). keys shard.rows k (row_at (get_or rs 0 0))) c.as_slice.ensures in
     c.in_ok-added.ensures.buckets ∙ (λ i. put_all (λ q. map row_at (one i)) gs (keys_are i) buckets)
@@ -316,8 +317,8 @@ count_keyed-returns-clause-buckets t c =
     let shard = c.args.shard.now in
     let k = (out-Agg c.args.agg.now).kind in
     let r = c.args.ready.now in
-    let key_of = code_key shard (out-Ready r).kind in
-    let ds = map (decoded shard) (out-Ready r).children in
+    let key_of = key_at shard r in
+    let ds = decoders shard (out-Ready r).children in
     let rows = c.args.rows.now in
     let ready = (level-ready shard c.args.agg.now r c.requires.ready).kind in
     let own = codes-own shard k (out-Ready r).kind ready in
@@ -325,8 +326,8 @@ count_keyed-returns-clause-buckets t c =
     let groups = c.in_ok-groups.groups.rows.items in
     let are = c.in_ok-groups.ensures.groups in
     let distinct : IsDistinct int_eq codes = subst (IsDistinct int_eq) c.drop-2.view_is c.drop-2.invariant.distinct in
-    c.in_ok-added-2.ensures.buckets (group shard.rows k (map (row_of shard.rows) rows)) (groups-are shard.rows k rows key_of own codes groups are)
-    ∙ many-rows shard.rows k rows key_of own codes groups are distinct (map (gatherer_of shard.rows) (out-Agg c.args.agg.now).children) (level_buckets ds key_of c.args.level.now)
+    c.in_ok-added-2.ensures.buckets (group shard.rows k (rows_at shard rows)) (groups-are shard.rows k rows key_of own codes groups are)
+    ∙ many-rows shard.rows k rows key_of own codes groups are distinct (gatherers shard (out-Agg c.args.agg.now).children) (shown_level shard r c.args.level.now)
     (keyed-keeps shard k (out-Ready r).kind ready c.requires.keyed) (level-up ds key_of own c.args.level.now c.requires.aligned)
 
 pub gather-returns-in_ok-more-in_default : goal.gather-returns-in_ok-more-in_default
@@ -345,10 +346,10 @@ count-returns-in_ok-more-in-Single-clause-tree t c =
     let shard = c.args.shard.now in
     let a = c.args.agg.now in
     let r = c.args.ready.now in
-    let rows = map (row_of shard.rows) c.args.rows.now in
+    let rows = rows_at shard c.args.rows.now in
     single-counted shard a r c.args.rows.now c.tree.inside.level c.put_codes.new.level c.in-Single.is (level-ready shard a r c.requires.ready).kind (λ e. false≢true (sym c.if-is_empty.false ∙ c.is_empty.ensures.1 e))
     (c.in_ok-more-in-Single.ensures.buckets
-    ∙ ap (λ (cs : List ℤ). put_all (λ k. rows) (map (gatherer_of shard.rows) (out-Agg a).children) (map (code_key shard (out-Ready r).kind) cs) (level_buckets (map (decoded shard) (out-Ready r).children) (code_key shard (out-Ready r).kind) c.tree.inside.level)) c.as_slice.ensures)
+    ∙ ap (λ (cs : List ℤ). put_all (λ k. rows) (gatherers shard (out-Agg a).children) (map (key_at shard r) cs) (shown_level shard r c.tree.inside.level)) c.as_slice.ensures)
     c.in_ok-more-in-Single.ensures.form (c.has_buckets.ensures (search rules))
     ∙ ap (λ n. counted shard.rows a rows (decoded shard r n)) c.tree.view_is
 
@@ -364,7 +365,7 @@ count-returns-in_ok-more-in-Terms-clause-tree t c =
     let shard = c.args.shard.now in
     let a = c.args.agg.now in
     let r = c.args.ready.now in
-    let rows = map (row_of shard.rows) c.args.rows.now in
+    let rows = rows_at shard c.args.rows.now in
     keyed-counted shard a r rows c.tree.inside.level c.count_keyed.new.level c.in_ok-more-in-Terms.ensures.buckets c.in_ok-more-in-Terms.ensures.form (c.has_buckets-in-Terms.ensures (search rules))
     ∙ ap (λ n. counted shard.rows a rows (decoded shard r n)) c.tree.view_is
 
@@ -380,7 +381,7 @@ count-returns-in_ok-take_rows-in-Metric-clause-tree t c =
     let shard = c.args.shard.now in
     let a = c.args.agg.now in
     let r = c.args.ready.now in
-    let rows = map (row_of shard.rows) c.args.rows.now in
+    let rows = rows_at shard c.args.rows.now in
     metric-counted shard a r rows c.tree.inside.level c.take_rows.new.level c.in_ok-take_rows-in-Metric.ensures.values
     ∙ ap (λ n. counted shard.rows a rows (decoded shard r n)) c.tree.view_is
 
@@ -389,4 +390,4 @@ count-returns-in_ok-take_rows-in-Metric-clause-cost t c =
     let shard = c.args.shard.now in
     let a = c.args.agg.now in
     let r = c.args.ready.now in
-    metric-cost shard a r (map (row_of shard.rows) c.args.rows.now) c.tree.inside.level c.take_rows.new.level c.in_ok-take_rows-in-Metric.ensures.values ∙ ap (λ n. node_cost (decoded shard r n) + 0) c.tree.view_is
+    metric-cost shard a r (rows_at shard c.args.rows.now) c.tree.inside.level c.take_rows.new.level c.in_ok-take_rows-in-Metric.ensures.values ∙ ap (λ n. node_cost (decoded shard r n) + 0) c.tree.view_is

@@ -1,43 +1,37 @@
 use Rattle.std.proofs.Common.{◌≡◌, ◌+◌, ◌*◌, List, map, take, sum_by}
 use denote.Param.Weighed.{most}
 use Rattle.agg_model.specs.declared.aggregation.Agg.{out-Agg, size-Agg}
-use Rattle.agg_evaluation.specs.Cost.{node_cost}
-use Rattle.agg_evaluation.specs.Rows.{PlacedRow, row_of}
 use Rattle.agg_model.specs.declared.key.Key.{Key}
+use Rattle.agg_evaluation.specs.Cost.{node_cost}
+use Rattle.agg_evaluation.specs.Rows.{PlacedRow}
 use Rattle.evaluation_laws.proofs.CostLaws.{bytes}
-use Rattle.growth_laws.specs.Gathering.{gatherer_of, gathered_children}
-use Rattle.growing_tree.specs.Codes.{code_key}
-use Rattle.growing_tree.specs.Decoded.{decoded, decoded_children}
-use Rattle.growing_tree.specs.Shown.{IsAlike, level_buckets, put_all}
+use Rattle.growth_laws.specs.Gathering.{gathered_children}
+use Rattle.growing_tree.specs.Gathered.{gatherers, key_at, rows_at, shown_children, shown_level}
+use Rattle.growing_tree.specs.Shown.{IsAlike, put_all}
 use Rattle.growing_tree.specs.Trees.{IsAligned}
-use Rattle.growing_tree.specs.declared.ready.Ready.{out-Ready}
 use Rattle.growing_tree.proofs.gathering.+gather.Given as goal
 
 abbrev pub invariant-gather_children-loop-place : goal.invariant-gather_children-loop-place
 invariant-gather_children-loop-place l = record {
-  trees : decoded_children (map (decoded l.shard) l.ready) l.children.items ≡ gathered_children (take l.place (map (gatherer_of l.shard.rows) l.aggs)) (map (row_of l.shard.rows) l.rows) (decoded_children (map (decoded l.shard) l.ready) l.fn.children.items);
-  cost : sum_by node_cost (decoded_children (map (decoded l.shard) l.ready) l.children.items) ≡ sum_by node_cost (decoded_children (map (decoded l.shard) l.ready) l.fn.children.items) + l.added;
+  trees : shown_children l.shard l.ready l.children.items ≡ gathered_children (take l.place (gatherers l.shard l.aggs)) (rows_at l.shard l.rows) (shown_children l.shard l.ready l.fn.children.items);
+  cost : sum_by node_cost (shown_children l.shard l.ready l.children.items) ≡ sum_by node_cost (shown_children l.shard l.ready l.fn.children.items) + l.added;
 }
 
 abbrev pub invariant-put_codes-loop-place : goal.invariant-put_codes-loop-place
 invariant-put_codes-loop-place l = record {
-  buckets : level_buckets (map (decoded l.shard) (out-Ready l.ready).children) (code_key l.shard (out-Ready l.ready).kind) l.level
-      ≡ put_all (λ k. map (row_of l.shard.rows) l.rows) (map (gatherer_of l.shard.rows) (out-Agg l.agg).children) (take l.place (map (code_key l.shard (out-Ready l.ready).kind) l.codes))
-      (level_buckets (map (decoded l.shard) (out-Ready l.ready).children) (code_key l.shard (out-Ready l.ready).kind) l.fn.level);
-  cost : sum_by bytes (level_buckets (map (decoded l.shard) (out-Ready l.ready).children) (code_key l.shard (out-Ready l.ready).kind) l.level)
-      ≡ sum_by bytes (level_buckets (map (decoded l.shard) (out-Ready l.ready).children) (code_key l.shard (out-Ready l.ready).kind) l.fn.level) + l.added;
+  buckets : shown_level l.shard l.ready l.level
+      ≡ put_all (λ k. rows_at l.shard l.rows) (gatherers l.shard (out-Agg l.agg).children) (take l.place (map (key_at l.shard l.ready) l.codes)) (shown_level l.shard l.ready l.fn.level);
+  cost : sum_by bytes (shown_level l.shard l.ready l.level) ≡ sum_by bytes (shown_level l.shard l.ready l.fn.level) + l.added;
   form : IsAlike l.fn.level l.level;
   aligned : IsAligned l.fn.level → IsAligned l.level;
 }
 
 abbrev pub invariant-put_groups-loop-place : goal.invariant-put_groups-loop-place
 invariant-put_groups-loop-place l = record {
-  buckets : (rows_of : Key → List PlacedRow) → map (map (row_of l.shard.rows)) l.groups.rows.items ≡ map (λ c. rows_of (code_key l.shard (out-Ready l.ready).kind c)) l.groups.places
-      → level_buckets (map (decoded l.shard) (out-Ready l.ready).children) (code_key l.shard (out-Ready l.ready).kind) l.level
-      ≡ put_all rows_of (map (gatherer_of l.shard.rows) (out-Agg l.agg).children) (take l.place (map (code_key l.shard (out-Ready l.ready).kind) l.groups.places))
-      (level_buckets (map (decoded l.shard) (out-Ready l.ready).children) (code_key l.shard (out-Ready l.ready).kind) l.fn.level);
-  cost : sum_by bytes (level_buckets (map (decoded l.shard) (out-Ready l.ready).children) (code_key l.shard (out-Ready l.ready).kind) l.level)
-      ≡ sum_by bytes (level_buckets (map (decoded l.shard) (out-Ready l.ready).children) (code_key l.shard (out-Ready l.ready).kind) l.fn.level) + l.added;
+  buckets : (rows_of : Key → List PlacedRow) → map (rows_at l.shard) l.groups.rows.items ≡ map (λ c. rows_of (key_at l.shard l.ready c)) l.groups.places
+      → shown_level l.shard l.ready l.level
+      ≡ put_all rows_of (gatherers l.shard (out-Agg l.agg).children) (take l.place (map (key_at l.shard l.ready) l.groups.places)) (shown_level l.shard l.ready l.fn.level);
+  cost : sum_by bytes (shown_level l.shard l.ready l.level) ≡ sum_by bytes (shown_level l.shard l.ready l.fn.level) + l.added;
   form : IsAlike l.fn.level l.level;
   aligned : IsAligned l.fn.level → IsAligned l.level;
 }
