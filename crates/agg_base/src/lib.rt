@@ -10,8 +10,6 @@ mod memory_sink;
 mod memory_source;
 mod sink;
 mod source;
-#[cfg(test)]
-mod tests;
 
 pub use adapters::{StdSink, StdSource};
 pub use limits::BLOCK;

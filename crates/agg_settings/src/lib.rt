@@ -15,8 +15,6 @@ mod numbers;
 mod options;
 mod settings;
 mod settings_line;
-#[cfg(test)]
-mod tests;
 mod values;
 
 pub use amount::byte_size;

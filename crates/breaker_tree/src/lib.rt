@@ -5,8 +5,6 @@
 mod charging;
 mod reopening;
 mod statistics;
-#[cfg(test)]
-mod tests;
 
 pub use agg_model::{BreakerStats, Totals, Tripped};
 pub use charging::{charge, give_back};

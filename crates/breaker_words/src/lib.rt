@@ -8,8 +8,6 @@
 mod breaker;
 pub mod laws;
 mod rule;
-#[cfg(test)]
-mod tests;
 mod trial;
 mod view;
 mod words;

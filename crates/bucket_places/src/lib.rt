@@ -3,7 +3,5 @@
 #![tactic(auto)]
 
 mod places;
-#[cfg(test)]
-mod tests;
 
 pub use places::{Place, Places};

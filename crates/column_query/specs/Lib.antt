@@ -2,4 +2,3 @@ pub mod Wanted
 pub mod Made
 pub mod Numbers
 pub mod Prepared
-pub mod Example

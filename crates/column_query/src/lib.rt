@@ -9,8 +9,6 @@ mod matching;
 mod numbers;
 mod prepared;
 mod preparing;
-#[cfg(test)]
-mod tests;
 mod values;
 
 pub use matched_rows::{Bits, matched};

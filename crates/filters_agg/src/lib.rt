@@ -4,8 +4,6 @@
 
 mod prepared_filters;
 mod row_keys;
-#[cfg(test)]
-mod tests;
 
 pub use prepared_filters::{PreparedFilters, codes, count, prepare};
 pub use row_keys::{key_count, keys};

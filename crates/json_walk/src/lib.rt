@@ -11,8 +11,6 @@ mod members;
 mod numbers;
 mod ranges;
 mod scalars;
-#[cfg(test)]
-mod tests;
 
 pub use at::At;
 pub use bytes::{json, reading};

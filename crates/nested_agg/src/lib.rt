@@ -5,8 +5,6 @@
 mod around;
 mod beneath;
 mod nesting;
-#[cfg(test)]
-mod tests;
 
 pub use around::rows_around;
 pub use beneath::rows_beneath;

@@ -3,7 +3,5 @@
 #![tactic(auto)]
 
 mod reader;
-#[cfg(test)]
-mod tests;
 
 pub use reader::{Entry, next_entry};

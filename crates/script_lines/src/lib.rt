@@ -6,8 +6,6 @@
 mod fault;
 mod header;
 mod line;
-#[cfg(test)]
-mod tests;
 
 pub use fault::{ScriptFault, ScriptRefusal};
 pub use header::{Header, header_of};

@@ -16,6 +16,5 @@ pub mod Dictionary
 pub mod Kinds
 pub mod Beneath
 pub mod Rising
-pub mod Example
 pub mod Contexts
 pub mod Made

@@ -8,8 +8,6 @@ mod index;
 mod layout;
 mod search;
 mod shard;
-#[cfg(test)]
-mod tests;
 mod values;
 mod words;
 

@@ -7,7 +7,5 @@
 
 mod charging;
 pub mod laws;
-#[cfg(test)]
-mod tests;
 
 pub use charging::{begin, give_up, settle};

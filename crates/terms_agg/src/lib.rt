@@ -9,8 +9,6 @@ mod prepared;
 mod preparing;
 mod row_codes;
 mod row_keys;
-#[cfg(test)]
-mod tests;
 mod trimming;
 
 pub use prepared::{PreparedTerms, codes_have_keys_of_their_own, has_key, key, key_bytes};

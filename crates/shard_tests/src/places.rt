@@ -1,0 +1,24 @@
+//! Codes that are found and added, by both forms of the index.
+use bucket_places::{Place, Places};
+use std::test::Fail;
+
+#[test]
+fn codes_stand_in_the_order_in_which_they_came(rt: HostRuntime) -> Result<(), Fail> {
+    let alloc = rt.alloc();
+    let mut dense = Places::dense(alloc, 4)?;
+    let mut ordered = Places::ordered(alloc);
+    for (code, place) in [
+        (3, Place::Added(0)),
+        (-7, Place::Added(1)),
+        (3, Place::Found(0)),
+        (0, Place::Added(2)),
+        (4, Place::Added(3)),
+        (-7, Place::Found(1)),
+    ] {
+        assert_eq!(rt; dense.find_or_add(code)?, place);
+        assert_eq!(rt; ordered.find_or_add(code)?, place);
+    }
+    assert_eq!(rt; dense.codes(), [3, -7, 0, 4].as_slice());
+    assert_eq!(rt; ordered.codes(), [3, -7, 0, 4].as_slice());
+    Ok(())
+}
