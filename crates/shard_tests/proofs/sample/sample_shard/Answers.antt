@@ -1,5 +1,5 @@
 -- The example's documents are such as its mapping gives.
-use Rattle.std.proofs.Common.{◌≡◌, refl, ◌<◌, ◌≤◌, ◌+◌, ◌^◌, List, length, sym, ◌∙◌, subst, arith, true}
+use Rattle.std.proofs.Common.{◌≡◌, refl, ◌<◌, ◌≤◌, ◌+◌, List, length, sym, ◌∙◌, subst, arith, true}
 use Rattle.std.specs.Prelude.{IsTrue}
 use Rattle.agg_model.specs.declared.limits.TheConstants.{MAX_PATHS, WEIGHT_LIMIT}
 use Rattle.agg_model.specs.declared.mapping.Mapping.{Mapping}
