@@ -25,9 +25,12 @@ pub fn make_room(words: &Words, pass: &mut Pass)
     ensures pass { pass.new ≡ with_view pass.old (after_set_ceiling pass.old.view (2 ^ 63)) }
     ensures alone { IsAlone words.now pass.new }
     ensures held { pass.new.view.accounts.parent.hold ≤ MAX_BYTE_SIZE }
+    ensures request { hold_of pass.new.view which.Request ≤ MAX_BYTE_SIZE }
     ensures same { (x : AnyWhich) → hold_of pass.new.view x ≡ hold_of pass.old.view x }
     ensures stands { (before : Before) (r : Run) → StandsAt before pass.old.view r → StandsAt before pass.new.view r }
 {
+    // What it holds at the parent is the sum of what it holds at the children, and within the parent's limit.
+    let _cap = pass.cap();
     look(words, pass, Which::Parent);
     set_ceiling(words, pass, CEILING);
 }
