@@ -1,13 +1,11 @@
 -- A batch of tasks and its merge, and all batches one after another.
-use Rattle.std.specs.Prelude.{◌≡◌, refl, T, ℕ, zero, suc, ◌+◌, ◌-◌, ◌*◌, ◌/◌, ◌<◌, ◌≤◌, ◌⊎◌, min, not, Bool, true, false, List, [], ◌∷◌, ◌++◌, drop, fold, filter, flat_map, length, map, option_to_list, sum_by, take, Option, Some, None, Result, Ok, Err, IfErr, IfOk, OnOk, IsTrue}
+use Rattle.std.specs.Prelude.{◌≡◌, refl, ℕ, suc, ◌+◌, ◌-◌, ◌*◌, ◌/◌, ◌<◌, ◌≤◌, ◌⊎◌, min, not, List, [], ◌∷◌, ◌++◌, drop, filter, flat_map, length, map, option_to_list, sum_by, take, Option, Some, None, Result, Ok, Err, IfErr, IfOk, OnOk, IsTrue}
 use Rattle.std.specs.List.{AllByRecursion, range_with_len}
 use Rattle.std.proofs.Common.{◌∙◌, sym, ap, subst, arith, append_assoc, inl, inr}
 use Rattle.std.proofs.lemmas.Bool.{cases_lt}
 use Rattle.std.proofs.lemmas.List.{map-append, length-map}
 use Rattle.std.proofs.lemmas.List.FromFn.{length-range_with_len}
-use Rattle.std.proofs.lemmas.List.Sums.{sum_by-append, sum_by-cons}
-use Rattle.list_laws.proofs.Lists.{joined}
-use Rattle.agg_evaluation.specs.Cost.{cost}
+use Rattle.std.proofs.lemmas.List.Sums.{sum_by-append}
 use Rattle.agg_evaluation.specs.SearchFits.{search_fits}
 use Rattle.agg_evaluation.specs.Shard.{shard_answer}
 use Rattle.agg_evaluation.specs.Whole.{whole}
@@ -16,13 +14,12 @@ use Rattle.agg_evaluation.proofs.TreeLaws.{shard_answer-is_result}
 use Rattle.agg_model.specs.declared.aggregation.Search.{Search}
 use Rattle.agg_model.specs.declared.breaker.Limits.{Limits}
 use Rattle.agg_model.specs.declared.breaker.Tripped.{Tripped}
-use Rattle.agg_model.specs.declared.outcome.Failure.{Failure}
 use Rattle.agg_model.specs.declared.partial.Partial.{Partial}
 use Rattle.agg_spec.proofs.SoloLaws.{batches-append}
 use Rattle.agg_spec.specs.Charges.{Run, run}
 use Rattle.agg_spec.specs.Index.{Index, rows_in, shard_numbers}
 use Rattle.agg_spec.specs.Outcome.{shard_answers, whole_of}
-use Rattle.agg_spec.specs.Reduction.{Going, Task, after_batch, after_batches, after_last, after_task, after_tasks, batches, begun, merge_steps, merged, reduced, task_of, tasks_of, unless_ended}
+use Rattle.agg_spec.specs.Reduction.{Going, Task, after_batch, after_batches, after_last, after_tasks, batches, begun, merge_steps, merged, reduced, task_of, tasks_of, unless_ended}
 use Rattle.batch_reduce.specs.Parts.{AreParts}
 use Rattle.breaker_words.specs.declared.view.View.{View}
 use Rattle.solo_charges.specs.Ends.{IsEnded}
@@ -39,7 +36,7 @@ use Rattle.agg_search.specs.Stops.{IfRefused}
 use Rattle.agg_search.specs.declared.progress.Progress.{Progress}
 use Rattle.agg_search.specs.declared.stop.Stop.{Stop}
 use Rattle.agg_search.specs.declared.stop.Stop.TheVariants as stop
-use Rattle.agg_search.proofs.Following.{batch-inert, batches-inert, last-inert, follow-then, follows-as, follows-nothing, stop-then, stopped-stays, stops-as}
+use Rattle.agg_search.proofs.Following.{batch-inert, batches-inert, last-inert, follow-then, follows-as, stop-then, stopped-stays, stops-as}
 use Rattle.agg_search.proofs.Numbers.{drop-map, drop-range, range-append, range-push, take-map, take-range, take-range-all}
 use Rattle.agg_search.proofs.Parts.{AreAmong, among-left, among-part, batch-parts, result-parts, whole-joined}
 

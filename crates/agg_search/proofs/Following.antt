@@ -1,14 +1,12 @@
 -- Steps of a search one after another, and what no longer changes once a breaker has ended it.
-use Rattle.std.specs.Prelude.{◌≡◌, refl, ℕ, List, [], ◌∷◌, ◌++◌, fold, Option, Some, None}
+use Rattle.std.specs.Prelude.{◌≡◌, refl, List, [], ◌∷◌, ◌++◌, fold, Some}
 use Rattle.std.proofs.Common.{◌∙◌, sym, ap, subst}
 use Rattle.agg_model.specs.declared.aggregation.Search.{Search}
 use Rattle.agg_model.specs.declared.breaker.Limits.{Limits}
 use Rattle.agg_model.specs.declared.breaker.Tripped.{Tripped}
-use Rattle.agg_model.specs.declared.outcome.Failure.{Failure}
-use Rattle.agg_spec.specs.Charges.{Run, run}
+use Rattle.agg_spec.specs.Charges.{run}
 use Rattle.agg_spec.specs.Reduction.{Going, Task, after_batch, after_batches, after_last, after_task, after_tasks, merge_steps, merged, task_ended, task_steps, unless_ended}
 use Rattle.breaker_words.specs.declared.view.View.{View}
-use Rattle.solo_charges.specs.Standing.{Before, StandsAt}
 use Rattle.agg_search.specs.Progressing.{IsAt, IsStopped, Follows, StopsIn, going_at}
 use Rattle.agg_search.specs.declared.progress.Progress.{Progress}
 

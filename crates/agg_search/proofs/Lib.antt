@@ -6,3 +6,6 @@ pub mod TaskRange
 pub mod MergeEnds
 pub mod Parts
 pub mod Batching
+pub mod Outcomes
+pub mod AnswerParts
+pub mod Ends

@@ -1,21 +1,16 @@
 -- The end of a merge, as the steps of the definitions.
-use Rattle.std.specs.Prelude.{◌≡◌, ◌≢◌, refl, ℕ, zero, suc, ◌+◌, ◌-◌, ◌≤◌, ◌↔◌, Bool, true, false, IsTrue, List, [], ◌∷◌, ◌++◌, length, option_to_list, sum_by, Option, Some, None, Result, Ok, Err}
-use Rattle.std.proofs.Common.{◌∙◌, sym, ap, subst, arith}
+use Rattle.std.specs.Prelude.{◌≡◌, refl, ℕ, zero, suc, ◌≤◌, ◌↔◌, Bool, true, false, IsTrue, List, [], ◌∷◌, length}
+use Rattle.std.proofs.Common.{sym, ap, subst, arith}
 use Rattle.agg_evaluation.specs.Cost.{cost}
 use Rattle.agg_evaluation.specs.Whole.{whole}
-use Rattle.agg_evaluation.proofs.SearchLaws.{whole-alone}
 use Rattle.agg_model.specs.declared.aggregation.Search.{Search}
 use Rattle.agg_model.specs.declared.breaker.Limits.{Limits}
 use Rattle.agg_model.specs.declared.breaker.Tripped.{Tripped}
-use Rattle.agg_model.specs.declared.breaker.Which.{Which}
-use Rattle.agg_model.specs.declared.breaker.Which.TheVariants.{Request, Fielddata, Inflight, Parent}
 use Rattle.agg_model.specs.declared.partial.Partial.{Partial}
 use Rattle.agg_spec.specs.Charges.{Run, run}
 use Rattle.agg_spec.specs.Reduction.{merge_steps, merged}
-use Rattle.batch_reduce.specs.Ends.{IfDone, IfMemory, IfRefused as IfMergeRefused, IsNotRefused, cost_of_end}
 use Rattle.batch_reduce.specs.Parts.{AreParts, cost_of_parts}
 use Rattle.batch_reduce.specs.Reduced.{IsMerged, IsRefused}
-use Rattle.batch_reduce.specs.declared.reducing.ReduceEnd.{ReduceEnd}
 use Rattle.batch_reduce.specs.declared.reducing.ReduceEnd.TheVariants as end
 use Rattle.breaker_words.specs.declared.view.View.{View}
 use Rattle.solo_charges.proofs.Merges.{free-stands, merged-stands, refused-merge-ends}

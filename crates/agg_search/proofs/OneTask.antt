@@ -1,5 +1,5 @@
 -- The end of one task, as a step of the definitions.
-use Rattle.std.specs.Prelude.{◌≡◌, ◌≢◌, refl, ℕ, ◌+◌, ◌≤◌, Bool, true, false, List, [], ◌∷◌, ◌++◌, flat_map, map, sum_by, take, Option, Some, None, Result, Ok, Err, OnOk, IfErr}
+use Rattle.std.specs.Prelude.{◌≡◌, ◌≢◌, refl, ℕ, ◌+◌, Bool, true, false, List, [], ◌∷◌, ◌++◌, flat_map, sum_by, take, None, Result, Ok, Err, OnOk, IfErr}
 use Rattle.std.proofs.Common.{◌∙◌, sym, ap, subst, arith, append_assoc}
 use Rattle.std.proofs.lemmas.List.{map-append}
 use Rattle.std.proofs.lemmas.List.Sums.{sum_by_push}
@@ -11,12 +11,11 @@ use Rattle.agg_model.specs.declared.aggregation.Search.{Search}
 use Rattle.agg_model.specs.declared.breaker.Limits.{Limits}
 use Rattle.agg_model.specs.declared.breaker.Tripped.{Tripped}
 use Rattle.agg_model.specs.declared.breaker.Which.{Which}
-use Rattle.agg_model.specs.declared.breaker.Which.TheVariants.{Request, Fielddata, Inflight, Parent}
+use Rattle.agg_model.specs.declared.breaker.Which.TheVariants.{Request, Parent}
 use Rattle.agg_model.specs.declared.partial.Partial.{Partial}
 use Rattle.agg_spec.specs.Charges.{Run, run}
 use Rattle.agg_spec.specs.Index.{Index, rows_in}
-use Rattle.agg_spec.specs.Outcome.{shard_answers, whole_of}
-use Rattle.agg_spec.specs.Reduction.{Going, Task, after_task, amount_step, task_ended, task_of, task_refused, task_steps, unless_ended}
+use Rattle.agg_spec.specs.Reduction.{Going, Task, after_task, task_ended, task_of, task_refused, task_steps, unless_ended}
 use Rattle.breaker_tree.specs.Charge.{IsAtRestAgain}
 use Rattle.breaker_words.specs.Views.{hold_of}
 use Rattle.breaker_words.specs.declared.view.View.{View}
@@ -25,7 +24,6 @@ use Rattle.collect_tree.specs.declared.ending.TaskEnd.{TaskEnd}
 use Rattle.collect_tree.specs.declared.ending.TaskEnd.TheVariants as task
 use Rattle.growth_laws.specs.Amounts.{amounts}
 use Rattle.solo_charges.proofs.Tasks.{done-stands, refused-ends, refused-stands}
-use Rattle.solo_charges.specs.Ends.{IsEnded}
 use Rattle.solo_charges.specs.Standing.{Before, StandsAt}
 use Rattle.task_charges.specs.Ended.{IsDone, IsGivenUp, IsRefused}
 use Rattle.agg_search.specs.Keeping.{IsKept}
@@ -34,8 +32,7 @@ use Rattle.agg_search.specs.Reached.{HasReached, HoldsCosts}
 use Rattle.agg_search.specs.Stops.{IfRefused}
 use Rattle.agg_search.specs.declared.progress.Progress.{Progress}
 use Rattle.agg_search.specs.declared.stop.Stop.{Stop}
-use Rattle.agg_search.specs.declared.stop.Stop.TheVariants as stop
-use Rattle.agg_search.proofs.Numbers.{ascending-more, ascending-push, left_before, left-failed, left-more}
+use Rattle.agg_search.proofs.Numbers.{ascending-more, ascending-push, left-failed, left-more}
 
 module _ (index : Index) (search : Search) (n : ℕ) where
   abbrev answer : Partial

@@ -1,10 +1,9 @@
 -- Results of some shards of an index, which are parts of a merge, and the whole of which can be finished.
-use Rattle.std.specs.Prelude.{◌≡◌, refl, T, ℕ, zero, suc, ◌+◌, ◌-◌, ◌<◌, ◌≤◌, ◌&&◌, not, Bool, true, false, List, [], ◌∷◌, ◌++◌, filter, flat_map, if◌then◌else◌, length, map, sum_by, Some, slice_get, slice_index_or, IsTrue}
+use Rattle.std.specs.Prelude.{◌≡◌, refl, ℕ, zero, suc, ◌+◌, ◌≤◌, ◌&&◌, Bool, true, false, List, [], ◌∷◌, ◌++◌, filter, if◌then◌else◌, length, map, sum_by, slice_index_or, IsTrue}
 use Rattle.std.specs.List.{list_all, range_with_len}
 use Rattle.std.proofs.Common.{◌∙◌, sym, ap, subst, arith, append_assoc}
 use Rattle.std.proofs.Math.Bool.{Bool-set}
 use Rattle.std.proofs.Math.Logic.{∥∥₁_elim, ∥∥₁_map, ∥∥₁_prop}
-use Rattle.std.proofs.lemmas.Bool.{and_parts}
 use Rattle.std.proofs.lemmas.List.{length-map, map-append}
 use Rattle.std.proofs.lemmas.List.Sums.{sum_by-append, sum_by-cons}
 use Rattle.list_laws.proofs.Booleans.{true_is}
@@ -13,18 +12,15 @@ use Rattle.agg_evaluation.proofs.SearchLaws.{whole-is_result, whole-unites}
 use Rattle.agg_evaluation.proofs.TreeLaws.{shard_answer-is_result}
 use Rattle.agg_evaluation.specs.DocumentFits.{all_fit}
 use Rattle.agg_evaluation.specs.Finishable.{can_finish}
-use Rattle.agg_evaluation.specs.Rows.{PlacedRow, rows_of_documents}
+use Rattle.agg_evaluation.specs.Rows.{rows_of_documents}
 use Rattle.agg_evaluation.specs.RowsWeight.{rows_weight}
 use Rattle.agg_evaluation.specs.SearchFits.{search_fits}
 use Rattle.agg_evaluation.specs.Shard.{shard_answer}
 use Rattle.agg_evaluation.specs.Trees.{is_result_of, numbers_fit}
 use Rattle.agg_evaluation.specs.Whole.{whole}
-use Rattle.agg_model.specs.Contexts.{parents_before}
 use Rattle.agg_model.specs.declared.aggregation.Search.{Search}
-use Rattle.agg_model.specs.declared.limits.TheConstants.{MAX_SHARDS, WEIGHT_LIMIT}
 use Rattle.agg_model.specs.declared.mapping.Mapping.{Mapping}
 use Rattle.agg_model.specs.declared.outcome.Failure.{Failure}
-use Rattle.agg_model.specs.declared.partial.Partial.{Partial}
 use Rattle.agg_model.specs.declared.row.Document.{Document}
 use Rattle.agg_reading.specs.Store.{weight}
 use Rattle.agg_spec.specs.Index.{Index, rows_in}
@@ -35,7 +31,7 @@ use Rattle.fitting_laws.proofs.Wholes.{wholes_fit}
 use Rattle.fitting_laws.proofs.WholesFinish.{wholes_finish}
 use Rattle.fitting_laws.specs.Wholes.{AreChosen, answers_of}
 use Rattle.shard_columns.proofs.Indexing.{fits-at}
-use Rattle.shard_columns.specs.Built.{IsBuiltFrom, IsShardOf, columns_from}
+use Rattle.shard_columns.specs.Built.{IsBuiltFrom}
 use Rattle.shard_columns.specs.Columns.{Columns}
 use Rattle.shard_columns.specs.Index.{AreShardsOf, rows_by_shard, shards_weight}
 use Rattle.shard_columns.specs.declared.index.Index.{Index as ShardIndex}
@@ -263,7 +259,7 @@ module _ (index : ShardIndex) (search : Search) (made : IsTrue (search_fits inde
         let one = map-apart (whole_of (index_of index) search) two.0 before some (sym two.1.1.1.0) in
         let parts : groups ≡ (one.0 ++ one.1.0) ++ two.1.0 = two.1.1.0 ∙ ap (λ xs. xs ++ two.1.0) one.1.1.0 in
         let flat : joined groups ≡ (joined one.0 ++ joined one.1.0) ++ joined two.1.0 =
-            ap joined parts ∙ joined-append (one.0 ++ one.1.0) two.1.0 ∙ ap (λ xs. xs ++ joined two.1.0) (joined-append one.0 one.1.0) in
+        ap joined parts ∙ joined-append (one.0 ++ one.1.0) two.1.0 ∙ ap (λ xs. xs ++ joined two.1.0) (joined-append one.0 one.1.0) in
         subst (λ ps. IsTrue (numbers_fit (whole search ps))) (sym one.1.1.1.1)
         (subst (λ p. IsTrue (numbers_fit p)) (sym (whole-joined one.1.0))
         (fit-some index search made (joined one.1.0) (among-part (length index.shards) (joined one.0) (joined one.1.0) (joined two.1.0) (subst (AreAmong (length index.shards)) flat among)))));

@@ -1,7 +1,7 @@
 -- A shard of an index, as the definitions of answers see it.
-use Rattle.std.specs.Prelude.{◌≡◌, refl, ℕ, zero, suc, ◌+◌, ◌≤◌, List, [], ◌∷◌, Some, slice_get, slice_index_or}
-use Rattle.std.proofs.Common.{◌∙◌, sym, ap, arith}
-use Rattle.agg_cost.proofs.Summing.{HasCeiling, by-mapping, each-has, one-shard}
+use Rattle.std.specs.Prelude.{◌≡◌, ℕ, zero, suc, ◌≤◌, List, [], ◌∷◌, Some, slice_get, slice_index_or}
+use Rattle.std.proofs.Common.{◌∙◌, ap, arith}
+use Rattle.agg_cost.proofs.Summing.{by-mapping, each-has, one-shard}
 use Rattle.agg_model.specs.declared.aggregation.Search.{Search}
 use Rattle.breaker_words.specs.declared.view.View.{View}
 use Rattle.collect_tree.specs.Room.{HasRoom}

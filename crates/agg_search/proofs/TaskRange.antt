@@ -1,11 +1,10 @@
 -- The tasks of shards that follow one another.
-use Rattle.std.specs.Prelude.{◌≡◌, refl, ℕ, suc, ◌+◌, ◌-◌, ◌<◌, ◌≤◌, List, [], ◌∷◌, ◌++◌, map, Result, Ok, Err, OnOk, IfErr}
+use Rattle.std.specs.Prelude.{◌≡◌, ℕ, suc, ◌+◌, ◌-◌, ◌≤◌, [], ◌∷◌, ◌++◌, map}
 use Rattle.std.specs.List.{range_with_len}
 use Rattle.std.proofs.Common.{◌∙◌, sym, ap, subst, arith}
 use Rattle.std.proofs.lemmas.List.{map-append}
 use Rattle.agg_model.specs.declared.aggregation.Search.{Search}
 use Rattle.agg_model.specs.declared.breaker.Limits.{Limits}
-use Rattle.agg_model.specs.declared.breaker.Tripped.{Tripped}
 use Rattle.agg_spec.proofs.SoloLaws.{tasks-append}
 use Rattle.agg_spec.specs.Index.{Index}
 use Rattle.agg_spec.specs.Reduction.{Going, after_task, after_tasks, task_of}

@@ -6,3 +6,5 @@ pub mod Reached
 pub mod Keeping
 pub mod Answering
 pub mod Reducing
+pub mod Stepping
+pub mod Telling

@@ -1,5 +1,5 @@
 -- Why a search stops before it has a whole.
-use Rattle.std.specs.Prelude.{⊤, Result, Ok, Err}
+use Rattle.std.specs.Prelude.{⊤}
 use Rattle.agg_model.specs.declared.breaker.Tripped.{Tripped}
 use Rattle.agg_search.specs.declared.stop.Stop.{Stop}
 use Rattle.agg_search.specs.declared.stop.Stop.TheVariants.{Refused, Memory}

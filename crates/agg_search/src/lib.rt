@@ -2,10 +2,13 @@
 //! final answer, each with its charges at the breakers.
 #![tactic(auto)]
 
+mod answering;
+mod charging;
 mod merging;
 mod progress;
 mod reducing;
+mod solo;
 mod stop;
 mod tasks;
 
-pub use reducing::reduce_search;
+pub use solo::search_solo;

@@ -1,10 +1,11 @@
 //! The results of a search while its tasks run.
-ghost use Rattle.std.specs.Prelude.{[]};
+ghost use Rattle.std.specs.Prelude.{◌≡◌, []};
 ghost use Rattle.agg_search.specs.Keeping.{IsKept};
 
 use crate::stop::Stop;
 use agg_model::{Failure, List, Partial};
 use collect_tree::TaskEnd;
+use std::alloc::Global;
 
 /// The results between two tasks of a search, and the shards that it leaves out.
 #[derive(Drop)]
@@ -40,5 +41,20 @@ pub(crate) fn keep(
             Ok(())
         }
         TaskEnd::Memory => Err(Stop::Memory),
+    }
+}
+
+impl Progress {
+    /// No result, and no shard that is left out.
+    pub(crate) fn new(alloc: Global) -> Self
+        ensures batch { result.batch ≡ [] }
+        ensures results { result.results ≡ [] }
+        ensures failures { result.failures ≡ [] }
+    {
+        Progress {
+            batch: List::new(alloc),
+            results: List::new(alloc),
+            failures: List::new(alloc),
+        }
     }
 }

@@ -113,7 +113,7 @@ fn run_batches(
 }
 
 /// The whole of the shards that did not fail; none where all of them did. The failures are told.
-pub fn reduce_search(
+pub(crate) fn reduce_search(
     alloc: Global,
     words: &Words,
     pass: &mut Pass,

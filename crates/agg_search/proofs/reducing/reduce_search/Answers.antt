@@ -1,5 +1,4 @@
 use Rattle.std.proofs.Common.{subst, sym}
-use Rattle.std.proofs.lemmas.Result.{err_from_is_err_and}
 use Rattle.agg_spec.specs.Failures.{unfailed}
 use Rattle.agg_spec.specs.Reduction.{tasks_of}
 use Rattle.batch_reduce.specs.Parts.{AreParts}
@@ -13,7 +12,7 @@ pub merge-requires-clause-parts : goal.merge-requires-clause-parts
 merge-requires-clause-parts c = (
   c.args.search.now,
   subst (AreParts c.args.search.now) (sym c.replace-parts.ensures.value)
-  (last-parts c.args.words.now.limits c.args.index.now c.args.search.now c.requires.search.made c.run_batches.new.progress c.in_ok-run_batches.ensures.reached c.in_ok-run_batches.ensures.merged),
+      (last-parts c.args.words.now.limits c.args.index.now c.args.search.now c.requires.search.made c.run_batches.new.progress c.in_ok-run_batches.ensures.reached c.in_ok-run_batches.ensures.merged),
 )
 
 pub returns-clause-whole : goal.returns-clause-whole

@@ -39,7 +39,7 @@ returns-clause-reached c =
     let are = waiting-parts c.args.index.now search c.requires.search.made c.args.to middle c.requires.places c.in_ok-run_tasks.ensures.reached in
     let parts = c.replace-parts.ensures.value in
     let is : option_to_list c.in_ok-whole.whole ≡ merged l search middle.batch =
-        c.in_ok-whole.ensures.merged search (subst (AreParts search) (sym parts) are) ∙ ap (merged l search) parts in
+    c.in_ok-whole.ensures.merged search (subst (AreParts search) (sym parts) are) ∙ ap (merged l search) parts in
     subst (λ (b : List Partial). HasReached index search c.args.to (record { batch = b; results = c.keep_whole.new.results; failures = middle.failures })) (sym (c.replace-parts.ensures.after ∙ c.new.ensures))
     (subst (λ (rs : List Partial). HasReached index search c.args.to (record { batch = []; results = rs; failures = middle.failures })) (sym c.in_ok-keep_whole.ensures)
     (reached-merged l index search c.args.to middle c.in_ok-whole.whole c.in_ok-run_tasks.ensures.reached is))
@@ -54,11 +54,11 @@ returns-clause-follows c =
     let are = waiting-parts c.args.index.now search c.requires.search.made c.args.to middle c.requires.places c.in_ok-run_tasks.ensures.reached in
     let parts = c.replace-parts.ensures.value in
     let is : option_to_list c.in_ok-whole.whole ≡ merged l search middle.batch =
-        c.in_ok-whole.ensures.merged search (subst (AreParts search) (sym parts) are) ∙ ap (merged l search) parts in
+    c.in_ok-whole.ensures.merged search (subst (AreParts search) (sym parts) are) ∙ ap (merged l search) parts in
     let batch = subst (λ (b : List Partial). Follows (after_batch l search) c.run_tasks.new.pass.view middle u (record { batch = b; results = c.keep_whole.new.results; failures = middle.failures })) (sym (c.replace-parts.ensures.after ∙ c.new.ensures))
-        (subst (λ (rs : List Partial). Follows (after_batch l search) c.run_tasks.new.pass.view middle u (record { batch = []; results = rs; failures = middle.failures })) (sym c.in_ok-keep_whole.ensures)
-        (batch-follows l index search c.run_tasks.new.pass.view u middle c.in_ok-whole.whole is
-        (stands-at l search c.run_tasks.new.pass.view u c.replace-parts.result middle.batch parts are (c.in_ok-whole.ensures.stands search)))) in
+    (subst (λ (rs : List Partial). Follows (after_batch l search) c.run_tasks.new.pass.view middle u (record { batch = []; results = rs; failures = middle.failures })) (sym c.in_ok-keep_whole.ensures)
+    (batch-follows l index search c.run_tasks.new.pass.view u middle c.in_ok-whole.whole is
+    (stands-at l search c.run_tasks.new.pass.view u c.replace-parts.result middle.batch parts are (c.in_ok-whole.ensures.stands search)))) in
     follow-then (λ going. after_tasks l search going (map (task_of index search) (range_with_len c.args.from (c.args.to - c.args.from)))) (after_batch l search)
     c.args.pass.now.view c.run_tasks.new.pass.view u c.args.progress.now middle (record { batch = c.replace-parts.new.dest; results = c.keep_whole.new.results; failures = middle.failures })
     c.in_ok-run_tasks.ensures.follows batch

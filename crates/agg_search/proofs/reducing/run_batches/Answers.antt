@@ -1,4 +1,4 @@
-use Rattle.std.proofs.Common.{◌≡◌, ◌+◌, ◌-◌, ◌*◌, ◌/◌, ◌<◌, ◌≤◌, ℕ, [], refl, ap, subst, sym, ◌∙◌, arith}
+use Rattle.std.proofs.Common.{◌≡◌, ◌+◌, ◌-◌, ◌*◌, ◌/◌, ◌<◌, ◌≤◌, ℕ, ap, subst, sym, ◌∙◌, arith}
 use Rattle.std.specs.Prelude.{length, min}
 use Rattle.std.proofs.lemmas.Result.{err_from_is_err_and}
 use Rattle.agg_search.specs.Defined.{index_of}

@@ -1,4 +1,4 @@
-use Rattle.std.proofs.Common.{◌≡◌, ◌<◌, List, length, ap, refl, sym, subst, ◌∙◌, arith}
+use Rattle.std.proofs.Common.{◌≡◌, ◌<◌, List, length, ap, refl, sym, subst, ◌∙◌}
 use Rattle.std.specs.Prelude.{Some, slice_get, ℕ, take}
 use Rattle.agg_cost.proofs.Summing.{here, one-shard, search-made}
 use Rattle.agg_evaluation.specs.Rows.{PlacedRow}
@@ -20,8 +20,8 @@ run_task-end-requires-clause-made c =
     let index = c.args.index.now in
     let s = c.index-as_slice-place.result in
     let at : slice_get index.shards c.args.place ≡ Some s =
-        subst (λ (xs : List Columns). slice_get xs c.args.place ≡ Some s) c.as_slice.ensures
-        (here c.as_slice.result.now c.args.place s (subst (λ (xs : List Columns). c.args.place < length xs) (sym c.as_slice.ensures) c.requires.place) c.index-as_slice-place.is) in
+    subst (λ (xs : List Columns). slice_get xs c.args.place ≡ Some s) c.as_slice.ensures
+    (here c.as_slice.result.now c.args.place s (subst (λ (xs : List Columns). c.args.place < length xs) (sym c.as_slice.ensures) c.requires.place) c.index-as_slice-place.is) in
     search-made index.mapping s c.args.search.now c.requires.search.made (one-shard index.mapping index.shards c.args.place s at index.built)
 
 pub run_task-end-requires-clause-room : goal.run_task-end-requires-clause-room
@@ -29,8 +29,8 @@ run_task-end-requires-clause-room c =
     let index = c.args.index.now in
     let s = c.index-as_slice-place.result in
     let at : slice_get index.shards c.args.place ≡ Some s =
-        subst (λ (xs : List Columns). slice_get xs c.args.place ≡ Some s) c.as_slice.ensures
-        (here c.as_slice.result.now c.args.place s (subst (λ (xs : List Columns). c.args.place < length xs) (sym c.as_slice.ensures) c.requires.place) c.index-as_slice-place.is) in
+    subst (λ (xs : List Columns). slice_get xs c.args.place ≡ Some s) c.as_slice.ensures
+    (here c.as_slice.result.now c.args.place s (subst (λ (xs : List Columns). c.args.place < length xs) (sym c.as_slice.ensures) c.requires.place) c.index-as_slice-place.is) in
     has-room index c.args.search.now c.args.place s c.make_room.new.pass.view c.requires.search at c.make_room.ensures.held (ap (λ p. p.view.cap) c.make_room.ensures.pass)
 
 pub returns-clause-fielddata : goal.returns-clause-fielddata
@@ -43,8 +43,8 @@ returns-clause-fielddata c =
     let u = c.run_task-end.new.pass.view in
     let end = c.run_task-end.result in
     let at : slice_get index.shards n ≡ Some s =
-        subst (λ (xs : List Columns). slice_get xs n ≡ Some s) c.as_slice.ensures
-        (here c.as_slice.result.now n s (subst (λ (xs : List Columns). n < length xs) (sym c.as_slice.ensures) c.requires.place) c.index-as_slice-place.is) in
+    subst (λ (xs : List Columns). slice_get xs n ≡ Some s) c.as_slice.ensures
+    (here c.as_slice.result.now n s (subst (λ (xs : List Columns). n < length xs) (sym c.as_slice.ensures) c.requires.place) c.index-as_slice-place.is) in
     let rows : s.rows ≡ rows_in (index_of index) n = sym (rows-here index.shards n s at) in
     let done = subst (λ (rs : List PlacedRow). IfDone end (λ p. IsDone c.args.words.now.limits w u search rs)) rows c.run_task-end.ensures.done in
     let refused = subst (λ (rs : List PlacedRow). IfRefused end (λ t. IsRefused c.args.words.now.limits w u (trace search rs) t)) rows c.run_task-end.ensures.refused in
@@ -62,8 +62,8 @@ returns-clause-inflight c =
     let u = c.run_task-end.new.pass.view in
     let end = c.run_task-end.result in
     let at : slice_get index.shards n ≡ Some s =
-        subst (λ (xs : List Columns). slice_get xs n ≡ Some s) c.as_slice.ensures
-        (here c.as_slice.result.now n s (subst (λ (xs : List Columns). n < length xs) (sym c.as_slice.ensures) c.requires.place) c.index-as_slice-place.is) in
+    subst (λ (xs : List Columns). slice_get xs n ≡ Some s) c.as_slice.ensures
+    (here c.as_slice.result.now n s (subst (λ (xs : List Columns). n < length xs) (sym c.as_slice.ensures) c.requires.place) c.index-as_slice-place.is) in
     let rows : s.rows ≡ rows_in (index_of index) n = sym (rows-here index.shards n s at) in
     let done = subst (λ (rs : List PlacedRow). IfDone end (λ p. IsDone c.args.words.now.limits w u search rs)) rows c.run_task-end.ensures.done in
     let refused = subst (λ (rs : List PlacedRow). IfRefused end (λ t. IsRefused c.args.words.now.limits w u (trace search rs) t)) rows c.run_task-end.ensures.refused in
@@ -81,8 +81,8 @@ returns-clause-reached c =
     let u = c.run_task-end.new.pass.view in
     let end = c.run_task-end.result in
     let at : slice_get index.shards n ≡ Some s =
-        subst (λ (xs : List Columns). slice_get xs n ≡ Some s) c.as_slice.ensures
-        (here c.as_slice.result.now n s (subst (λ (xs : List Columns). n < length xs) (sym c.as_slice.ensures) c.requires.place) c.index-as_slice-place.is) in
+    subst (λ (xs : List Columns). slice_get xs n ≡ Some s) c.as_slice.ensures
+    (here c.as_slice.result.now n s (subst (λ (xs : List Columns). n < length xs) (sym c.as_slice.ensures) c.requires.place) c.index-as_slice-place.is) in
     let rows : s.rows ≡ rows_in (index_of index) n = sym (rows-here index.shards n s at) in
     let answer = subst (λ (rs : List PlacedRow). IfDone end (λ p. p ≡ shard_answer search rs)) rows c.run_task-end.ensures.answer in
     reached-after c.args.words.now.limits (index_of index) search n w u end search.partial c.args.progress.now c.keep.new.progress c.keep.result c.requires.reached answer c.keep.ensures
@@ -97,8 +97,8 @@ returns-clause-held c =
     let u = c.run_task-end.new.pass.view in
     let end = c.run_task-end.result in
     let at : slice_get index.shards n ≡ Some s =
-        subst (λ (xs : List Columns). slice_get xs n ≡ Some s) c.as_slice.ensures
-        (here c.as_slice.result.now n s (subst (λ (xs : List Columns). n < length xs) (sym c.as_slice.ensures) c.requires.place) c.index-as_slice-place.is) in
+    subst (λ (xs : List Columns). slice_get xs n ≡ Some s) c.as_slice.ensures
+    (here c.as_slice.result.now n s (subst (λ (xs : List Columns). n < length xs) (sym c.as_slice.ensures) c.requires.place) c.index-as_slice-place.is) in
     let rows : s.rows ≡ rows_in (index_of index) n = sym (rows-here index.shards n s at) in
     let answer = subst (λ (rs : List PlacedRow). IfDone end (λ p. p ≡ shard_answer search rs)) rows c.run_task-end.ensures.answer in
     let done = subst (λ (rs : List PlacedRow). IfDone end (λ p. IsDone c.args.words.now.limits w u search rs)) rows c.run_task-end.ensures.done in
@@ -115,8 +115,8 @@ returns-clause-follows c =
     let u = c.run_task-end.new.pass.view in
     let end = c.run_task-end.result in
     let at : slice_get index.shards n ≡ Some s =
-        subst (λ (xs : List Columns). slice_get xs n ≡ Some s) c.as_slice.ensures
-        (here c.as_slice.result.now n s (subst (λ (xs : List Columns). n < length xs) (sym c.as_slice.ensures) c.requires.place) c.index-as_slice-place.is) in
+    subst (λ (xs : List Columns). slice_get xs n ≡ Some s) c.as_slice.ensures
+    (here c.as_slice.result.now n s (subst (λ (xs : List Columns). n < length xs) (sym c.as_slice.ensures) c.requires.place) c.index-as_slice-place.is) in
     let rows : s.rows ≡ rows_in (index_of index) n = sym (rows-here index.shards n s at) in
     let answer = subst (λ (rs : List PlacedRow). IfDone end (λ p. p ≡ shard_answer search rs)) rows c.run_task-end.ensures.answer in
     let done = subst (λ (rs : List PlacedRow). IfDone end (λ p. IsDone c.args.words.now.limits w u search rs)) rows c.run_task-end.ensures.done in
@@ -133,8 +133,8 @@ returns-clause-stops c =
     let u = c.run_task-end.new.pass.view in
     let end = c.run_task-end.result in
     let at : slice_get index.shards n ≡ Some s =
-        subst (λ (xs : List Columns). slice_get xs n ≡ Some s) c.as_slice.ensures
-        (here c.as_slice.result.now n s (subst (λ (xs : List Columns). n < length xs) (sym c.as_slice.ensures) c.requires.place) c.index-as_slice-place.is) in
+    subst (λ (xs : List Columns). slice_get xs n ≡ Some s) c.as_slice.ensures
+    (here c.as_slice.result.now n s (subst (λ (xs : List Columns). n < length xs) (sym c.as_slice.ensures) c.requires.place) c.index-as_slice-place.is) in
     let rows : s.rows ≡ rows_in (index_of index) n = sym (rows-here index.shards n s at) in
     let refused = subst (λ (rs : List PlacedRow). IfRefused end (λ t. IsRefused c.args.words.now.limits w u (trace search rs) t)) rows c.run_task-end.ensures.refused in
     stops-after c.args.words.now.limits (index_of index) search n w u c.args.pass.now.view c.make_room.ensures.stands c.make_room.ensures.alone.whole end search.partial c.args.progress.now c.keep.new.progress c.keep.result refl refused c.keep.ensures
