@@ -1,10 +1,1 @@
-mod AnswerLemmas
-mod DocumentLemmas
-mod LineLemmas
-mod LoadLemmas
-mod NameLemmas
-mod OutputLemmas
-mod RunLemmas
-mod ScriptLemmas
-mod SearchLemmas
-mod WriteLemmas
+-- The whole program.

@@ -1,0 +1,5 @@
+-- Lemmas on one worker.
+mod SameHolds
+mod Rounds
+mod Totals
+mod Refusals

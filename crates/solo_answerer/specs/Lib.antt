@@ -1,0 +1,2 @@
+-- One worker.
+pub mod Worked
