@@ -10,3 +10,4 @@ pub mod Handing
 pub mod AggSizes
 pub mod CollectedRoots
 pub mod Totals
+pub mod Summing

@@ -5,3 +5,4 @@ pub mod Fields
 pub mod Counters
 pub mod Staying
 pub mod Roots
+pub mod Searches

@@ -122,7 +122,7 @@ fn collected_bytes(
     node_bytes(alloc, shard, agg, 1, matched)
 }
 
-fn within_greatest(bytes: u64) -> Option<u64>
+pub(crate) fn within_greatest(bytes: u64) -> Option<u64>
     ensures { result ≡ unless_greater bytes }
 {
     if bytes > GREATEST_CEILING {

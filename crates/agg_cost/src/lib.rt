@@ -8,7 +8,9 @@ mod handing_on;
 mod key_bytes;
 mod key_counts;
 mod paths;
+mod searches;
 
 pub use bounds::node_bytes;
 pub use ceilings::ceiling;
 pub use paths::RowPaths;
+pub use searches::search_ceiling;

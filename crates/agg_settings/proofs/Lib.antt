@@ -5,3 +5,5 @@ mod AcceptedWords
 mod RefusedWords
 pub mod ComputingLines
 mod ChangedSettings
+pub mod ChangesKeep
+mod OneAtOnce

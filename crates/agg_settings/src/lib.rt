@@ -10,6 +10,7 @@ mod command;
 mod entries;
 mod fault;
 mod generate;
+pub mod laws;
 mod names;
 mod numbers;
 mod options;

@@ -4,7 +4,7 @@ mod Rising
 mod Starts
 mod ValueParts
 mod Capped
-mod Steps
-mod PlaceOrder
-mod PageSteps
-mod Offers
+pub mod Steps
+pub mod PlaceOrder
+pub mod PageSteps
+pub mod Offers

@@ -31,7 +31,7 @@ module _ (sources : List CompositeSource) where
   by : Bucket → Bucket → Ordering
   by a b = page_cmp sources (bucket_key a) (bucket_key b)
 
-  back : (j k : Key) → page_cmp sources j k ≡ ordering_reverse (page_cmp sources k j)
+  pub back : (j k : Key) → page_cmp sources j k ≡ ordering_reverse (page_cmp sources k j)
   back j k = (any_parts_total sources).antisymm (key_parts j) (key_parts k)
 
   pub not_itself : (k : Key) → T (is_lt (page_cmp sources k k)) → ⊥
@@ -74,13 +74,13 @@ module _ (sources : List CompositeSource) where
         | false ↦ λ e. and_false (is_lt (page_cmp sources (bucket_key b) k)) ∙ sym e ∙ from c cs order.1
       ] refl
 
-  differs : (j k : Key) → T (is_lt (page_cmp sources j k)) → key_eq k j ≡ false
+  pub differs : (j k : Key) → T (is_lt (page_cmp sources j k)) → key_eq k j ≡ false
   differs j k less = elim (key_eq k j) as (λ t. key_eq k j ≡ t → t ≡ false) [
     | true ↦ λ e. let same = key_eq-exact k j (holds _ e) in absurd (not_itself j (subst (λ q. T (is_lt (page_cmp sources j q))) same less))
     | false ↦ λ e. refl
   ] refl
 
-  differs_back : (j k : Key) → T (is_lt (page_cmp sources k j)) → key_eq k j ≡ false
+  pub differs_back : (j k : Key) → T (is_lt (page_cmp sources k j)) → key_eq k j ≡ false
   differs_back j k less = elim (key_eq k j) as (λ t. key_eq k j ≡ t → t ≡ false) [
     | true ↦ λ e. let same = key_eq-exact k j (holds _ e) in absurd (not_itself j (subst (λ q. T (is_lt (page_cmp sources q j))) same less))
     | false ↦ λ e. refl
@@ -117,7 +117,7 @@ module _ (sources : List CompositeSource) where
       or_yes true = refl
       or_yes false = refl
 
-  greater_back : (j k : Key) → is_lt (page_cmp sources j k) ≡ false → (page_cmp sources j k ≡ Equal → ⊥) → T (is_lt (page_cmp sources k j))
+  pub greater_back : (j k : Key) → is_lt (page_cmp sources j k) ≡ false → (page_cmp sources j k ≡ Equal → ⊥) → T (is_lt (page_cmp sources k j))
   greater_back j k e f = subst (λ o. T (is_lt o)) (sym (back k j)) (by_order (page_cmp sources j k) e f)
     where
       by_order : (o : Ordering) → is_lt o ≡ false → (o ≡ Equal → ⊥) → T (is_lt (ordering_reverse o))

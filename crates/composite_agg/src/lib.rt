@@ -13,5 +13,5 @@ mod row_keys;
 
 pub use first_keys::FirstKeys;
 pub use offered::Offered;
-pub use paging::page;
+pub use paging::{is_beyond_key, page};
 pub use row_keys::{key_count, keys};

@@ -58,8 +58,8 @@ fn keep_beyond(sources: &List<CompositeSource>, after: &Option<Key>, buckets: &m
     buckets.retain(|bucket| is_beyond_key(sources, &bucket.key, after));
 }
 
-// Whether a key comes after the one that is given, in the order of the sources.
-pub(crate) fn is_beyond_key(sources: &List<CompositeSource>, key: &Key, after: &Option<Key>) -> bool
+/// Whether a key comes after the one that is given, in the order of the sources. No key is given where all are after it.
+pub fn is_beyond_key(sources: &List<CompositeSource>, key: &Key, after: &Option<Key>) -> bool
     ensures { result ≡ is_beyond_any sources.now after.now key.now }
 {
     match after {

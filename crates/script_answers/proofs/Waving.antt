@@ -6,9 +6,10 @@ use Rattle.agg_model.specs.declared.outcome.Answered.{Answered}
 use Rattle.agg_spec.specs.Index.{Index}
 use Rattle.agg_spec.specs.Outcome.{Request}
 use Rattle.agg_spec.specs.Rounds.{Round}
-use Rattle.agg_spec.specs.Answers.{Recent, IsAllowed}
+use Rattle.agg_spec.specs.Answers.{Recent, IsAllowed, with_rounds}
 use Rattle.agg_spec.specs.Written.{answer, round_lines}
-use Rattle.script_answers.specs.Answering.{AnswersRound}
+use Rattle.agg_model.specs.declared.settings.Settings.{Settings}
+use Rattle.script_answers.specs.Answering.{AnswersRound, MayBe}
 use Rattle.script_answers.specs.Puts.{Puts}
 use Rattle.script_answers.specs.Waves.{PutsWave}
 use Rattle.script_answers.specs.declared.stop.Stop.{Stop}
@@ -43,13 +44,14 @@ module _ (index : Index) (columns : ℕ) (recent : Recent) where
   }
 
   -- the answers were written, as far as they were
-  pub wave-wrote : {X : Type 0} (requests : List Request) (now : Recent) (answers : List Answered) (before after : Option (List ℕ)) (result : Result X Stop)
-      → AnswersRound index columns recent requests now answers → Puts before after (map answer answers) result → PutsWave index columns recent requests before after now result
-  wave-wrote requests now answers before after result rounds puts = record {
-    rounds = rounds.rounds;
-    are = rounds.are;
-    puts = subst (λ ls. Puts before after ls result) (ap (map answer) rounds.answered ∙ answers-lines rounds.rounds) puts;
-    recent_is = ok-holds result rounds.recent_is;
+  pub wave-wrote : {X : Type 0} (requests : List Request) (answered : List Round → Type 0) (answers : List Answered) (before after : Option (List ℕ)) (result : Result X Stop)
+      (round : AnswersRound index columns recent requests answered answers) → Puts before after (map answer answers) result
+      → PutsWave index columns recent requests before after (with_rounds round.rounds recent) result
+  wave-wrote requests answered answers before after result round puts = record {
+    rounds = round.rounds;
+    are = round.are;
+    puts = subst (λ ls. Puts before after ls result) (ap (map answer) round.answered ∙ answers-lines round.rounds) puts;
+    recent_is = ok-holds result refl;
   }
 
   -- there was no memory for the answers
@@ -64,3 +66,13 @@ module _ (index : Index) (columns : ℕ) (recent : Recent) where
         puts = record { done = []; next = wants.next; others = wants.others; are = wants.lines; wrote = wrote-nothing before };
         recent_is = tt;
       })
+
+  -- the same, with what may have been answered then
+  pub wave-answered : {X : Type 0} (requests : List Request) (old new : Settings) (answered : List Round → Type 0) (answers : List Answered) (before after : Option (List ℕ)) (result : Result X Stop)
+      → AnswersRound index columns recent requests answered answers → Puts before after (map answer answers) result → new ≡ old → recent.settings ≡ old
+      → (now : Recent) × PutsWave index columns recent requests before after now result × OnOk result (MayBe new answered now)
+  wave-answered requests old new answered answers before after result round puts same here = (
+    with_rounds round.rounds recent,
+    wave-wrote requests answered answers before after result round puts,
+    ok-holds {P = MayBe new answered (with_rounds round.rounds recent)} result (record { settings_are = here ∙ sym same; rounds_are = round.count }),
+  )

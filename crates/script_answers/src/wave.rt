@@ -2,6 +2,8 @@
 ghost use Rattle.std.specs.Prelude.{◌≡◌, ◌≤◌, map, length, Err, OnOk};
 ghost use Rattle.agg_base.specs.Outside.{Rose};
 ghost use Rattle.agg_spec.specs.Requests.{request_of};
+ghost use Rattle.agg_spec.specs.Answers.{Recent};
+ghost use Rattle.script_answers.specs.Answering.{MayBe};
 ghost use Rattle.script_answers.specs.Waves.{PutsWave, PutsTotals};
 
 use crate::answerer::Answerer;
@@ -22,11 +24,13 @@ pub fn answer_wave<K: Sink, A: Answerer>(
     answerer: &mut A,
     bodies: &List<Bytes>,
 ) -> Result<(), Stop>
-    requires some { 1 ≤ (A.recent answerer.old).settings.width }
-    requires few { length bodies.now ≤ (A.recent answerer.old).settings.width }
-    ensures puts { PutsWave (A.index answerer.old) (A.columns answerer.old) (A.recent answerer.old)
-        (map (request_of (A.index answerer.old)) bodies.now)
-        (K.written sink.old) (K.written sink.new) (A.recent answerer.new) result }
+    requires some { 1 ≤ (A.in_force answerer.old).width }
+    requires few { length bodies.now ≤ (A.in_force answerer.old).width }
+    ensures puts { (recent : Recent) → MayBe (A.in_force answerer.old) (A.answered answerer.old) recent → (now : Recent)
+        × PutsWave (A.index answerer.old) (A.columns answerer.old) recent (map (request_of (A.index answerer.old)) bodies.now)
+        (K.written sink.old) (K.written sink.new) now result
+        × OnOk result (MayBe (A.in_force answerer.new) (A.answered answerer.new) now) }
+    ensures same_settings { A.in_force answerer.new ≡ A.in_force answerer.old }
     ensures same_index { A.index answerer.new ≡ A.index answerer.old }
     ensures same_columns { A.columns answerer.new ≡ A.columns answerer.old }
     ensures fault { result ≡ Err Stop.Write → Rose (K.faults sink.old) (K.faults sink.new) }
@@ -42,8 +46,8 @@ pub fn answer_wave<K: Sink, A: Answerer>(
 /// Closes the answerer, and writes the line of its statistics, the last of a script. Where the sink fails or memory runs out,
 /// `write_statistics` tells what was written.
 pub fn close<K: Sink, A: Answerer>(alloc: Global, sink: &mut K, answerer: A) -> Result<(), Stop>
-    ensures puts { PutsTotals (A.index answerer) (A.columns answerer) (A.recent answerer)
-        (K.written sink.old) (K.written sink.new) result }
+    ensures puts { (recent : Recent) → MayBe (A.in_force answerer) (A.answered answerer) recent →
+        PutsTotals (A.index answerer) (A.columns answerer) recent (K.written sink.old) (K.written sink.new) result }
     ensures fault { result ≡ Err Stop.Write → Rose (K.faults sink.old) (K.faults sink.new) }
     ensures never_falls { K.faults sink.old ≤ K.faults sink.new }
 {

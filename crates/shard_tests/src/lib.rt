@@ -1,5 +1,5 @@
-//! Tests of shards: columns, the rows that a query matches, and the keys of rows. They stand in a crate of their own, since a
-//! crate that has tests is proved once more for them.
+//! Tests of shards: columns, the rows that a query matches, the keys of rows, and trees. They stand in a crate of their own,
+//! since a crate that has tests is proved once more for them.
 #![tactic(auto)]
 
 #[cfg(test)]
@@ -16,3 +16,5 @@ mod places;
 mod sample;
 #[cfg(test)]
 mod terms;
+#[cfg(test)]
+mod trees;

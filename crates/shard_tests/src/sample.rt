@@ -1,6 +1,7 @@
 //! The worked example of the tests: a shard of one document with three nested objects, of one word each.
 ghost use Rattle.std.specs.Prelude.{◌≡◌, ◌∷◌, [], IfOk};
 ghost use Rattle.agg_model.specs.declared.mapping.FieldKind.TheVariants.{Keyword};
+ghost use Rattle.agg_evaluation.specs.Counted.{IsApart};
 ghost use Rattle.shard_columns.specs.Built.{IsShardOf};
 ghost use Rattle.shard_tests.specs.Example.{item_of, example_root, example_mapping, example_documents};
 
@@ -85,6 +86,7 @@ fn documents(alloc: Global) -> Result<List<Document>, AllocError>
 pub(crate) fn sample_shard(alloc: Global) -> Result<Shard, AllocError>
     ensures kinds { IfOk result (λ s. s.kinds ≡ Keyword ∷ []) }
     ensures built { IfOk result (λ s. IsShardOf example_mapping s) }
+    ensures apart { IfOk result (λ s. IsApart s.rows) }
 {
     let documents = documents(alloc)?;
     let mapping = mapping(alloc)?;

@@ -1,15 +1,18 @@
 -- The example's documents are such as its mapping gives.
-use Rattle.std.proofs.Common.{◌≡◌, refl, ◌<◌, ◌≤◌, ◌+◌, ◌^◌, List, length, sym, ◌∙◌, subst, arith, true}
+use Rattle.std.proofs.Common.{◌≡◌, refl, ◌<◌, ◌≤◌, ◌+◌, List, length, sym, ◌∙◌, subst, arith, true}
 use Rattle.std.specs.Prelude.{IsTrue}
 use Rattle.agg_model.specs.declared.limits.TheConstants.{MAX_PATHS, WEIGHT_LIMIT}
 use Rattle.agg_model.specs.declared.mapping.Mapping.{Mapping}
 use Rattle.agg_model.specs.declared.row.Document.{Document}
 use Rattle.agg_model.specs.Contexts.{parents_before}
+use Rattle.agg_evaluation.specs.Counted.{IsApart}
 use Rattle.agg_evaluation.specs.DocumentFits.{all_fit}
 use Rattle.agg_evaluation.specs.Rows.{rows_of_documents}
 use Rattle.agg_evaluation.specs.RowsWeight.{rows_weight}
 use Rattle.agg_evaluation.proofs.Computing.{computing}
+use Rattle.fitting_laws.proofs.Aparts.{documents_apart}
 use Rattle.shard_columns.specs.Built.{columns_from}
+use Rattle.shard_columns.specs.Columns.{Columns}
 use Rattle.shard_tests.specs.Example.{example_mapping, example_documents}
 use Rattle.shard_tests.proofs.sample.sample_shard.Goals as goal
 
@@ -47,3 +50,7 @@ build-requires-clause-fit c =
 
 pub build-requires-clause-light : goal.build-requires-clause-light
 build-requires-clause-light c = subst (λ (ds : List Document). rows_weight (rows_of_documents ds) < WEIGHT_LIMIT) (sym c.in_ok-documents.ensures) (omega (arith, weight-is))
+
+pub returns-clause-apart : goal.returns-clause-apart
+returns-clause-apart c =
+    subst (λ (s : Columns). IsApart s.rows) (sym (c.in_ok-shard.ensures ∙ (λ i. columns_from (c.in_ok-mapping.ensures i) (c.in_ok-documents.ensures i)))) (documents_apart example_mapping example_documents refl documents-fit)

@@ -1,0 +1,368 @@
+-- A batch of tasks and its merge, and all batches one after another.
+use Rattle.std.specs.Prelude.{◌≡◌, refl, ℕ, suc, ◌+◌, ◌-◌, ◌*◌, ◌/◌, ◌<◌, ◌≤◌, ◌⊎◌, min, not, List, [], ◌∷◌, ◌++◌, drop, filter, flat_map, length, map, option_to_list, sum_by, take, Option, Some, None, Result, Ok, Err, IfErr, IfOk, OnOk, IsTrue}
+use Rattle.std.specs.List.{AllByRecursion, range_with_len}
+use Rattle.std.proofs.Common.{◌∙◌, sym, ap, subst, arith, append_assoc, inl, inr}
+use Rattle.std.proofs.lemmas.Bool.{cases_lt}
+use Rattle.std.proofs.lemmas.List.{map-append, length-map}
+use Rattle.std.proofs.lemmas.List.FromFn.{length-range_with_len}
+use Rattle.std.proofs.lemmas.List.Sums.{sum_by-append}
+use Rattle.agg_evaluation.specs.SearchFits.{search_fits}
+use Rattle.agg_evaluation.specs.Shard.{shard_answer}
+use Rattle.agg_evaluation.specs.Whole.{whole}
+use Rattle.agg_evaluation.proofs.SearchLaws.{whole-alone}
+use Rattle.agg_evaluation.proofs.TreeLaws.{shard_answer-is_result}
+use Rattle.agg_model.specs.declared.aggregation.Search.{Search}
+use Rattle.agg_model.specs.declared.breaker.Limits.{Limits}
+use Rattle.agg_model.specs.declared.breaker.Tripped.{Tripped}
+use Rattle.agg_model.specs.declared.partial.Partial.{Partial}
+use Rattle.agg_spec.proofs.SoloLaws.{batches-append}
+use Rattle.agg_spec.specs.Charges.{Run, run}
+use Rattle.agg_spec.specs.Index.{Index, rows_in, shard_numbers}
+use Rattle.agg_spec.specs.Outcome.{shard_answers, whole_of}
+use Rattle.agg_spec.specs.Reduction.{Going, Task, after_batch, after_batches, after_last, after_tasks, batches, begun, merge_steps, merged, reduced, task_of, tasks_of, unless_ended}
+use Rattle.batch_reduce.specs.Parts.{AreParts}
+use Rattle.breaker_words.specs.declared.view.View.{View}
+use Rattle.solo_charges.specs.Ends.{IsEnded}
+use Rattle.solo_charges.specs.Standing.{Before, StandsAt}
+use Rattle.agg_spec.specs.Failures.{has_failed, unfailed}
+use Rattle.shard_columns.specs.Columns.{Columns}
+use Rattle.shard_columns.specs.declared.index.Index.{Index as ShardIndex}
+use Rattle.agg_search.specs.Answering.{whole_unless_none}
+use Rattle.agg_search.specs.Defined.{index_of}
+use Rattle.agg_search.specs.Progressing.{Follows, IsAt, IsStopped, StopsIn, going_at}
+use Rattle.agg_search.specs.Reached.{HasReached}
+use Rattle.agg_search.specs.Reducing.{IsReduced, Reduces, StopsReducing}
+use Rattle.agg_search.specs.Stops.{IfRefused}
+use Rattle.agg_search.specs.declared.progress.Progress.{Progress}
+use Rattle.agg_search.specs.declared.stop.Stop.{Stop}
+use Rattle.agg_search.specs.declared.stop.Stop.TheVariants as stop
+use Rattle.agg_search.proofs.Following.{batch-inert, batches-inert, last-inert, follow-then, follows-as, stop-then, stopped-stays, stops-as}
+use Rattle.agg_search.proofs.Numbers.{drop-map, drop-range, range-append, range-push, take-map, take-range, take-range-all}
+use Rattle.agg_search.proofs.Parts.{AreAmong, among-left, among-part, batch-parts, result-parts, whole-joined}
+
+-- numbers among some first ones are among more of them
+pub among-more : (m n : ℕ) (ns : List ℕ) → m ≤ n → AreAmong m ns → AreAmong n ns
+among-more m n ns le among f =
+    let parts = ap (range_with_len 0) (let e : n ≡ m + (n - m) = omega arith in e) ∙ range-append 0 m (n - m) in
+    let sums = ap (sum_by f) parts ∙ sum_by-append f (range_with_len 0 m) (range_with_len (0 + m) (n - m)) in
+    let here = among f in omega (arith, sums, here)
+
+-- a group of the shards that wait, where there are some
+abbrev pub group_of : List ℕ → List (List ℕ)
+group_of [] = []
+group_of (n ∷ ns) = (n ∷ ns) ∷ []
+
+all-append : {A : Type 0} (P : A → Type 0) (xs ys : List A) → AllByRecursion P xs → AllByRecursion P ys → AllByRecursion P (xs ++ ys)
+all-append P [] ys all more = more
+all-append P (x ∷ xs) ys (first, rest) more = (first, all-append P xs ys rest more)
+
+append-nothing : {A : Type 0} (xs : List A) → xs ++ [] ≡ xs
+append-nothing [] = refl
+append-nothing (x ∷ xs) = ap (λ ys. x ∷ ys) (append-nothing xs)
+
+pub flat-append : (a b : List (List ℕ)) → flat_map (λ group. group) (a ++ b) ≡ flat_map (λ group. group) a ++ flat_map (λ group. group) b
+flat-append [] b = refl
+flat-append (x ∷ xs) b = ap (λ ns. x ++ ns) (flat-append xs b) ∙ sym (append_assoc x (flat_map (λ group. group) xs) (flat_map (λ group. group) b))
+
+group-some : (ns : List ℕ) → AllByRecursion (λ (group : List ℕ). 1 ≤ length group) (group_of ns)
+group-some [] = tt
+group-some (n ∷ ns) = (omega arith, tt)
+
+group-flat : (ns : List ℕ) → flat_map (λ group. group) (group_of ns) ≡ ns
+group-flat [] = refl
+group-flat (n ∷ ns) = append-nothing (n ∷ ns)
+
+-- what a batch comes to
+group-merged : (l : Limits) (index : Index) (search : Search) (ns : List ℕ) → merged l search (shard_answers index search ns) ≡ map (whole_of index search) (group_of ns)
+group-merged l index search [] = refl
+group-merged l index search (n ∷ []) = ap (λ p. p ∷ []) (sym (whole-alone search (shard_answer search (rows_in index n)) (shard_answer-is_result search (rows_in index n))))
+group-merged l index search (n ∷ k ∷ ns) = refl
+
+module _ (l : Limits) (index : Index) (search : Search) where
+  -- once the batch is merged
+  pub reached-merged : (done : ℕ) (old : Progress) (whole : Option Partial) (reached : HasReached index search done old) → option_to_list whole ≡ merged l search old.batch
+      → HasReached index search done (record { batch = []; results = old.results ++ option_to_list whole; failures = old.failures })
+  reached-merged done old whole reached is = record {
+    groups = reached.groups ++ group_of reached.waiting;
+    waiting = [];
+    some_each = all-append (λ (group : List ℕ). 1 ≤ length group) reached.groups (group_of reached.waiting) reached.some_each (group-some reached.waiting);
+    results_are = ap (λ ps. old.results ++ ps) (is ∙ ap (merged l search) reached.batch_is ∙ group-merged l index search reached.waiting)
+        ∙ ap (λ ps. ps ++ map (whole_of index search) (group_of reached.waiting)) reached.results_are
+        ∙ sym (map-append (whole_of index search) reached.groups (group_of reached.waiting));
+    batch_is = refl;
+    left = append-nothing (flat_map (λ group. group) (reached.groups ++ group_of reached.waiting))
+        ∙ flat-append reached.groups (group_of reached.waiting)
+        ∙ ap (λ ns. flat_map (λ group. group) reached.groups ++ ns) (group-flat reached.waiting)
+        ∙ reached.left;
+    failures_are = reached.failures_are;
+  }
+
+  abbrev after-merge : Run → Progress → Going
+  after-merge r old = record { run = run l r (merge_steps l search old.batch); batch = []; results = old.results ++ merged l search old.batch; failures = old.failures }
+
+  batch-begins : (r : Run) (old : Progress) → r.refused ≡ None → after_batch l search (going_at r old) ≡ after-merge r old
+  batch-begins r old none = ap (λ o. unless_ended o (after-merge r old) (going_at r old)) none
+
+  pub batch-follows : (w u : View) (old : Progress) (whole : Option Partial) → option_to_list whole ≡ merged l search old.batch
+      → ((before : Before) (r : Run) → StandsAt before w r → StandsAt before u (run l r (merge_steps l search old.batch)))
+      → Follows (after_batch l search) w old u (record { batch = []; results = old.results ++ option_to_list whole; failures = old.failures })
+  batch-follows w u old whole is stands before r at =
+      subst (λ g. IsAt before u g (record { batch = []; results = old.results ++ option_to_list whole; failures = old.failures }))
+      (sym (batch-begins r old at.going))
+      (record { stands = stands before r at; is = ap (λ ps. record { run = run l r (merge_steps l search old.batch); batch = []; results = old.results ++ ps; failures = old.failures }) (sym is) })
+
+  pub batch-stops : (w u : View) (old now : Progress) (t : Tripped) → now.failures ≡ old.failures
+      → ((before : Before) (r : Run) → StandsAt before w r → IsEnded before u (run l r (merge_steps l search old.batch)) t)
+      → StopsIn (after_batch l search) w old u now t
+  batch-stops w u old now t same ends before r at =
+      subst (λ g. IsStopped before u g now.failures t) (sym (batch-begins r old at.going)) (record { ended = ends before r at; failures_are = sym same })
+
+  pub batch-stops-if : (s : Stop) (v w u : View) (f : Going → Going) (first old now : Progress) → now.failures ≡ old.failures → Follows f v first w old
+      → IfRefused s (λ t. (before : Before) (r : Run) → StandsAt before w r → IsEnded before u (run l r (merge_steps l search old.batch)) t)
+      → IfRefused s (StopsIn (λ going. after_batch l search (f going)) v first u now)
+  batch-stops-if stop.Memory v w u f first old now same follows ends = tt
+  batch-stops-if (stop.Refused t) v w u f first old now same follows ends =
+      stop-then f (after_batch l search) v w u first old now t follows (batch-stops w u old now t same ends)
+
+  pub tasks-stop-if : (s : Stop) (v u : View) (f : Going → Going) (first now : Progress) → IfRefused s (StopsIn f v first u now) → IfRefused s (StopsIn (λ going. after_batch l search (f going)) v first u now)
+  tasks-stop-if stop.Memory v u f first now stops = tt
+  tasks-stop-if (stop.Refused t) v u f first now stops = stopped-stays f (after_batch l search) v u first now t (batch-inert l search) stops
+
+  -- the batches of all tasks
+  module _ (size : ℕ) (some : 1 ≤ size) where
+    abbrev shards : ℕ
+    shards = length index.shards
+
+    abbrev pub chunk : ℕ → List Task
+    chunk i = take size (drop (i * size) (tasks_of index search))
+
+    abbrev pub chunks : ℕ → List (List Task)
+    chunks n = map chunk (range_with_len 0 n)
+
+    pub chunk-is : (i to : ℕ) → i * size ≤ shards → to ≡ min shards (i * size + size) → chunk i ≡ map (task_of index search) (range_with_len (i * size) (to - i * size))
+    chunk-is i to within e =
+        ap (take size) (drop-map (task_of index search) (i * size) (range_with_len 0 shards) ∙ ap (map (task_of index search)) (drop-range 0 shards (i * size)))
+        ∙ take-map (task_of index search) size (range_with_len (0 + i * size) (shards - i * size))
+        ∙ ap (map (task_of index search)) (first-part (cases_lt (shards - i * size) size) ∙ ap (λ a. range_with_len a (to - i * size)) (let z : 0 + i * size ≡ i * size = omega arith in z))
+      where
+        first-part : ((shards - i * size) < size) ⊎ (size ≤ (shards - i * size)) → take size (range_with_len (0 + i * size) (shards - i * size)) ≡ range_with_len (0 + i * size) (to - i * size)
+        first-part (inl less) =
+            take-range-all (0 + i * size) (shards - i * size) size (omega arith) ∙ ap (range_with_len (0 + i * size)) (let same : shards - i * size ≡ to - i * size = omega arith in same)
+        first-part (inr more) =
+            take-range (0 + i * size) (shards - i * size) size more ∙ ap (range_with_len (0 + i * size)) (let same : size ≡ to - i * size = omega arith in same)
+
+    count-is : batches size (tasks_of index search) ≡ chunks ((shards + size - 1) / size)
+    count-is = ap (λ n. chunks ((n + size - 1) / size)) (length-map (shard_numbers index) (task_of index search) ∙ length-range_with_len 0 shards)
+
+    abbrev pub batches_to : ℕ → Going → Going
+    batches_to n going = after_batches l search going (chunks n)
+
+    abbrev pub one_batch : ℕ → Going → Going
+    one_batch i going = after_batch l search (after_tasks l search going (chunk i))
+
+    to-next : (n : ℕ) (going : Going) → one_batch n (batches_to n going) ≡ batches_to (suc n) going
+    to-next n going =
+        sym (ap (λ ns. after_batches l search going (map chunk ns)) (range-push 0 n ∙ ap (λ k. range_with_len 0 n ++ k ∷ []) (let z : 0 + n ≡ n = omega arith in z))
+        ∙ ap (after_batches l search going) (map-append chunk (range_with_len 0 n) (n ∷ []))
+        ∙ batches-append l search going (chunks n) (chunk n ∷ []))
+
+    to-end : (n m : ℕ) (going : Going) → after_batches l search (batches_to n going) (map chunk (range_with_len (0 + n) m)) ≡ batches_to (n + m) going
+    to-end n m going =
+        sym (ap (λ ns. after_batches l search going (map chunk ns)) (range-append 0 n m)
+        ∙ ap (after_batches l search going) (map-append chunk (range_with_len 0 n) (range_with_len (0 + n) m))
+        ∙ batches-append l search going (chunks n) (map chunk (range_with_len (0 + n) m)))
+
+    pub all-follow : (n : ℕ) (v u : View) (old now : Progress) → n ≡ (shards + size - 1) / size → Follows (batches_to n) v old u now
+        → Follows (λ going. after_batches l search going (batches size (tasks_of index search))) v old u now
+    all-follow n v u old now e follows =
+        follows-as (batches_to n) (λ going. after_batches l search going (batches size (tasks_of index search))) v u old now
+        (λ going. ap (λ k. batches_to k going) e ∙ ap (after_batches l search going) (sym count-is)) follows
+
+    module _ (v w u : View) (old middle now : Progress) (n next : ℕ) (next_is : next ≡ suc n) (before : Follows (batches_to n) v old w middle) where
+      pub one-batch-more : Follows (one_batch n) w middle u now → Follows (batches_to next) v old u now
+      one-batch-more one =
+          let all = follows-as (λ going. one_batch n (batches_to n going)) (batches_to (suc n)) v u old now (to-next n) (follow-then (batches_to n) (one_batch n) v w u old middle now before one) in
+          subst (λ k. Follows (batches_to k) v old u now) (sym next_is) all
+
+      pub batch-stopped : (s : Stop) → next ≤ (shards + size - 1) / size → IfRefused s (StopsIn (one_batch n) w middle u now)
+          → IfRefused s (StopsIn (λ going. after_batches l search going (batches size (tasks_of index search))) v old u now)
+      batch-stopped stop.Memory le stops = tt
+      batch-stopped (stop.Refused t) le stops =
+          let count = (shards + size - 1) / size in
+          let here = stops-as (λ going. one_batch n (batches_to n going)) (batches_to (suc n)) v u old now t (to-next n) (stop-then (batches_to n) (one_batch n) v w u old middle now t before stops) in
+          let rest = map chunk (range_with_len (0 + suc n) (count - suc n)) in
+          let at_end = stopped-stays (batches_to (suc n)) (λ going. after_batches l search going rest) v u old now t (batches-inert l search rest) here in
+          let same : suc n + (count - suc n) ≡ count = omega arith in
+          stops-as (λ going. after_batches l search (batches_to (suc n) going) rest) (λ going. after_batches l search going (batches size (tasks_of index search))) v u old now t
+          (λ going. to-end (suc n) (count - suc n) going ∙ ap (λ k. batches_to k going) same ∙ ap (after_batches l search going) (sym count-is)) at_end
+
+-- the results that wait are parts of a merge
+pub waiting-parts : (index : ShardIndex) (search : Search) → IsTrue (search_fits index.mapping search) → (done : ℕ) (p : Progress) → done ≤ length index.shards → HasReached (index_of index) search done p
+    → AreParts search p.batch
+waiting-parts index search made done p le reached =
+    let among : AreAmong done (flat_map (λ group. group) reached.groups ++ reached.waiting) = subst (AreAmong done) (sym reached.left) (among-left p.failures done) in
+    let own : AreAmong done reached.waiting = among-part done (flat_map (λ group. group) reached.groups) reached.waiting [] (subst (AreAmong done) (sym (append-nothing (flat_map (λ group. group) reached.groups ++ reached.waiting))) among) in
+    subst (AreParts search) (sym reached.batch_is) (batch-parts index search made reached.waiting (among-more done (length index.shards) reached.waiting le own))
+
+-- what is told of parts is told of the batch that they were
+module _ (l : Limits) (search : Search) (w u : View) (parts batch : List Partial) (same : parts ≡ batch) (are : AreParts search batch) where
+  pub stands-at : (AreParts search parts → (before : Before) (r : Run) → StandsAt before w r → StandsAt before u (run l r (merge_steps l search parts)))
+      → (before : Before) (r : Run) → StandsAt before w r → StandsAt before u (run l r (merge_steps l search batch))
+  stands-at told before r at =
+      subst (λ (ps : List Partial). StandsAt before u (run l r (merge_steps l search ps))) same (told (subst (AreParts search) (sym same) are) before r at)
+
+  pub stops-at : (s : Stop) → IfRefused s (λ t. (search : Search) → AreParts search parts → (before : Before) (r : Run) → StandsAt before w r → IsEnded before u (run l r (merge_steps l search parts)) t)
+      → IfRefused s (λ t. (before : Before) (r : Run) → StandsAt before w r → IsEnded before u (run l r (merge_steps l search batch)) t)
+  stops-at stop.Memory told = tt
+  stops-at (stop.Refused t) told = λ before r at.
+      subst (λ (ps : List Partial). IsEnded before u (run l r (merge_steps l search ps)) t) same (told search (subst (AreParts search) (sym same) are) before r at)
+
+abbrev pub batches_before : Limits → Index → Search → ℕ → ℕ → Going → Going
+batches_before l index search size n going = after_batches l search going (map (λ i. take size (drop (i * size) (tasks_of index search))) (range_with_len 0 n))
+
+pub rows-count : (index : ShardIndex) → length (index_of index).shards ≡ length index.shards
+rows-count index = length-map index.shards (λ (s : Columns). s.rows)
+
+-- each batch begins before the end
+pub start-within : (n size k : ℕ) → 1 ≤ size → n < (k + size - 1) / size → n * size ≤ k
+start-within n size k some below =
+    let most : (n + 1) * size ≤ ((k + size - 1) / size) * size = grind arith in
+    let whole : ((k + size - 1) / size) * size ≤ k + size - 1 = grind arith in
+    omega arith
+
+pub end-covers : (size k : ℕ) → 1 ≤ size → k ≤ ((k + size - 1) / size) * size
+end-covers size k some = grind arith
+
+module _ (l : Limits) (index : ShardIndex) (search : Search) (size : ℕ) (some : 1 ≤ size) (n to : ℕ) (below : n < (length index.shards + size - 1) / size) (to_is : to ≡ min (length index.shards) (n * size + size)) where
+  abbrev tasks_in : List Task
+  tasks_in = map (task_of (index_of index) search) (range_with_len (n * size) (to - n * size))
+
+  this-chunk : chunk l (index_of index) search size some n ≡ tasks_in
+  this-chunk =
+      let count = rows-count index in let within = start-within n size (length index.shards) some below in
+      chunk-is l (index_of index) search size some n to (omega arith) (omega arith)
+
+  pub as-chunk : (w u : View) (middle now : Progress) → Follows (λ going. after_batch l search (after_tasks l search going tasks_in)) w middle u now
+      → Follows (one_batch l (index_of index) search size some n) w middle u now
+  as-chunk w u middle now follows = subst (λ ts. Follows (λ going. after_batch l search (after_tasks l search going ts)) w middle u now) (sym this-chunk) follows
+
+  pub as-chunk-stops : (s : Stop) (w u : View) (middle now : Progress) → IfRefused s (StopsIn (λ going. after_batch l search (after_tasks l search going tasks_in)) w middle u now)
+      → IfRefused s (StopsIn (one_batch l (index_of index) search size some n) w middle u now)
+  as-chunk-stops s w u middle now stops = subst (λ ts. IfRefused s (StopsIn (λ going. after_batch l search (after_tasks l search going ts)) w middle u now)) (sym this-chunk) stops
+
+-- all shards that did not fail, once the results of the batches are merged
+module _ (l : Limits) (index : ShardIndex) (search : Search) (made : IsTrue (search_fits index.mapping search)) (p : Progress) (reached : HasReached (index_of index) search (length index.shards) p) (none : p.batch ≡ []) where
+  nobody-waits : (ns : List ℕ) → shard_answers (index_of index) search ns ≡ [] → ns ≡ []
+  nobody-waits [] e = refl
+  nobody-waits (n ∷ ns) e = absurd (let no : ⊥ = cc in no)
+
+  waits : reached.waiting ≡ []
+  waits = nobody-waits reached.waiting (sym reached.batch_is ∙ none)
+
+  left-is : flat_map (λ group. group) reached.groups ≡ unfailed (index_of index) p.failures
+  left-is =
+      sym (append-nothing (flat_map (λ group. group) reached.groups)) ∙ ap (λ ns. flat_map (λ group. group) reached.groups ++ ns) (sym waits) ∙ reached.left
+      ∙ ap (λ n. filter (λ shard. not (has_failed p.failures shard)) (range_with_len 0 n)) (sym (rows-count index))
+
+  pub last-parts : AreParts search p.results
+  last-parts =
+      subst (AreParts search) (sym reached.results_are)
+      (result-parts index search made reached.groups
+      (subst (AreAmong (length index.shards)) (sym (sym (append-nothing (flat_map (λ group. group) reached.groups)) ∙ ap (λ ns. flat_map (λ group. group) reached.groups ++ ns) (sym waits) ∙ reached.left))
+      (among-left p.failures (length index.shards))))
+
+  some-left : (g : List ℕ) (gs : List (List ℕ)) → 1 ≤ length g → Some (whole_of (index_of index) search (flat_map (λ group. group) (g ∷ gs))) ≡ whole_unless_none (index_of index) search (flat_map (λ group. group) (g ∷ gs))
+  some-left [] gs some = absurd (omega arith)
+  some-left (n ∷ ns) gs some = refl
+
+  one-option : (o : Option Partial) (q : Partial) → option_to_list o ≡ q ∷ [] → o ≡ Some q
+  one-option None q e = absurd (let no : ⊥ = cc in no)
+  one-option (Some x) q e = let same : x ≡ q = cc in ap (λ y. Some y) same
+
+  no-option : (o : Option Partial) → option_to_list o ≡ [] → o ≡ None
+  no-option None e = refl
+  no-option (Some x) e = absurd (let no : ⊥ = cc in no)
+
+  by-groups : (groups : List (List ℕ)) → AllByRecursion (λ (group : List ℕ). 1 ≤ length group) groups → (o : Option Partial)
+      → option_to_list o ≡ merged l search (map (whole_of (index_of index) search) groups) → o ≡ whole_unless_none (index_of index) search (flat_map (λ group. group) groups)
+  by-groups [] each o e = no-option o e
+  by-groups (g ∷ []) (first, rest) o e =
+      one-option o (whole_of (index_of index) search g) e
+      ∙ ap (λ ns. Some (whole_of (index_of index) search ns)) (sym (append-nothing g)) ∙ some-left g [] first
+  by-groups (g ∷ h ∷ gs) (first, rest) o e =
+      one-option o (whole search (map (whole_of (index_of index) search) (g ∷ h ∷ gs))) e
+      ∙ ap (λ q. Some q) (whole-joined index search made (g ∷ h ∷ gs)) ∙ some-left g (h ∷ gs) first
+
+  pub last-whole : (o : Option Partial) → option_to_list o ≡ merged l search p.results → o ≡ whole_unless_none (index_of index) search (unfailed (index_of index) p.failures)
+  last-whole o e =
+      by-groups reached.groups reached.some_each o (e ∙ ap (merged l search) reached.results_are)
+      ∙ ap (whole_unless_none (index_of index) search) left-is
+
+-- the last merge, behind all batches
+module _ (l : Limits) (search : Search) (size : ℕ) (tasks : List Task) (v w u : View) (old p : Progress) (empty : old ≡ record { batch = []; results = []; failures = [] })
+    (follows : Follows (λ going. after_batches l search going (batches size tasks)) v old w p) where
+  abbrev last-merge : Run → Going
+  last-merge r = record { run = run l r (merge_steps l search p.results); batch = p.batch; results = merged l search p.results; failures = p.failures }
+
+  at-last : (before : Before) (r : Run) → StandsAt before v r
+      → (q : Run) × ((StandsAt before w q) × (reduced l search size r tasks ≡ record { run = run l q (merge_steps l search p.results); batch = p.batch; results = merged l search p.results; failures = p.failures }))
+  at-last before r stands =
+      let at = subst (λ (o : Progress). IsAt before w (after_batches l search (going_at r o) (batches size tasks)) p) empty (follows before r stands) in
+      let g = after_batches l search (begun r) (batches size tasks) in
+      (g.run, (at.stands, ap (after_last l search) at.is ∙ ap (λ o. unless_ended o (last-merge g.run) (going_at g.run p)) at.stands.going))
+
+  pub reduces : ((before : Before) (r : Run) → StandsAt before w r → StandsAt before u (run l r (merge_steps l search p.results))) → Reduces l search size tasks v u p.failures
+  reduces told before r stands =
+      let at = at-last before r stands in
+      subst (λ g. IsReduced before u g p.failures) (sym at.1.1) (record { stands = told before at.0 at.1.0; failures_are = refl })
+
+  pub stops-last : (s : Stop) → IfRefused s (λ t. (before : Before) (r : Run) → StandsAt before w r → IsEnded before u (run l r (merge_steps l search p.results)) t)
+      → IfRefused s (StopsReducing l search size tasks v u p.failures)
+  stops-last stop.Memory told = tt
+  stops-last (stop.Refused t) told = λ before r stands.
+      let at = at-last before r stands in
+      subst (λ g. IsStopped before u g p.failures t) (sym at.1.1) (record { ended = told before at.0 at.1.0; failures_are = refl })
+
+-- stopped before the last merge
+pub stops-before : (l : Limits) (search : Search) (size : ℕ) (tasks : List Task) (v u : View) (old now : Progress) → old ≡ record { batch = []; results = []; failures = [] } → (s : Stop)
+    → IfRefused s (StopsIn (λ going. after_batches l search going (batches size tasks)) v old u now) → IfRefused s (StopsReducing l search size tasks v u now.failures)
+stops-before l search size tasks v u old now empty stop.Memory stops = tt
+stops-before l search size tasks v u old now empty (stop.Refused t) stops = λ before r stands.
+    let one = subst (λ (o : Progress). IsStopped before u (after_batches l search (going_at r o) (batches size tasks)) now.failures t) empty (stops before r stands) in
+    let g = after_batches l search (begun r) (batches size tasks) in
+    subst (λ h. IsStopped before u h now.failures t) (sym (last-inert l search g t one.ended.refused)) one
+
+pub reached-begun : (index : Index) (search : Search) (old : Progress) → old ≡ record { batch = []; results = []; failures = [] } → HasReached index search 0 old
+reached-begun index search old empty = subst (HasReached index search 0) (sym empty) (record {
+  groups = [];
+  waiting = [];
+  some_each = tt;
+  results_are = refl;
+  batch_is = refl;
+  left = refl;
+  failures_are = tt;
+})
+
+pub is-empty : (p : Progress) → p.batch ≡ [] → p.results ≡ [] → p.failures ≡ [] → p ≡ record { batch = []; results = []; failures = [] }
+is-empty p b r f = λ i. (record { batch = b i; results = r i; failures = f i })
+
+-- the same of an end that may be one or the other
+module _ (l : Limits) (search : Search) (w u : View) (parts batch : List Partial) (same : parts ≡ batch) (are : AreParts search batch) where
+  pub whole-if : (res : Result (Option Partial) Stop) (o : Option Partial) → ((x : Option Partial) → option_to_list x ≡ merged l search batch → x ≡ o)
+      → IfOk res (λ whole. (search : Search) → AreParts search parts → option_to_list whole ≡ merged l search parts) → IfOk res (λ whole. whole ≡ o)
+  whole-if (Ok x) o is told = is x (told search (subst (AreParts search) (sym same) are) ∙ ap (merged l search) same)
+  whole-if (Err s) o is told = tt
+
+  pub reduces-if : (res : Result (Option Partial) Stop) (Q : Type 0)
+      → (((before : Before) (r : Run) → StandsAt before w r → StandsAt before u (run l r (merge_steps l search batch))) → Q)
+      → IfOk res (λ whole. (search : Search) → AreParts search parts → (before : Before) (r : Run) → StandsAt before w r → StandsAt before u (run l r (merge_steps l search parts)))
+      → OnOk res Q
+  reduces-if (Ok x) Q is told = is (stands-at l search w u parts batch same are (told search))
+  reduces-if (Err s) Q is told = tt
+
+  pub stops-if : (res : Result (Option Partial) Stop) (P : Tripped → Type 0)
+      → ((s : Stop) → IfRefused s (λ t. (before : Before) (r : Run) → StandsAt before w r → IsEnded before u (run l r (merge_steps l search batch)) t) → IfRefused s P)
+      → IfErr res (λ s. IfRefused s (λ t. (search : Search) → AreParts search parts → (before : Before) (r : Run) → StandsAt before w r → IsEnded before u (run l r (merge_steps l search parts)) t))
+      → IfErr res (λ s. IfRefused s P)
+  stops-if (Ok x) P is told = tt
+  stops-if (Err s) P is told = is s (stops-at l search w u parts batch same are s told)

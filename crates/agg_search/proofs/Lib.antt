@@ -1,0 +1,11 @@
+pub mod Following
+pub mod OneTask
+pub mod Numbers
+pub mod ShardLists
+pub mod TaskRange
+pub mod MergeEnds
+pub mod Parts
+pub mod Batching
+pub mod Outcomes
+pub mod AnswerParts
+pub mod Ends

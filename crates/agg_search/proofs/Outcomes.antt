@@ -1,0 +1,233 @@
+-- What the shards that are left come to, and which searches run.
+use Rattle.std.specs.Prelude.{◌≡◌, refl, ℕ, zero, suc, ◌+◌, ◌-◌, ◌<◌, ◌≤◌, nat_lt, not, Bool, true, false, List, [], ◌∷◌, ◌*◌, is_some, length, Option, Some, None, Ok, Err}
+use Rattle.std.proofs.Common.{◌∙◌, sym, ap, subst, arith, get_or}
+use Rattle.std.proofs.lemmas.Bool.{le-ltb, lt-ltb}
+use Rattle.agg_evaluation.specs.Ceiling.{search_ceiling}
+use Rattle.agg_model.specs.declared.aggregation.Search.{Search}
+use Rattle.agg_model.specs.declared.answer.Answer.{Answer}
+use Rattle.agg_model.specs.declared.breaker.Tripped.{Tripped}
+use Rattle.agg_model.specs.declared.outcome.Failure.{Failure}
+use Rattle.agg_model.specs.declared.outcome.Outcome.{Outcome}
+use Rattle.agg_model.specs.declared.outcome.Outcome.TheVariants as ended
+use Rattle.agg_model.specs.declared.outcome.Refused.{Refused}
+use Rattle.agg_model.specs.declared.outcome.Refused.TheVariants as refused
+use Rattle.agg_model.specs.declared.partial.Partial.{Partial}
+use Rattle.agg_spec.specs.BucketCount.{total_buckets}
+use Rattle.agg_spec.specs.Failures.{AreAscending, total_failure, unfailed}
+use Rattle.agg_spec.specs.Index.{Index, field_kinds}
+use Rattle.agg_spec.specs.Outcome.{Request, answer_of, answer_outcome, line_in_range, outcome, outcome_of_shards, request_outcome, running, running_search, whole_of}
+use Rattle.agg_spec.specs.RangeCheck.{out_of_range}
+use Rattle.agg_spec.specs.Response.{response_line}
+use Rattle.agg_model.specs.declared.breaker.Child.TheVariants as child
+use Rattle.agg_model.specs.declared.breaker.Limits.{Limits}
+use Rattle.agg_model.specs.declared.settings.Settings.{Settings}
+use Rattle.agg_spec.proofs.SoloLaws.{run-stopped}
+use Rattle.agg_spec.specs.Charges.{Run, charge_of, run}
+use Rattle.agg_spec.specs.Reduction.{Going, after_last, batches, begun, reduced, tasks_of}
+use Rattle.agg_spec.specs.Solo.{body_charged, outcome_with, responded, response_steps, searched}
+use Rattle.breaker_words.specs.declared.view.View.{View}
+use Rattle.solo_charges.specs.Ends.{IsEnded}
+use Rattle.solo_charges.specs.Standing.{Before, StandsAt}
+use Rattle.agg_search.specs.Answering.{IsOutcome, Searches, Solves, StopsSearching, StopsSolving, whole_unless_none}
+use Rattle.agg_search.specs.Progressing.{IsStopped}
+use Rattle.agg_search.specs.Reducing.{IsReduced, StopsReducing}
+use Rattle.agg_search.specs.Stops.{IfRefused}
+use Rattle.agg_search.specs.declared.stop.Stop.{Stop}
+use Rattle.agg_search.specs.declared.stop.Stop.TheVariants as stop
+use Rattle.agg_search.proofs.Following.{batches-inert, last-inert}
+use Rattle.agg_search.proofs.Numbers.{left_before}
+
+pub ascending-length : (least shards : ℕ) (failures : List Failure) → AreAscending least shards failures → length failures ≤ shards - least
+ascending-length least shards [] ascending = omega arith
+ascending-length least shards (f ∷ rest) (at_least, below, later) = let fewer = ascending-length (f.shard + 1) shards rest later in omega (arith, fewer)
+
+-- where no shard is left, one has failed
+pub some-failed : (fs : List Failure) (n : ℕ) → 1 ≤ n → left_before fs n ≡ [] → 1 ≤ length fs
+some-failed (f ∷ fs) n some none = omega arith
+some-failed [] zero some none = absurd (omega arith)
+some-failed [] (suc n) some none = absurd (let no : ⊥ = cc in no)
+
+pub first-told : (index : Index) (max : ℕ) (search : Search) (fs : List Failure) (f : Failure) → 1 ≤ length fs → f ≡ get_or fs 0 f → ended.Tripped f.tripped ≡ outcome_of_shards index max search fs []
+first-told index max search [] f some e = absurd (omega arith)
+first-told index max search (g ∷ gs) f some e = ap (λ (x : Failure). ended.Tripped x.tripped) e
+
+pub none-left : (index : Index) (search : Search) (left : List ℕ) → None ≡ whole_unless_none index search left → left ≡ []
+none-left index search [] e = refl
+none-left index search (n ∷ ns) e = absurd (let no : ⊥ = cc in no)
+
+pub whole-is : (index : Index) (search : Search) (left : List ℕ) (w : Partial) → Some w ≡ whole_unless_none index search left → w ≡ whole_of index search left
+whole-is index search [] w e = absurd (let no : ⊥ = cc in no)
+whole-is index search (n ∷ ns) w e = let same : w ≡ whole_of index search (n ∷ ns) = cc in same
+
+no-total : (index : Index) (search : Search) (fs : List Failure) (left : List ℕ) (w : Partial) → Some w ≡ whole_unless_none index search left → total_failure fs left ≡ None
+no-total index search fs [] w e = absurd (let no : ⊥ = cc in no)
+no-total index search [] (n ∷ ns) w e = refl
+no-total index search (f ∷ fs) (n ∷ ns) w e = refl
+
+module _ (index : Index) (max : ℕ) (search : Search) (fs : List Failure) (left : List ℕ) where
+  abbrev answer : Answer
+  answer = answer_of index search left
+
+  abbrev by_total : Option Tripped → Outcome
+  by_total o = elim o [ Some t ↦ ended.Tripped t | None ↦ answer_outcome index max search fs answer ]
+
+  abbrev by_count : Bool → Outcome
+  by_count b = elim b [
+    | true ↦ ended.Refused (refused.TooManyBuckets (total_buckets search answer) max)
+    | false ↦ line_in_range (out_of_range search answer) (response_line search index.mapping answer (length index.shards) fs)
+  ]
+
+  pub some-outcome : (w : Partial) → Some w ≡ whole_unless_none index search left → outcome_of_shards index max search fs left ≡ answer_outcome index max search fs answer
+  some-outcome w e = ap by_total (no-total index search fs left w e)
+
+  pub line-outcome : total_buckets search answer ≤ max → out_of_range search answer ≡ None
+      → answer_outcome index max search fs answer ≡ ended.Response (response_line search index.mapping answer (length index.shards) fs)
+  line-outcome few in_range = ap by_count (le-ltb max (total_buckets search answer) few) ∙ ap (λ o. line_in_range o (response_line search index.mapping answer (length index.shards) fs)) in_range
+
+  pub wide-outcome : (path : List ℕ) → total_buckets search answer ≤ max → out_of_range search answer ≡ Some path → answer_outcome index max search fs answer ≡ ended.Refused (refused.SumRange path)
+  wide-outcome path few out = ap by_count (le-ltb max (total_buckets search answer) few) ∙ ap (λ o. line_in_range o (response_line search index.mapping answer (length index.shards) fs)) out
+
+  pub many-outcome : max < total_buckets search answer → answer_outcome index max search fs answer ≡ ended.Refused (refused.TooManyBuckets (total_buckets search answer) max)
+  many-outcome many = ap by_count (lt-ltb max (total_buckets search answer) many)
+
+module _ (index : Index) (max : ℕ) (search : Search) where
+  abbrev by_ceiling : List Failure → Option ℕ → Outcome
+  by_ceiling fs o = elim o [ None ↦ ended.Refused refused.TooWide | Some ceiling ↦ outcome_of_shards index max search fs (unfailed index fs) ]
+
+  -- a search that is too wide
+  pub too-wide : (request : Request) (fs : List Failure) → request.search ≡ Ok search → search_ceiling (field_kinds index) search index.shards ≡ None → outcome index max request fs ≡ ended.Refused refused.TooWide
+  too-wide request fs e none = ap (λ s. request_outcome index max s fs) e ∙ ap (by_ceiling fs) none
+
+  pub not-wide : (request : Request) (fs : List Failure) (n : ℕ) → request.search ≡ Ok search → search_ceiling (field_kinds index) search index.shards ≡ Some n
+      → outcome index max request fs ≡ outcome_of_shards index max search fs (unfailed index fs)
+  not-wide request fs n e some = ap (λ s. request_outcome index max s fs) e ∙ ap (by_ceiling fs) some
+
+  pub not-run : (request : Request) → request.search ≡ Ok search → search_ceiling (field_kinds index) search index.shards ≡ None → running_search index max request ≡ None
+  not-run request e none = ap (λ s. running s (outcome index max request [])) e ∙ ap (running (Ok search)) (too-wide request [] e none)
+
+  runs-line : (o : Option (List ℕ)) (line : List ℕ) → running (Ok search) (line_in_range o line) ≡ Some search
+  runs-line None line = refl
+  runs-line (Some path) line = refl
+
+  runs-count : (left : List ℕ) (b : Bool) → running (Ok search) (by_count index max search [] left b) ≡ Some search
+  runs-count left true = refl
+  runs-count left false = runs-line (out_of_range search (answer_of index search left)) (response_line search index.mapping (answer_of index search left) (length index.shards) [])
+
+  pub runs : (request : Request) (n : ℕ) → request.search ≡ Ok search → search_ceiling (field_kinds index) search index.shards ≡ Some n → running_search index max request ≡ Some search
+  runs request n e some =
+      ap (λ s. running s (outcome index max request [])) e ∙ ap (running (Ok search)) (not-wide request [] n e some)
+      ∙ runs-count (unfailed index []) (nat_lt max (total_buckets search (answer_of index search (unfailed index []))))
+
+pub from-some : (o : Option ℕ) (b : Bool) → is_some o ≡ not b → b ≡ false → (n : ℕ) × (o ≡ Some n)
+from-some (Some n) b e h = (n, refl)
+from-some None b e h = absurd (let no : false ≡ true = e ∙ ap not h in (let none : ⊥ = cc in none))
+
+pub no-some : (o : Option ℕ) (b : Bool) → is_some o ≡ not b → b ≡ true → o ≡ None
+no-some None b e h = refl
+no-some (Some n) b e h = absurd (let no : true ≡ false = e ∙ ap not h in (let none : ⊥ = cc in none))
+
+module _ (settings : Settings) (index : Index) (search : Search) (request : Request) (is : request.search ≡ Ok search) where
+  module _ (n : ℕ) (some : search_ceiling (field_kinds index) search index.shards ≡ Some n) (limits : Limits) (same : limits ≡ settings.limits) where
+    same-run : (r : Run) → reduced limits search settings.batch r (tasks_of index search) ≡ searched settings index r (running_search index settings.max_buckets request)
+    same-run r = ap (λ l. reduced l search settings.batch r (tasks_of index search)) same ∙ ap (searched settings index r) (sym (runs index settings.max_buckets search request n is some))
+
+    pub search-ends : (before : Before) (u : View) (r : Run) (failures : List Failure) (o : Outcome)
+        → IsReduced before u (reduced limits search settings.batch r (tasks_of index search)) failures
+        → o ≡ outcome_of_shards index settings.max_buckets search failures (unfailed index failures)
+        → IsOutcome settings index request before u (searched settings index r (running_search index settings.max_buckets request)) failures o
+    search-ends before u r failures o done e =
+        let done_there = subst (λ g. IsReduced before u g failures) (same-run r) done in
+        record {
+          stands = done_there.stands;
+          failures_are = done_there.failures_are;
+          outcome_is = e ∙ sym (not-wide index settings.max_buckets search request failures n is some) ∙ ap (outcome index settings.max_buckets request) (sym done_there.failures_are);
+        }
+
+    pub search-stops : (before : Before) (u : View) (r : Run) (failures : List Failure) (t : Tripped)
+        → IsStopped before u (reduced limits search settings.batch r (tasks_of index search)) failures t
+        → IsStopped before u (searched settings index r (running_search index settings.max_buckets request)) failures t
+    search-stops before u r failures t stopped = subst (λ g. IsStopped before u g failures t) (same-run r) stopped
+
+pub stops-search-if : (settings : Settings) (index : Index) (search : Search) (n : ℕ) → search_ceiling (field_kinds index) search index.shards ≡ Some n → (limits : Limits) → limits ≡ settings.limits
+    → (v u : View) (failures : List Failure) (s : Stop) → IfRefused s (StopsReducing limits search settings.batch (tasks_of index search) v u failures)
+    → IfRefused s (λ t. (request : Request) → request.search ≡ Ok search → StopsSearching settings index request v u failures t)
+stops-search-if settings index search n some limits same v u failures stop.Memory stops = tt
+stops-search-if settings index search n some limits same v u failures (stop.Refused t) stops =
+    λ request is before r stands. search-stops settings index search request is n some limits same before u r failures t (stops before r stands)
+
+-- no task runs: the search is too wide
+pub wide-searches : (settings : Settings) (index : Index) (search : Search) → search_ceiling (field_kinds index) search index.shards ≡ None → (v : View) (failures : List Failure) → failures ≡ []
+    → (request : Request) → request.search ≡ Ok search → Searches settings index request v v failures (ended.Refused refused.TooWide)
+wide-searches settings index search none v failures empty request is before r stands =
+    let none_runs = not-run index settings.max_buckets search request is none in
+    subst (λ o. IsOutcome settings index request before v (searched settings index r o) failures (ended.Refused refused.TooWide)) (sym none_runs) (record {
+      stands = stands;
+      failures_are = sym empty;
+      outcome_is = sym (too-wide index settings.max_buckets search request [] is none);
+    })
+
+-- or the body is refused
+pub refused-searches : (settings : Settings) (index : Index) (why : Refused) (v : View) (failures : List Failure) → failures ≡ [] → (request : Request) → request.search ≡ Err why
+    → Searches settings index request v v failures (ended.Refused why)
+refused-searches settings index why v failures empty request is before r stands =
+    let none_runs : running_search index settings.max_buckets request ≡ None = ap (λ s. running s (outcome index settings.max_buckets request [])) is in
+    subst (λ o. IsOutcome settings index request before v (searched settings index r o) failures (ended.Refused why)) (sym none_runs) (record {
+      stands = stands;
+      failures_are = sym empty;
+      outcome_is = sym (ap (λ s. request_outcome index settings.max_buckets s []) is);
+    })
+
+-- a search of no room for its body
+module _ (settings : Settings) (index : Index) (request : Request) where
+  searched-stays : (r : Run) (t : Tripped) (o : Option Search) → r.refused ≡ Some t → searched settings index r o ≡ begun r
+  searched-stays r t None e = refl
+  searched-stays r t (Some search) e =
+      ap (after_last settings.limits search) (batches-inert settings.limits search (batches settings.batch (tasks_of index search)) (begun r) t e) ∙ last-inert settings.limits search (begun r) t e
+
+  responded-stays : (g : Going) (t : Tripped) → g.run.refused ≡ Some t → responded settings index request g ≡ g
+  responded-stays g t e = ap (λ r. record { run = r; batch = g.batch; results = g.results; failures = g.failures }) (run-stopped settings.limits g.run t e (response_steps (outcome_with settings index request g)))
+
+  abbrev body_run : Run → Run
+  body_run r = body_charged settings index r request
+
+  abbrev after_search : Run → Going
+  after_search r = searched settings index r (running_search index settings.max_buckets request)
+
+  pub body-stops : (v u : View) (failures : List Failure) (t : Tripped) → failures ≡ []
+      → ((before : Before) (r : Run) → StandsAt before v r → IsEnded before u (run settings.limits r (charge_of child.Inflight (2 * request.bytes))) t)
+      → StopsSolving settings index request v u failures t
+  body-stops v u failures t empty ends before r stands =
+      let ended = ends before r stands in
+      let same = searched-stays (body_run r) t (running_search index settings.max_buckets request) ended.refused in
+      subst (λ g. IsStopped before u g failures t)
+      (sym (ap (responded settings index request) same ∙ responded-stays (begun (body_run r)) t ended.refused))
+      (record { ended = ended; failures_are = sym empty })
+
+  pub search-stops-solving : (v w u : View) (failures : List Failure) (t : Tripped)
+      → ((before : Before) (r : Run) → StandsAt before v r → StandsAt before w (run settings.limits r (charge_of child.Inflight (2 * request.bytes))))
+      → StopsSearching settings index request w u failures t → StopsSolving settings index request v u failures t
+  search-stops-solving v w u failures t body stops before r stands =
+      let stopped = stops before (body_run r) (body before r stands) in
+      subst (λ g. IsStopped before u g failures t) (sym (responded-stays (after_search (body_run r)) t stopped.ended.refused)) stopped
+
+  module _ (v w x u : View) (failures : List Failure) (o : Outcome)
+      (body : (before : Before) (r : Run) → StandsAt before v r → StandsAt before w (run settings.limits r (charge_of child.Inflight (2 * request.bytes))))
+      (found : Searches settings index request w x failures o) where
+    pub response-solves : ((before : Before) (r : Run) → StandsAt before x r → StandsAt before u (run settings.limits r (response_steps o))) → Solves settings index request v u failures o
+    response-solves response before r stands =
+        let g = after_search (body_run r) in
+        let at = found before (body_run r) (body before r stands) in
+        record {
+          stands = subst (λ e. StandsAt before u (run settings.limits g.run (response_steps e))) at.outcome_is (response before g.run at.stands);
+          failures_are = at.failures_are;
+          outcome_is = at.outcome_is;
+        }
+
+    pub response-stops : (t : Tripped) → ((before : Before) (r : Run) → StandsAt before x r → IsEnded before u (run settings.limits r (response_steps o)) t) → StopsSolving settings index request v u failures t
+    response-stops t response before r stands =
+        let g = after_search (body_run r) in
+        let at = found before (body_run r) (body before r stands) in
+        record {
+          ended = subst (λ e. IsEnded before u (run settings.limits g.run (response_steps e)) t) at.outcome_is (response before g.run at.stands);
+          failures_are = at.failures_are;
+        }

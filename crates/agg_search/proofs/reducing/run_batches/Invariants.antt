@@ -1,0 +1,21 @@
+use Rattle.std.proofs.Common.{◌≡◌, ◌*◌, []}
+use Rattle.std.specs.Prelude.{min, length}
+use Rattle.agg_model.specs.declared.breaker.Which.TheVariants as which
+use Rattle.breaker_words.specs.Views.{hold_of}
+use Rattle.solo_charges.specs.Alone.{IsAlone}
+use Rattle.agg_search.specs.Defined.{index_of}
+use Rattle.agg_search.specs.Progressing.{Follows}
+use Rattle.agg_search.specs.Reached.{HasReached, HoldsCosts}
+use Rattle.agg_search.proofs.Batching.{batches_before}
+use Rattle.agg_search.proofs.reducing.run_batches.Given as goal
+
+abbrev pub invariant-loop-number : goal.invariant-loop-number
+invariant-loop-number l = record {
+  alone : IsAlone l.words l.pass;
+  fielddata : hold_of l.pass.view which.Fielddata ≡ hold_of l.fn.pass.view which.Fielddata;
+  inflight : hold_of l.pass.view which.Inflight ≡ hold_of l.fn.pass.view which.Inflight;
+  reached : HasReached (index_of l.index) l.search (min (length l.index.shards) (l.number * l.size)) l.progress;
+  merged : l.progress.batch ≡ [];
+  held : HoldsCosts l.progress l.pass.view;
+  follows : Follows (batches_before l.words.limits (index_of l.index) l.search l.size l.number) l.fn.pass.view l.fn.progress l.pass.view l.progress;
+}

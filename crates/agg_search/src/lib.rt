@@ -1,0 +1,14 @@
+//! A search of an index (Elasticsearch Reference 8, 'Search API'): its tasks on the shards, their merges in batches, and the
+//! final answer, each with its charges at the breakers.
+#![tactic(auto)]
+
+mod answering;
+mod charging;
+mod merging;
+mod progress;
+mod reducing;
+mod solo;
+mod stop;
+mod tasks;
+
+pub use solo::search_solo;

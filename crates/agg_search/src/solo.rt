@@ -1,0 +1,192 @@
+//! One search by one worker, from the charge of its body to its answer.
+ghost use Rattle.std.specs.Prelude.{◌≡◌, ◌≤◌, [], IfErr, IfOk, IsTrue, Ok, OnOk, length};
+ghost use Rattle.agg_evaluation.specs.SearchFits.{search_fits};
+ghost use Rattle.agg_model.specs.declared.breaker.Which.{Which as AnyWhich};
+ghost use Rattle.agg_model.specs.declared.breaker.Which.TheVariants as which;
+ghost use Rattle.agg_model.specs.declared.limits.TheConstants.{MAX_BATCH, MAX_LINE};
+ghost use Rattle.agg_spec.specs.Outcome.{Request};
+ghost use Rattle.agg_spec.specs.Requests.{refusal_of_fault, request_of};
+ghost use Rattle.breaker_words.specs.Views.{hold_of};
+ghost use Rattle.solo_charges.specs.Alone.{IsAlone};
+ghost use Rattle.agg_search.specs.Answering.{AnswersAlone, Searches, Solves, StopsSearching, StopsSolving};
+ghost use Rattle.agg_search.specs.Telling.{IsTold, told_as};
+ghost use Rattle.agg_search.specs.Defined.{index_of};
+ghost use Rattle.agg_search.specs.Stops.{IfRefused};
+
+use crate::answering::outcome_of;
+use crate::charging::{charge, charge_response};
+use crate::progress::Progress;
+use crate::reducing::reduce_search;
+use crate::stop::Stop;
+use agg_cost::search_ceiling;
+use agg_model::{Answered, Bytes, Child, Outcome, Refused, Search, Settings};
+use agg_reading::RequestFault;
+use agg_request::search_of;
+use breaker_words::{Pass, Words};
+use shard_columns::Index;
+use solo_charges::give_all_back;
+use std::alloc::Global;
+
+/// Runs a search that was read, unless it is too wide.
+fn run_search(
+    alloc: Global,
+    words: &Words,
+    pass: &mut Pass,
+    index: &Index,
+    search: &Search,
+    settings: &Settings,
+    progress: &mut Progress,
+) -> Result<Outcome, Stop>
+    requires alone { IsAlone words.now pass.old }
+    requires limits { words.now.limits ≡ settings.now.limits }
+    requires some { 1 ≤ settings.now.batch }
+    requires few { settings.now.batch ≤ MAX_BATCH }
+    requires made { IsTrue (search_fits index.now.mapping search.now) }
+    requires batch { progress.old.batch ≡ [] }
+    requires results { progress.old.results ≡ [] }
+    requires failures { progress.old.failures ≡ [] }
+    requires free { hold_of pass.old.view which.Request ≡ 0 }
+    ensures alone { IsAlone words.now pass.new }
+    ensures fielddata { hold_of pass.new.view which.Fielddata ≡ hold_of pass.old.view which.Fielddata }
+    ensures searches { IfOk result (λ outcome. (request : Request) → request.search ≡ Ok search.now →
+        Searches settings.now (index_of index.now) request pass.old.view pass.new.view progress.new.failures outcome) }
+    ensures stops { IfErr result (λ stop. IfRefused stop (λ t. (request : Request) → request.search ≡ Ok search.now →
+        StopsSearching settings.now (index_of index.now) request pass.old.view pass.new.view progress.new.failures t)) }
+{
+    if search_ceiling(alloc, index, search)?.is_none() {
+        return Ok(Outcome::Refused(Refused::TooWide));
+    }
+    let size = settings.batch as usize;
+    let whole = reduce_search(alloc, words, pass, index, search, size, progress)?;
+    Ok(outcome_of(
+        alloc,
+        index,
+        search,
+        settings.max_buckets,
+        &progress.failures,
+        whole,
+    )?)
+}
+
+/// Why a body is no search; want of memory says nothing of it.
+fn refusal_of(fault: RequestFault) -> Result<Refused, Stop>
+    ensures refused { IfOk result (λ refused. refused ≡ refusal_of_fault fault) }
+    ensures memory { IfErr result (λ stop. IfRefused stop (λ t. ⊥)) }
+    ensures told { OnOk result (IsTold fault) }
+{
+    match fault {
+        RequestFault::NotJson => Ok(Refused::NotJson),
+        RequestFault::Bad { code, path } => Ok(Refused::Bad { code, path }),
+        RequestFault::Memory => Err(Stop::Memory),
+    }
+}
+
+/// Reads the body, and runs its search.
+fn search_body(
+    alloc: Global,
+    words: &Words,
+    pass: &mut Pass,
+    index: &Index,
+    body: &Bytes,
+    settings: &Settings,
+    progress: &mut Progress,
+) -> Result<Outcome, Stop>
+    requires alone { IsAlone words.now pass.old }
+    requires limits { words.now.limits ≡ settings.now.limits }
+    requires some { 1 ≤ settings.now.batch }
+    requires few { settings.now.batch ≤ MAX_BATCH }
+    requires batch { progress.old.batch ≡ [] }
+    requires results { progress.old.results ≡ [] }
+    requires failures { progress.old.failures ≡ [] }
+    requires free { hold_of pass.old.view which.Request ≡ 0 }
+    ensures alone { IsAlone words.now pass.new }
+    ensures fielddata { hold_of pass.new.view which.Fielddata ≡ hold_of pass.old.view which.Fielddata }
+    ensures searches { IfOk result (Searches settings.now (index_of index.now) (request_of (index_of index.now) body.now)
+        pass.old.view pass.new.view progress.new.failures) }
+    ensures stops { IfErr result (λ stop. IfRefused stop (StopsSearching settings.now (index_of index.now)
+        (request_of (index_of index.now) body.now) pass.old.view pass.new.view progress.new.failures)) }
+{
+    match search_of(alloc, body.as_slice(), &index.mapping) {
+        Ok(search) => run_search(alloc, words, pass, index, &search, settings, progress),
+        Err(fault) => Ok(Outcome::Refused(refusal_of(fault)?)),
+    }
+}
+
+/// Runs the search of a body, with the charges of the body and of the response.
+fn solve(
+    alloc: Global,
+    words: &Words,
+    pass: &mut Pass,
+    index: &Index,
+    body: &Bytes,
+    settings: &Settings,
+    progress: &mut Progress,
+) -> Result<Outcome, Stop>
+    requires alone { IsAlone words.now pass.old }
+    requires limits { words.now.limits ≡ settings.now.limits }
+    requires some { 1 ≤ settings.now.batch }
+    requires few { settings.now.batch ≤ MAX_BATCH }
+    requires line { length body.now ≤ MAX_LINE }
+    requires batch { progress.old.batch ≡ [] }
+    requires results { progress.old.results ≡ [] }
+    requires failures { progress.old.failures ≡ [] }
+    requires free { hold_of pass.old.view which.Request ≡ 0 }
+    ensures alone { IsAlone words.now pass.new }
+    ensures fielddata { hold_of pass.new.view which.Fielddata ≡ hold_of pass.old.view which.Fielddata }
+    ensures solves { IfOk result (Solves settings.now (index_of index.now) (request_of (index_of index.now) body.now)
+        pass.old.view pass.new.view progress.new.failures) }
+    ensures stops { IfErr result (λ stop. IfRefused stop (StopsSolving settings.now (index_of index.now)
+        (request_of (index_of index.now) body.now) pass.old.view pass.new.view progress.new.failures)) }
+{
+    charge(words, pass, Child::Inflight, 2 * body.len() as u64)?;
+    let outcome = search_body(alloc, words, pass, index, body, settings, progress)?;
+    charge_response(words, pass, &outcome)?;
+    Ok(outcome)
+}
+
+/// Answers one search by one worker, with all its charges: those of its body, of its tasks shard by shard with each batch
+/// merged as soon as it is full, of the merge of the batches, and of its response. The first refused charge ends it; where
+/// it allows partial results, a task's refused charge leaves its shard out. At its end all that it holds is given back.
+///
+/// The pass is alone at the breakers, and holds nothing but the columns. Want of memory may end the search anywhere.
+pub fn search_solo(
+    alloc: Global,
+    words: &Words,
+    pass: &mut Pass,
+    index: &Index,
+    body: &Bytes,
+    settings: &Settings,
+) -> Answered
+    requires alone { IsAlone words.now pass.old }
+    requires limits { words.now.limits ≡ settings.now.limits }
+    requires some { 1 ≤ settings.now.batch }
+    requires few { settings.now.batch ≤ MAX_BATCH }
+    requires line { length body.now ≤ MAX_LINE }
+    requires request { hold_of pass.old.view which.Request ≡ 0 }
+    requires inflight { hold_of pass.old.view which.Inflight ≡ 0 }
+    ensures alone { IsAlone words.now pass.new }
+    ensures holds { (x : AnyWhich) → hold_of pass.new.view x ≡ hold_of pass.old.view x }
+    ensures answer { AnswersAlone settings.now (index_of index.now) (request_of (index_of index.now) body.now)
+        pass.old.view pass.new.view result }
+{
+    // What it holds at the parent is the sum of what it holds at the children.
+    let _cap = pass.cap();
+    let mut progress = Progress::new(alloc);
+    let end = solve(alloc, words, pass, index, body, settings, &mut progress);
+    give_all_back(words, pass);
+    Answered {
+        outcome: outcome_at(end),
+        failures: progress.failures,
+    }
+}
+
+/// What the end of a search is told as.
+fn outcome_at(end: Result<Outcome, Stop>) -> Outcome
+    ensures { result ≡ told_as end }
+{
+    match end {
+        Ok(outcome) => outcome,
+        Err(Stop::Refused(tripped)) => Outcome::Tripped(tripped),
+        Err(Stop::Memory) => Outcome::Memory,
+    }
+}

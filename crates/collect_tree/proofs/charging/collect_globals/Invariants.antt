@@ -1,0 +1,9 @@
+use Rattle.std.proofs.Common.{length}
+use Rattle.agg_evaluation.specs.Trace.{matched}
+use Rattle.collect_tree.specs.Phases.{collected_before}
+use Rattle.collect_tree.specs.declared.phase.Phase.TheVariants.{Global}
+use Rattle.collect_tree.proofs.Loops.{HasCome}
+use Rattle.collect_tree.proofs.charging.collect_globals.Given as goal
+
+abbrev pub invariant-loop-place : goal.invariant-loop-place
+invariant-loop-place l = HasCome l.shard l.search l.words l.fn.pass.view (length (matched l.search l.shard.rows)) (collected_before l.search l.shard.rows Global l.place) l.pass l.growth

@@ -1,0 +1,7 @@
+-- Tasks.
+pub mod Ends
+pub mod Room
+pub mod Phases
+pub mod Tops
+pub mod Grown
+pub mod Stops

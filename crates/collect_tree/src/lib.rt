@@ -1,0 +1,14 @@
+//! One search on one shard (Elasticsearch Reference 8, 'Aggregations'; 'Circuit breaker settings': the request circuit
+//! breaker): trees that grow root by root, and after each root the charge of what it added.
+#![tactic(auto)]
+
+mod charging;
+mod ending;
+mod growth;
+mod phase;
+mod running;
+mod top_tree;
+
+pub use agg_model::Tripped;
+pub use ending::TaskEnd;
+pub use running::run_task;

@@ -1,0 +1,2 @@
+-- Pages of composites while they grow.
+pub mod GrowingPages

@@ -1,0 +1,341 @@
+//! One more row in a page.
+ghost use Rattle.std.specs.Prelude.{◌≡◌, ◌<◌, ◌≤◌, ◌+◌, [], ◌∷◌, ◌++◌, All, IfOk, OnOk, IsTrue, is_some, nat_le, option_to_list, length, map, sum_by};
+ghost use Rattle.std.specs.List.{insert, list_all};
+ghost use Rattle.agg_model.specs.declared.aggregation.Agg.{out-Agg};
+ghost use Rattle.agg_evaluation.specs.Ceiling.{greatest_combinations};
+ghost use Rattle.agg_evaluation.specs.CompositeKeys.{is_composite_of};
+ghost use Rattle.agg_evaluation.specs.Cost.{node_cost};
+ghost use Rattle.agg_evaluation.specs.Counted.{IsApart};
+ghost use Rattle.agg_evaluation.specs.Keys.{keys as keys_of_row};
+ghost use Rattle.agg_evaluation.specs.Rows.{row_of};
+ghost use Rattle.agg_evaluation.specs.Shard.{sorted_by_key};
+ghost use Rattle.composite_agg.specs.FirstPages.{empty_page, is_composite};
+ghost use Rattle.composite_agg.specs.Sources.{IsComposite};
+ghost use Rattle.growing_tree.specs.Readiness.{AreReadyFor};
+ghost use Rattle.growth_laws.specs.BucketBytes.{bucket_bytes};
+ghost use Rattle.growth_laws.specs.Gathering.{counted, empty_bucket, gathered_bucket, kept_buckets, put_groups, put_rows};
+ghost use Rattle.shard_columns.specs.Built.{IsShard};
+ghost use Rattle.growing_tree.specs.Gathered.{decoders, gatherers, rows_at};
+ghost use Rattle.growing_page.specs.GrowingPages.{IsCosted, IsInOrder, IsPageOf, held_key, is_refused, page_node, shown, shown_all, sources_of};
+
+use crate::costs::{bytes_of_bucket, sum_of};
+use crate::on_heap::OnHeap;
+use crate::page::{Held, Page};
+use crate::places::{comes_last, find};
+use agg_model::{Agg, CompositeSource, Key, Kind, List};
+use composite_agg::{is_beyond_key, keys};
+use growing_tree::{Ready, begin_trees, gather_children};
+use shard_columns::Shard;
+use std::alloc::{AllocError, Global};
+
+/// What a row makes of the cost of a page, in bytes: buckets enter and grow, and others leave.
+#[derive(Clone, Copy, Debug, PartialEq, Eq)]
+pub struct Change {
+    pub added: u64,
+    pub removed: u64,
+}
+
+fn sources_of_composite(kind: &Kind) -> &List<CompositeSource>
+    requires { IsTrue (is_composite kind.now) }
+    ensures { result.now ≡ sources_of kind.now }
+{
+    match kind {
+        Kind::Composite { sources, .. } => sources,
+        _ => unreachable!(),
+    }
+}
+
+fn size_of_composite(kind: &Kind) -> u32
+    requires { IsTrue (is_composite kind.now) }
+    ensures { result ≡ (empty_page kind.now).size }
+{
+    match kind {
+        Kind::Composite { size, .. } => *size,
+        _ => unreachable!(),
+    }
+}
+
+// Most keys come after all of a full page, so that is tried first.
+fn is_outside(kind: &Kind, buckets: &[OnHeap<Held>], key: &Key) -> bool
+    requires composite { IsTrue (is_composite kind.now) }
+    requires order { IsInOrder held_key (sources_of kind.now) buckets.now }
+    ensures { result ≡ is_refused (empty_page kind.now) buckets.now key.now }
+{
+    match kind {
+        Kind::Composite {
+            sources,
+            size,
+            after,
+        } => {
+            (buckets.len() >= *size as usize && comes_last(sources, buckets, key))
+                || !is_beyond_key(sources, key, after)
+        }
+        _ => unreachable!(),
+    }
+}
+
+// A bucket of a key that comes with these rows.
+fn new_bucket(
+    alloc: Global,
+    aggs: &List<Agg>,
+    ready: &List<Ready>,
+    shard: &Shard,
+    rows: &List<u32>,
+    spare: &mut Vec<Vec<i64>>,
+    key: Key,
+) -> Result<OnHeap<Held>, AllocError>
+    requires ready { AreReadyFor shard.now aggs.now ready.now }
+    requires built { IsShard shard.now }
+    requires apart { IsApart shard.now.rows }
+    requires in_range { All (λ n. n < length shard.now.rows) rows.now }
+    ensures bucket { IfOk result (λ h. shown (decoders shard.now ready.now) h
+        ≡ gathered_bucket (gatherers shard.now aggs.now) (rows_at shard.now rows.now) (empty_bucket (gatherers shard.now aggs.now) key)) }
+    ensures costs { IfOk result (λ h. IsCosted (decoders shard.now ready.now) h) }
+{
+    let bytes = bytes_of_bucket(&key, aggs)?;
+    let mut children = begin_trees(alloc, aggs, ready)?;
+    let added = gather_children(alloc, aggs, ready, shard, rows, spare, &mut children)?;
+    let bucket = Held {
+        key,
+        count: rows.len() as u64,
+        children,
+        bytes: sum_of(bytes, added)?,
+    };
+    let boxed = OnHeap::new(alloc, bucket)?;
+    Ok(boxed)
+}
+
+// More rows in a bucket. The answer is by how many bytes its cost rose.
+fn grow_held(
+    alloc: Global,
+    aggs: &List<Agg>,
+    ready: &List<Ready>,
+    shard: &Shard,
+    rows: &List<u32>,
+    spare: &mut Vec<Vec<i64>>,
+    bucket: &mut Held,
+) -> Result<u64, AllocError>
+    requires ready { AreReadyFor shard.now aggs.now ready.now }
+    requires built { IsShard shard.now }
+    requires apart { IsApart shard.now.rows }
+    requires in_range { All (λ n. n < length shard.now.rows) rows.now }
+    requires costs { IsCosted (decoders shard.now ready.now) bucket.old }
+    ensures bucket { OnOk result (shown (decoders shard.now ready.now) bucket.new
+        ≡ gathered_bucket (gatherers shard.now aggs.now) (rows_at shard.now rows.now) (shown (decoders shard.now ready.now) bucket.old)) }
+    ensures costs { OnOk result (IsCosted (decoders shard.now ready.now) bucket.new) }
+    ensures added { IfOk result (λ added. bucket.new.bytes ≡ bucket.old.bytes + added) }
+{
+    let count = sum_of(bucket.count, rows.len() as u64)?;
+    let added = gather_children(alloc, aggs, ready, shard, rows, spare, &mut bucket.children)?;
+    bucket.bytes = sum_of(bucket.bytes, added)?;
+    bucket.count = count;
+    Ok(added)
+}
+
+// The same on the heap.
+fn grow(
+    alloc: Global,
+    aggs: &List<Agg>,
+    ready: &List<Ready>,
+    shard: &Shard,
+    rows: &List<u32>,
+    spare: &mut Vec<Vec<i64>>,
+    bucket: &mut OnHeap<Held>,
+) -> Result<u64, AllocError>
+    requires ready { AreReadyFor shard.now aggs.now ready.now }
+    requires built { IsShard shard.now }
+    requires apart { IsApart shard.now.rows }
+    requires in_range { All (λ n. n < length shard.now.rows) rows.now }
+    requires costs { IsCosted (decoders shard.now ready.now) bucket.old }
+    ensures bucket { OnOk result (shown (decoders shard.now ready.now) bucket.new
+        ≡ gathered_bucket (gatherers shard.now aggs.now) (rows_at shard.now rows.now) (shown (decoders shard.now ready.now) bucket.old)) }
+    ensures costs { OnOk result (IsCosted (decoders shard.now ready.now) bucket.new) }
+    ensures added { IfOk result (λ added. bucket.new.bytes ≡ bucket.old.bytes + added) }
+{
+    let added = grow_held(alloc, aggs, ready, shard, rows, spare, &mut bucket.inner)?;
+    Ok(added)
+}
+
+// Puts a bucket at a place; the last one leaves a full page.
+fn enter(
+    size: u32,
+    buckets: &mut Vec<OnHeap<Held>>,
+    place: usize,
+    bucket: OnHeap<Held>,
+) -> Result<Option<OnHeap<Held>>, AllocError>
+    requires { place ≤ length buckets.old.items }
+    ensures items { IfOk result (λ left. insert buckets.old.items place bucket ≡ buckets.new.items ++ option_to_list left) }
+    ensures full { IfOk result (λ left. is_some left ≡ nat_le size (length buckets.old.items)) }
+{
+    let is_full = buckets.len() >= size as usize;
+    buckets.insert(place, bucket)?;
+    if is_full { Ok(buckets.pop()) } else { Ok(None) }
+}
+
+// Puts rows at one of their keys.
+fn put_key(
+    alloc: Global,
+    agg: &Agg,
+    ready: &List<Ready>,
+    shard: &Shard,
+    rows: &List<u32>,
+    spare: &mut Vec<Vec<i64>>,
+    buckets: &mut Vec<OnHeap<Held>>,
+    key: Key,
+) -> Result<Change, AllocError>
+    requires ready { AreReadyFor shard.now (out-Agg agg.now).children ready.now }
+    requires built { IsShard shard.now }
+    requires apart { IsApart shard.now.rows }
+    requires in_range { All (λ n. n < length shard.now.rows) rows.now }
+    requires composite { IsTrue (is_composite (out-Agg agg.now).kind) }
+    requires parts { IsTrue (is_composite_of (length (sources_of (out-Agg agg.now).kind)) key) }
+    requires page { IsPageOf (out-Agg agg.now).kind (decoders shard.now ready.now) buckets.old.items }
+    ensures buckets { OnOk result (sorted_by_key (shown_all (decoders shard.now ready.now) buckets.new.items)
+        ≡ kept_buckets (out-Agg agg.now).kind (put_rows (gatherers shard.now (out-Agg agg.now).children) (rows_at shard.now rows.now) key
+        (sorted_by_key (shown_all (decoders shard.now ready.now) buckets.old.items)))) }
+    ensures page { OnOk result (IsPageOf (out-Agg agg.now).kind (decoders shard.now ready.now) buckets.new.items) }
+    ensures cost { IfOk result (λ change. sum_by bucket_bytes (shown_all (decoders shard.now ready.now) buckets.new.items) + change.removed
+        ≡ sum_by bucket_bytes (shown_all (decoders shard.now ready.now) buckets.old.items) + change.added) }
+{
+    if is_outside(&agg.kind, buckets.as_slice(), &key) {
+        return Ok(Change {
+            added: 0,
+            removed: 0,
+        });
+    }
+    match find(sources_of_composite(&agg.kind), buckets.as_slice(), &key) {
+        Ok(place) => {
+            let bucket = &mut buckets[place];
+            let added = grow(alloc, &agg.children, ready, shard, rows, spare, bucket)?;
+            Ok(Change { added, removed: 0 })
+        }
+        Err(place) => {
+            let bucket = new_bucket(alloc, &agg.children, ready, shard, rows, spare, key)?;
+            let added = bucket.get().bytes;
+            match enter(size_of_composite(&agg.kind), buckets, place, bucket)? {
+                Some(left) => Ok(Change {
+                    added,
+                    removed: left.get().bytes,
+                }),
+                None => Ok(Change { added, removed: 0 }),
+            }
+        }
+    }
+}
+
+// Puts rows at their keys, one after another.
+fn put_keys(
+    alloc: Global,
+    agg: &Agg,
+    ready: &List<Ready>,
+    shard: &Shard,
+    rows: &List<u32>,
+    spare: &mut Vec<Vec<i64>>,
+    buckets: &mut Vec<OnHeap<Held>>,
+    keys: List<Key>,
+) -> Result<Change, AllocError>
+    requires ready { AreReadyFor shard.now (out-Agg agg.now).children ready.now }
+    requires built { IsShard shard.now }
+    requires apart { IsApart shard.now.rows }
+    requires in_range { All (λ n. n < length shard.now.rows) rows.now }
+    requires composite { IsTrue (is_composite (out-Agg agg.now).kind) }
+    requires parts { IsTrue (list_all (is_composite_of (length (sources_of (out-Agg agg.now).kind))) keys) }
+    requires page { IsPageOf (out-Agg agg.now).kind (decoders shard.now ready.now) buckets.old.items }
+    ensures buckets { OnOk result (sorted_by_key (shown_all (decoders shard.now ready.now) buckets.new.items)
+        ≡ put_groups (λ q. rows_at shard.now rows.now) (gatherers shard.now (out-Agg agg.now).children) (out-Agg agg.now).kind keys
+        (sorted_by_key (shown_all (decoders shard.now ready.now) buckets.old.items))) }
+    ensures page { OnOk result (IsPageOf (out-Agg agg.now).kind (decoders shard.now ready.now) buckets.new.items) }
+    ensures cost { IfOk result (λ change. sum_by bucket_bytes (shown_all (decoders shard.now ready.now) buckets.new.items) + change.removed
+        ≡ sum_by bucket_bytes (shown_all (decoders shard.now ready.now) buckets.old.items) + change.added) }
+{
+    let mut change = Change {
+        added: 0,
+        removed: 0,
+    };
+    for key in keys.into_vec() {
+        let more = put_key(alloc, agg, ready, shard, rows, spare, buckets, key)?;
+        change = Change {
+            added: sum_of(change.added, more.added)?,
+            removed: sum_of(change.removed, more.removed)?,
+        };
+    }
+    Ok(change)
+}
+
+fn one_row(alloc: Global, row: u32) -> Result<List<u32>, AllocError>
+    ensures { IfOk result (λ rows. rows ≡ row ∷ []) }
+{
+    let mut rows = List::new(alloc);
+    rows.push(row)?;
+    Ok(rows)
+}
+
+// The page with a row that stands alone in the list.
+fn put_row(
+    alloc: Global,
+    agg: &Agg,
+    ready: &List<Ready>,
+    shard: &Shard,
+    row: u32,
+    rows: &List<u32>,
+    spare: &mut Vec<Vec<i64>>,
+    page: &mut Page,
+) -> Result<Change, AllocError>
+    requires alone { rows.now ≡ row ∷ [] }
+    requires ready { AreReadyFor shard.now (out-Agg agg.now).children ready.now }
+    requires built { IsShard shard.now }
+    requires apart { IsApart shard.now.rows }
+    requires in_range { row < length shard.now.rows }
+    requires composite { IsComposite (out-Agg agg.now).kind }
+    requires few { length (keys_of_row shard.now.rows (out-Agg agg.now).kind (row_of shard.now.rows row)) ≤ greatest_combinations }
+    requires page { IsPageOf (out-Agg agg.now).kind (decoders shard.now ready.now) page.old.buckets.items }
+    ensures node { OnOk result (page_node (decoders shard.now ready.now) page.new
+        ≡ counted shard.now.rows agg.now (row_of shard.now.rows row ∷ []) (page_node (decoders shard.now ready.now) page.old)) }
+    ensures page { OnOk result (IsPageOf (out-Agg agg.now).kind (decoders shard.now ready.now) page.new.buckets.items) }
+    ensures cost { IfOk result (λ change. node_cost (page_node (decoders shard.now ready.now) page.new) + change.removed
+        ≡ node_cost (page_node (decoders shard.now ready.now) page.old) + change.added) }
+{
+    let keys = keys(alloc, shard, row, &agg.kind)?;
+    let change = put_keys(
+        alloc,
+        agg,
+        ready,
+        shard,
+        rows,
+        spare,
+        &mut page.buckets,
+        keys,
+    )?;
+    Ok(change)
+}
+
+/// The page with one more row that the composite counts, and what that makes of its cost. The row has at most 65,536 keys. After
+/// want of memory nothing is said of the page.
+///
+/// A key outside the page takes one comparison with the last bucket of a full one. Any other is found in the logarithm of the
+/// page; one that enters moves the buckets behind it.
+pub fn gather_root(
+    alloc: Global,
+    agg: &Agg,
+    ready: &List<Ready>,
+    shard: &Shard,
+    row: u32,
+    spare: &mut Vec<Vec<i64>>,
+    page: &mut Page,
+) -> Result<Change, AllocError>
+    requires ready { AreReadyFor shard.now (out-Agg agg.now).children ready.now }
+    requires built { IsShard shard.now }
+    requires apart { IsApart shard.now.rows }
+    requires in_range { row < length shard.now.rows }
+    requires composite { IsComposite (out-Agg agg.now).kind }
+    requires few { length (keys_of_row shard.now.rows (out-Agg agg.now).kind (row_of shard.now.rows row)) ≤ greatest_combinations }
+    requires page { IsPageOf (out-Agg agg.now).kind (decoders shard.now ready.now) page.old.buckets.items }
+    ensures node { OnOk result (page_node (decoders shard.now ready.now) page.new
+        ≡ counted shard.now.rows agg.now (row_of shard.now.rows row ∷ []) (page_node (decoders shard.now ready.now) page.old)) }
+    ensures page { OnOk result (IsPageOf (out-Agg agg.now).kind (decoders shard.now ready.now) page.new.buckets.items) }
+    ensures cost { IfOk result (λ change. node_cost (page_node (decoders shard.now ready.now) page.new) + change.removed
+        ≡ node_cost (page_node (decoders shard.now ready.now) page.old) + change.added) }
+{
+    let rows = one_row(alloc, row)?;
+    put_row(alloc, agg, ready, shard, row, &rows, spare, page)
+}

@@ -1,0 +1,47 @@
+//! The page of a composite while rows are added.
+ghost use Rattle.std.specs.Prelude.{◌≡◌, IfOk, IsTrue, List as AnyList, length};
+ghost use Rattle.agg_evaluation.specs.Whole.{empty_node};
+ghost use Rattle.agg_model.specs.declared.aggregation.Agg.{Agg as AnyAgg, out-Agg};
+ghost use Rattle.agg_model.specs.declared.partial.Node.{Node as AnyNode};
+ghost use Rattle.composite_agg.specs.FirstPages.{empty_page, is_composite};
+ghost use Rattle.composite_agg.specs.Pages.{is_cursor};
+ghost use Rattle.growing_page.specs.GrowingPages.{IsPageOf, page_node};
+
+use crate::on_heap::OnHeap;
+use agg_model::{Key, Kind};
+use growing_tree::Tree;
+use std::alloc::{AllocError, Global};
+
+/// A bucket of a page.
+#[derive(Drop)]
+pub(crate) struct Held {
+    pub(crate) key: Key,
+    pub(crate) count: u64,
+    pub(crate) children: Vec<Tree>,
+    /// What the bucket costs, with all below it.
+    pub(crate) bytes: u64,
+}
+
+/// The buckets that a composite keeps of some rows: at most `size`, in the order of its sources, behind `after`.
+#[derive(Drop)]
+pub struct Page {
+    pub(crate) buckets: Vec<OnHeap<Held>>,
+}
+
+impl Page {
+    /// The page of a composite over no row. The key after which the page begins, if any, has a part for each source.
+    pub fn begin(alloc: Global, kind: &Kind) -> Result<Page, AllocError>
+        requires composite { IsTrue (is_composite kind.now) }
+        requires cursor { IsTrue (is_cursor (length (empty_page kind.now).sources) (empty_page kind.now).after) }
+        ensures page { IfOk result (λ page. (ds : AnyList (AnyNode → AnyNode)) → IsPageOf kind.now ds page.buckets.items) }
+        ensures node { IfOk result (λ page. (ds : AnyList (AnyNode → AnyNode)) (agg : AnyAgg) →
+            (out-Agg agg).kind ≡ kind.now → page_node ds page ≡ empty_node agg) }
+    {
+        match kind {
+            Kind::Composite { .. } => Ok(Page {
+                buckets: Vec::new(alloc),
+            }),
+            _ => unreachable!(),
+        }
+    }
+}

@@ -1,0 +1,8 @@
+use Rattle.std.proofs.lemmas.Result.{err_from_is_err_and}
+use Rattle.script_answers.proofs.Putting.{line_wants}
+use Rattle.script_run.proofs.writing.write_heavy.Goals as goal
+
+pub returns-in_err-exception-clause-puts : goal.returns-in_err-exception-clause-puts
+returns-in_err-exception-clause-puts g c =
+    let p = err_from_is_err_and c.from_residual.result c.from_residual.ensures.1 in
+    rw (p.1, p.2) (line_wants _ _)

@@ -1,0 +1,5 @@
+-- What a run writes.
+pub mod Charged
+pub mod Ends
+pub mod Runs
+pub mod Statuses

@@ -1,0 +1,13 @@
+-- The exit statuses of a run.
+use Rattle.std.specs.Prelude.{ℕ}
+use Rattle.script_run.specs.declared.status.Status.{Status}
+use Rattle.script_run.specs.declared.status.Status.TheVariants.{Finished, Usage, ReadFault, WriteFault, Refused, TooHeavy, Memory}
+
+abbrev pub code_of : Status → ℕ
+code_of Finished = 0
+code_of Usage = 2
+code_of ReadFault = 3
+code_of WriteFault = 4
+code_of Refused = 5
+code_of TooHeavy = 6
+code_of Memory = 7

@@ -1,0 +1,101 @@
+//! The answer to a script that was loaded, and to a whole input.
+ghost use Rattle.std.specs.Prelude.{◌≡◌, ◌≤◌, ◌≢◌, ℕ, List as Items, Option, Some, None, Ok};
+ghost use Rattle.std.specs.Io.KnownBytes.{IsAtEnd};
+ghost use Rattle.agg_base.specs.Lines.{source_of, source_name, kept, unread, bytes_read, position, has_ended};
+ghost use Rattle.agg_base.specs.Outside.{Rose};
+ghost use Rattle.agg_bulk.specs.Indexing.{IsLoaded};
+ghost use Rattle.agg_reading.specs.Lines.{start};
+ghost use Rattle.agg_settings.specs.Ranges.{AreInRange};
+ghost use Rattle.script_answers.specs.declared.end.ScriptEnd.TheVariants as script;
+ghost use Rattle.script_lines.specs.Steps.{place_of};
+ghost use Rattle.script_run.specs.Charged.{IsCharged};
+ghost use Rattle.script_run.specs.Ends.{status_of as status_at};
+ghost use Rattle.script_run.specs.Runs.{WroteOf};
+ghost use Rattle.script_run.specs.declared.status.Status.TheVariants as status;
+
+use crate::loading::{end_loading, ended};
+use crate::opening::Opens;
+use crate::status::Status;
+use crate::writing::write_items;
+use agg_base::{Lines, Sink, Source};
+use agg_bulk::{Loaded, load};
+use agg_model::Settings;
+use script_answers::{ScriptEnd, answer_script};
+use std::alloc::Global;
+
+/// The status of a run whose third section ended so.
+fn status_of(end: ScriptEnd) -> Status
+    ensures { result ≡ status_at end }
+{
+    match end {
+        ScriptEnd::Finished => Status::Finished,
+        ScriptEnd::Refused => Status::Refused,
+        ScriptEnd::Read => Status::ReadFault,
+        ScriptEnd::Write => Status::WriteFault,
+        ScriptEnd::Memory => Status::Memory,
+    }
+}
+
+/// Answers a script whose first two sections were loaded: the line of the bulk actions, and those of the third section.
+fn answer_loaded<S: Source, K: Sink, A: Opens>(
+    alloc: Global,
+    lines: &mut Lines<'_, S>,
+    sink: &mut K,
+    settings: Settings,
+    loaded: Loaded,
+) -> Status
+    requires kept { kept lines.old ≡ None }
+    requires in_range { AreInRange settings }
+    requires takes { A.takes settings }
+    requires charged { IsCharged settings loaded.index loaded.words loaded.pass }
+    ensures output { (bytes before : Items ℕ) →
+        IsLoaded bytes (record { index = loaded.index; items = loaded.items }) (place_of lines.old) (unread lines.old) (position lines.old) (has_ended lines.old) →
+        K.written sink.old ≡ Some before → WroteOf settings bytes (bytes_read lines.new) result (Some before) (K.written sink.new) }
+    ensures finished { result ≡ status.Finished → IsAtEnd (S.left (source_of lines.new)) }
+    ensures read_fault { result ≡ status.ReadFault → Rose (S.faults (source_of lines.old)) (S.faults (source_of lines.new)) }
+    ensures write_fault { result ≡ status.WriteFault → Rose (K.faults sink.old) (K.faults sink.new) }
+    ensures reads_never_fall { S.faults (source_of lines.old) ≤ S.faults (source_of lines.new) }
+    ensures writes_never_fall { K.faults sink.old ≤ K.faults sink.new }
+    ensures no_usage { result ≢ status.Usage }
+    ensures same_source { source_name lines.new ≡ source_name lines.old }
+{
+    let Loaded {
+        index,
+        items,
+        words,
+        pass,
+    } = loaded;
+    let is_generated = settings.generate.is_some();
+    if let Err(stop) = write_items(alloc, sink, &index.name, &items, is_generated) {
+        return ended(Err(stop), Status::Memory);
+    }
+    drop(items);
+    let answerer = A::open(index, words, pass, settings);
+    status_of(answer_script(alloc, lines, sink, answerer, &settings))
+}
+
+/// Answers a whole script, from its start.
+pub(crate) fn answer_lines<S: Source, K: Sink, A: Opens>(
+    alloc: Global,
+    lines: &mut Lines<'_, S>,
+    sink: &mut K,
+    settings: Settings,
+) -> Status
+    requires kept { kept lines.old ≡ None }
+    requires start { place_of lines.old ≡ start }
+    requires in_range { AreInRange settings }
+    requires takes { A.takes settings }
+    ensures output { (bytes before : Items ℕ) → unread lines.old ≡ Some bytes → K.written sink.old ≡ Some before →
+        WroteOf settings bytes (bytes_read lines.new) result (Some before) (K.written sink.new) }
+    ensures finished { result ≡ status.Finished → IsAtEnd (S.left (source_of lines.new)) }
+    ensures read_fault { result ≡ status.ReadFault → Rose (S.faults (source_of lines.old)) (S.faults (source_of lines.new)) }
+    ensures write_fault { result ≡ status.WriteFault → Rose (K.faults sink.old) (K.faults sink.new) }
+    ensures writes_never_fall { K.faults sink.old ≤ K.faults sink.new }
+    ensures no_usage { result ≢ status.Usage }
+    ensures same_source { source_name lines.new ≡ source_name lines.old }
+{
+    match load(alloc, lines, &settings) {
+        Ok(loaded) => answer_loaded::<S, K, A>(alloc, lines, sink, settings, loaded),
+        Err(end) => end_loading(alloc, sink, &end),
+    }
+}

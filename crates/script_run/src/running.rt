@@ -1,0 +1,153 @@
+//! The run of a script over a source and a sink.
+ghost use Rattle.std.specs.Prelude.{◌≡◌, ◌≤◌, ◌≢◌, ℕ, Bool, List as Items, Some, None, IsErr, Ok};
+ghost use Rattle.std.specs.Io.KnownBytes.{IsAtEnd};
+ghost use Rattle.agg_base.specs.Outside.{Rose};
+ghost use Rattle.agg_model.specs.declared.settings.Settings.{Settings as AnySettings};
+ghost use Rattle.agg_settings.specs.Ranges.{AreInRange};
+ghost use Rattle.agg_settings.specs.Settings.{settings_of as settings_given};
+ghost use Rattle.agg_spec.specs.Generator.{generated};
+ghost use Rattle.script_run.specs.Runs.{Runs, WroteOf};
+ghost use Rattle.script_run.specs.Statuses.{code_of};
+ghost use Rattle.script_run.specs.declared.status.Status.TheVariants as status;
+
+use crate::answering::answer_lines;
+use crate::given::Given;
+use crate::loading::ended;
+use crate::opening::Opens;
+use crate::status::Status;
+use crate::writing::write_usage;
+use agg_base::{Block, Lines, Sink, Source};
+use agg_generate::make;
+use agg_model::{Generate, Settings, Text};
+use agg_settings::{SettingsFault, settings_of};
+use std::alloc::Global;
+
+/// Answers the script that a source has left.
+fn answer_source<S: Source, K: Sink, A: Opens>(
+    alloc: Global,
+    source: &mut S,
+    sink: &mut K,
+    settings: Settings,
+) -> Status
+    requires in_range { AreInRange settings }
+    requires takes { A.takes settings }
+    ensures output { (input before : Items ℕ) → S.left source.old ≡ Some input → K.written sink.old ≡ Some before →
+        (read : ℕ) × WroteOf settings input read result (Some before) (K.written sink.new) }
+    ensures finished { result ≡ status.Finished → IsAtEnd (S.left source.new) }
+    ensures read_fault { result ≡ status.ReadFault → Rose (S.faults source.old) (S.faults source.new) }
+    ensures write_fault { result ≡ status.WriteFault → Rose (K.faults sink.old) (K.faults sink.new) }
+    ensures writes_never_fall { K.faults sink.old ≤ K.faults sink.new }
+    ensures no_usage { result ≢ status.Usage }
+{
+    let Ok(block) = Block::new(alloc) else {
+        return Status::Memory;
+    };
+    let mut lines = Lines::new(alloc, source, block);
+    let status = answer_lines::<S, K, A>(alloc, &mut lines, sink, settings);
+    let _source = lines.into_source();
+    status
+}
+
+/// Answers the script that is generated in the place of the input.
+fn answer_generated<K: Sink, A: Opens>(
+    alloc: Global,
+    sink: &mut K,
+    settings: Settings,
+    generate: &Generate,
+) -> Status
+    requires in_range { AreInRange settings }
+    requires takes { A.takes settings }
+    ensures output { (before : Items ℕ) → K.written sink.old ≡ Some before →
+        (read : ℕ) × WroteOf settings (generated generate.now) read result (Some before) (K.written sink.new) }
+    ensures unread { result ≢ status.ReadFault }
+    ensures write_fault { result ≡ status.WriteFault → Rose (K.faults sink.old) (K.faults sink.new) }
+    ensures no_usage { result ≢ status.Usage }
+{
+    let Ok(script) = make(alloc, generate) else {
+        return Status::Memory;
+    };
+    let mut source = Given::new(script);
+    answer_source::<Given, K, A>(alloc, &mut source, sink, settings)
+}
+
+/// Answers the script that the settings ask for: what the source has left, or a generated script.
+fn answer_settings<S: Source, K: Sink, A: Opens>(
+    alloc: Global,
+    source: &mut S,
+    sink: &mut K,
+    settings: Settings,
+) -> Status
+    requires in_range { AreInRange settings }
+    requires takes { A.takes settings }
+    ensures output { (several : Bool) (words : Items (Items ℕ)) (input before : Items ℕ) → settings_given several words ≡ Ok settings →
+        S.left source.old ≡ Some input → K.written sink.old ≡ Some before →
+        Runs several words input (code_of result) (Some before) (K.written sink.new) }
+    ensures finished { result ≡ status.Finished → settings.generate ≡ None → IsAtEnd (S.left source.new) }
+    ensures read_fault { result ≡ status.ReadFault → Rose (S.faults source.old) (S.faults source.new) }
+    ensures write_fault { result ≡ status.WriteFault → Rose (K.faults sink.old) (K.faults sink.new) }
+    ensures no_usage { result ≢ status.Usage }
+{
+    match &settings.generate {
+        Some(generate) => answer_generated::<K, A>(alloc, sink, settings, generate),
+        None => answer_source::<S, K, A>(alloc, source, sink, settings),
+    }
+}
+
+/// Runs a script over a source and a sink, and answers how it ended. With `several`, up to 64 workers and searches at a time are
+/// in the grammar of the words.
+fn status_of<S: Source, K: Sink, A: Opens>(
+    alloc: Global,
+    several: bool,
+    words: &[Text],
+    source: &mut S,
+    sink: &mut K,
+) -> Status
+    requires takes { (settings : AnySettings) → settings_given several words.now ≡ Ok settings → A.takes settings }
+    ensures output { (input before : Items ℕ) → S.left source.old ≡ Some input → K.written sink.old ≡ Some before →
+        Runs several words.now input (code_of result) (Some before) (K.written sink.new) }
+    ensures finished { result ≡ status.Finished → (settings : AnySettings) → settings_given several words.now ≡ Ok settings →
+        settings.generate ≡ None → IsAtEnd (S.left source.new) }
+    ensures usage { result ≡ status.Usage → IsErr (settings_given several words.now) }
+    ensures read_fault { result ≡ status.ReadFault → Rose (S.faults source.old) (S.faults source.new) }
+    ensures write_fault { result ≡ status.WriteFault → Rose (K.faults sink.old) (K.faults sink.new) }
+{
+    match settings_of(alloc, words, several) {
+        Ok(settings) => answer_settings::<S, K, A>(alloc, source, sink, settings),
+        Err(SettingsFault::Usage(usage)) => {
+            ended(write_usage(alloc, sink, &usage), Status::Usage)
+        }
+        Err(SettingsFault::Memory) => Status::Memory,
+    }
+}
+
+/// Runs the program over a source and a sink, and answers its exit status. With `several`, up to 64 workers and up to 64 searches
+/// at a time are in the grammar of the words, else one.
+///
+/// - 0: the input was read to its end, and all lines were written.
+/// - 2: the words are not in the grammar; nothing is read.
+/// - 3: the source failed; whole lines of the output were written.
+/// - 4: the sink failed; a front of the output was written, and not all.
+/// - 5: the script was refused; its error line is the last that was written.
+/// - 6: the columns are beyond a limit; that is the one line.
+/// - 7: memory ran out; whole lines of the output were written.
+pub fn run<S: Source, K: Sink, A: Opens>(
+    alloc: Global,
+    several: bool,
+    words: &[Text],
+    source: &mut S,
+    sink: &mut K,
+) -> u8
+    requires takes { (settings : AnySettings) → settings_given several words.now ≡ Ok settings → A.takes settings }
+    // What was written, where the source and the sink tell their bytes.
+    ensures output { (input before : Items ℕ) → S.left source.old ≡ Some input → K.written sink.old ≡ Some before →
+        Runs several words.now input result (Some before) (K.written sink.new) }
+
+    // Why each status comes.
+    ensures finished { result ≡ 0 → (settings : AnySettings) → settings_given several words.now ≡ Ok settings →
+        settings.generate ≡ None → IsAtEnd (S.left source.new) }
+    ensures usage { result ≡ 2 → IsErr (settings_given several words.now) }
+    ensures read_fault { result ≡ 3 → Rose (S.faults source.old) (S.faults source.new) }
+    ensures write_fault { result ≡ 4 → Rose (K.faults sink.old) (K.faults sink.new) }
+{
+    status_of::<S, K, A>(alloc, several, words, source, sink).code()
+}

@@ -1,0 +1,4 @@
+-- The charges of one caller.
+pub mod Alone
+pub mod Standing
+pub mod Ends
