@@ -36,7 +36,7 @@ use Rattle.agg_search.specs.Stops.{IfRefused}
 use Rattle.agg_search.specs.declared.progress.Progress.{Progress}
 use Rattle.agg_search.specs.declared.stop.Stop.{Stop}
 use Rattle.agg_search.specs.declared.stop.Stop.TheVariants as stop
-use Rattle.agg_search.proofs.Following.{batch-inert, batches-inert, last-inert, follow-then, follows-as, stop-then, stopped-stays, stops-as}
+use Rattle.agg_search.proofs.Following.{batches-inert, follow-then, follows-as, stop-then, stopped-stays, stops-as}
 use Rattle.agg_search.proofs.Numbers.{drop-map, drop-range, range-append, range-push, take-map, take-range, take-range-all}
 use Rattle.agg_search.proofs.Parts.{AreAmong, among-left, among-part, batch-parts, result-parts, whole-joined}
 
@@ -123,10 +123,6 @@ module _ (l : Limits) (index : Index) (search : Search) where
   batch-stops-if stop.Memory v w u f first old now same follows ends = tt
   batch-stops-if (stop.Refused t) v w u f first old now same follows ends =
       stop-then f (after_batch l search) v w u first old now t follows (batch-stops w u old now t same ends)
-
-  pub tasks-stop-if : (s : Stop) (v u : View) (f : Going → Going) (first now : Progress) → IfRefused s (StopsIn f v first u now) → IfRefused s (StopsIn (λ going. after_batch l search (f going)) v first u now)
-  tasks-stop-if stop.Memory v u f first now stops = tt
-  tasks-stop-if (stop.Refused t) v u f first now stops = stopped-stays f (after_batch l search) v u first now t (batch-inert l search) stops
 
   -- the batches of all tasks
   module _ (size : ℕ) (some : 1 ≤ size) where
@@ -322,26 +318,6 @@ module _ (l : Limits) (search : Search) (size : ℕ) (tasks : List Task) (v w u 
   stops-last (stop.Refused t) told = λ before r stands.
       let at = at-last before r stands in
       subst (λ g. IsStopped before u g p.failures t) (sym at.1.1) (record { ended = told before at.0 at.1.0; failures_are = refl })
-
--- stopped before the last merge
-pub stops-before : (l : Limits) (search : Search) (size : ℕ) (tasks : List Task) (v u : View) (old now : Progress) → old ≡ record { batch = []; results = []; failures = [] } → (s : Stop)
-    → IfRefused s (StopsIn (λ going. after_batches l search going (batches size tasks)) v old u now) → IfRefused s (StopsReducing l search size tasks v u now.failures)
-stops-before l search size tasks v u old now empty stop.Memory stops = tt
-stops-before l search size tasks v u old now empty (stop.Refused t) stops = λ before r stands.
-    let one = subst (λ (o : Progress). IsStopped before u (after_batches l search (going_at r o) (batches size tasks)) now.failures t) empty (stops before r stands) in
-    let g = after_batches l search (begun r) (batches size tasks) in
-    subst (λ h. IsStopped before u h now.failures t) (sym (last-inert l search g t one.ended.refused)) one
-
-pub reached-begun : (index : Index) (search : Search) (old : Progress) → old ≡ record { batch = []; results = []; failures = [] } → HasReached index search 0 old
-reached-begun index search old empty = subst (HasReached index search 0) (sym empty) (record {
-  groups = [];
-  waiting = [];
-  some_each = tt;
-  results_are = refl;
-  batch_is = refl;
-  left = refl;
-  failures_are = tt;
-})
 
 pub is-empty : (p : Progress) → p.batch ≡ [] → p.results ≡ [] → p.failures ≡ [] → p ≡ record { batch = []; results = []; failures = [] }
 is-empty p b r f = λ i. (record { batch = b i; results = r i; failures = f i })

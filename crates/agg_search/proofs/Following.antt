@@ -1,5 +1,5 @@
 -- Steps of a search one after another, and what no longer changes once a breaker has ended it.
-use Rattle.std.specs.Prelude.{◌≡◌, refl, List, [], ◌∷◌, ◌++◌, fold, Some}
+use Rattle.std.specs.Prelude.{◌≡◌, refl, List, [], ◌∷◌, ◌++◌, Some}
 use Rattle.std.proofs.Common.{◌∙◌, sym, ap, subst}
 use Rattle.agg_model.specs.declared.aggregation.Search.{Search}
 use Rattle.agg_model.specs.declared.breaker.Limits.{Limits}
@@ -61,10 +61,6 @@ module _ (limits : Limits) (search : Search) where
       ap (λ g. after_batches limits search (after_batch limits search g) rest) (tasks-inert tasks going t e)
       ∙ ap (λ g. after_batches limits search g rest) (batch-inert going t e)
       ∙ batches-inert rest going t e
-
-pub fold-append : {A B : Type 0} (f : B → A → B) (b : B) (xs ys : List A) → fold f b (xs ++ ys) ≡ fold f (fold f b xs) ys
-fold-append f b [] ys = refl
-fold-append f b (x ∷ xs) ys = fold-append f (f b x) xs ys
 
 -- the same step in other words
 pub follows-as : (f g : Step) (v u : View) (old now : Progress) → ((going : Going) → f going ≡ g going) → Follows f v old u now → Follows g v old u now

@@ -71,9 +71,6 @@ module _ (l : Limits) (index : Index) (search : Search) (n : ℕ) (w u : View) w
     pub same : IsAtRestAgain w u
     pub others : (x : Which) → x ≢ Request → x ≢ Parent → hold_of u x ≡ hold_of w x
 
-  abbrev IfEnded : TaskEnd → Type 0
-  IfEnded end = IfMemory end ((k : ℕ) × IsGivenUp w u (take k (amounts search rows)))
-
   pub after-task : (end : TaskEnd) → IfDone end (λ p. IsDone l w u search rows) → IfTaskRefused end (λ t. IsRefused l w u (trace search rows) t)
       → IfMemory end ((k : ℕ) × IsGivenUp w u (take k (amounts search rows))) → After
   after-task (task.Done p) done refused memory = record { same = done.same; others = λ x a b. ap (λ y. y.hold) (done.untouched x a b) }

@@ -1,7 +1,7 @@
 -- What the shards that are left come to, and which searches run.
-use Rattle.std.specs.Prelude.{◌≡◌, refl, ℕ, zero, suc, ◌+◌, ◌-◌, ◌<◌, ◌≤◌, nat_lt, not, Bool, true, false, List, [], ◌∷◌, ◌*◌, is_some, length, Option, Some, None, Ok, Err}
-use Rattle.std.proofs.Common.{◌∙◌, sym, ap, subst, arith, get_or}
-use Rattle.std.proofs.lemmas.Bool.{le-ltb, lt-ltb}
+use Rattle.std.specs.Prelude.{◌≡◌, refl, ℕ, ◌+◌, ◌-◌, ◌≤◌, nat_lt, not, Bool, true, false, List, [], ◌∷◌, ◌*◌, is_some, length, Option, Some, None, Ok}
+use Rattle.std.proofs.Common.{◌∙◌, sym, ap, subst, arith}
+use Rattle.std.proofs.lemmas.Bool.{le-ltb}
 use Rattle.agg_evaluation.specs.Ceiling.{search_ceiling}
 use Rattle.agg_model.specs.declared.aggregation.Search.{Search}
 use Rattle.agg_model.specs.declared.answer.Answer.{Answer}
@@ -9,7 +9,6 @@ use Rattle.agg_model.specs.declared.breaker.Tripped.{Tripped}
 use Rattle.agg_model.specs.declared.outcome.Failure.{Failure}
 use Rattle.agg_model.specs.declared.outcome.Outcome.{Outcome}
 use Rattle.agg_model.specs.declared.outcome.Outcome.TheVariants as ended
-use Rattle.agg_model.specs.declared.outcome.Refused.{Refused}
 use Rattle.agg_model.specs.declared.outcome.Refused.TheVariants as refused
 use Rattle.agg_model.specs.declared.partial.Partial.{Partial}
 use Rattle.agg_spec.specs.BucketCount.{total_buckets}
@@ -28,32 +27,17 @@ use Rattle.agg_spec.specs.Solo.{body_charged, outcome_with, responded, response_
 use Rattle.breaker_words.specs.declared.view.View.{View}
 use Rattle.solo_charges.specs.Ends.{IsEnded}
 use Rattle.solo_charges.specs.Standing.{Before, StandsAt}
-use Rattle.agg_search.specs.Answering.{IsOutcome, Searches, Solves, StopsSearching, StopsSolving, whole_unless_none}
+use Rattle.agg_search.specs.Answering.{IsOutcome, StopsSearching, StopsSolving, whole_unless_none}
 use Rattle.agg_search.specs.Progressing.{IsStopped}
 use Rattle.agg_search.specs.Reducing.{IsReduced, StopsReducing}
 use Rattle.agg_search.specs.Stops.{IfRefused}
 use Rattle.agg_search.specs.declared.stop.Stop.{Stop}
 use Rattle.agg_search.specs.declared.stop.Stop.TheVariants as stop
 use Rattle.agg_search.proofs.Following.{batches-inert, last-inert}
-use Rattle.agg_search.proofs.Numbers.{left_before}
 
 pub ascending-length : (least shards : ℕ) (failures : List Failure) → AreAscending least shards failures → length failures ≤ shards - least
 ascending-length least shards [] ascending = omega arith
 ascending-length least shards (f ∷ rest) (at_least, below, later) = let fewer = ascending-length (f.shard + 1) shards rest later in omega (arith, fewer)
-
--- where no shard is left, one has failed
-pub some-failed : (fs : List Failure) (n : ℕ) → 1 ≤ n → left_before fs n ≡ [] → 1 ≤ length fs
-some-failed (f ∷ fs) n some none = omega arith
-some-failed [] zero some none = absurd (omega arith)
-some-failed [] (suc n) some none = absurd (let no : ⊥ = cc in no)
-
-pub first-told : (index : Index) (max : ℕ) (search : Search) (fs : List Failure) (f : Failure) → 1 ≤ length fs → f ≡ get_or fs 0 f → ended.Tripped f.tripped ≡ outcome_of_shards index max search fs []
-first-told index max search [] f some e = absurd (omega arith)
-first-told index max search (g ∷ gs) f some e = ap (λ (x : Failure). ended.Tripped x.tripped) e
-
-pub none-left : (index : Index) (search : Search) (left : List ℕ) → None ≡ whole_unless_none index search left → left ≡ []
-none-left index search [] e = refl
-none-left index search (n ∷ ns) e = absurd (let no : ⊥ = cc in no)
 
 pub whole-is : (index : Index) (search : Search) (left : List ℕ) (w : Partial) → Some w ≡ whole_unless_none index search left → w ≡ whole_of index search left
 whole-is index search [] w e = absurd (let no : ⊥ = cc in no)
@@ -83,12 +67,6 @@ module _ (index : Index) (max : ℕ) (search : Search) (fs : List Failure) (left
   pub line-outcome : total_buckets search answer ≤ max → out_of_range search answer ≡ None
       → answer_outcome index max search fs answer ≡ ended.Response (response_line search index.mapping answer (length index.shards) fs)
   line-outcome few in_range = ap by_count (le-ltb max (total_buckets search answer) few) ∙ ap (λ o. line_in_range o (response_line search index.mapping answer (length index.shards) fs)) in_range
-
-  pub wide-outcome : (path : List ℕ) → total_buckets search answer ≤ max → out_of_range search answer ≡ Some path → answer_outcome index max search fs answer ≡ ended.Refused (refused.SumRange path)
-  wide-outcome path few out = ap by_count (le-ltb max (total_buckets search answer) few) ∙ ap (λ o. line_in_range o (response_line search index.mapping answer (length index.shards) fs)) out
-
-  pub many-outcome : max < total_buckets search answer → answer_outcome index max search fs answer ≡ ended.Refused (refused.TooManyBuckets (total_buckets search answer) max)
-  many-outcome many = ap by_count (lt-ltb max (total_buckets search answer) many)
 
 module _ (index : Index) (max : ℕ) (search : Search) where
   abbrev by_ceiling : List Failure → Option ℕ → Outcome
@@ -122,10 +100,6 @@ pub from-some : (o : Option ℕ) (b : Bool) → is_some o ≡ not b → b ≡ fa
 from-some (Some n) b e h = (n, refl)
 from-some None b e h = absurd (let no : false ≡ true = e ∙ ap not h in (let none : ⊥ = cc in none))
 
-pub no-some : (o : Option ℕ) (b : Bool) → is_some o ≡ not b → b ≡ true → o ≡ None
-no-some None b e h = refl
-no-some (Some n) b e h = absurd (let no : true ≡ false = e ∙ ap not h in (let none : ⊥ = cc in none))
-
 module _ (settings : Settings) (index : Index) (search : Search) (request : Request) (is : request.search ≡ Ok search) where
   module _ (n : ℕ) (some : search_ceiling (field_kinds index) search index.shards ≡ Some n) (limits : Limits) (same : limits ≡ settings.limits) where
     same-run : (r : Run) → reduced limits search settings.batch r (tasks_of index search) ≡ searched settings index r (running_search index settings.max_buckets request)
@@ -155,28 +129,6 @@ stops-search-if settings index search n some limits same v u failures stop.Memor
 stops-search-if settings index search n some limits same v u failures (stop.Refused t) stops =
     λ request is before r stands. search-stops settings index search request is n some limits same before u r failures t (stops before r stands)
 
--- no task runs: the search is too wide
-pub wide-searches : (settings : Settings) (index : Index) (search : Search) → search_ceiling (field_kinds index) search index.shards ≡ None → (v : View) (failures : List Failure) → failures ≡ []
-    → (request : Request) → request.search ≡ Ok search → Searches settings index request v v failures (ended.Refused refused.TooWide)
-wide-searches settings index search none v failures empty request is before r stands =
-    let none_runs = not-run index settings.max_buckets search request is none in
-    subst (λ o. IsOutcome settings index request before v (searched settings index r o) failures (ended.Refused refused.TooWide)) (sym none_runs) (record {
-      stands = stands;
-      failures_are = sym empty;
-      outcome_is = sym (too-wide index settings.max_buckets search request [] is none);
-    })
-
--- or the body is refused
-pub refused-searches : (settings : Settings) (index : Index) (why : Refused) (v : View) (failures : List Failure) → failures ≡ [] → (request : Request) → request.search ≡ Err why
-    → Searches settings index request v v failures (ended.Refused why)
-refused-searches settings index why v failures empty request is before r stands =
-    let none_runs : running_search index settings.max_buckets request ≡ None = ap (λ s. running s (outcome index settings.max_buckets request [])) is in
-    subst (λ o. IsOutcome settings index request before v (searched settings index r o) failures (ended.Refused why)) (sym none_runs) (record {
-      stands = stands;
-      failures_are = sym empty;
-      outcome_is = sym (ap (λ s. request_outcome index settings.max_buckets s []) is);
-    })
-
 -- a search of no room for its body
 module _ (settings : Settings) (index : Index) (request : Request) where
   searched-stays : (r : Run) (t : Tripped) (o : Option Search) → r.refused ≡ Some t → searched settings index r o ≡ begun r
@@ -202,32 +154,3 @@ module _ (settings : Settings) (index : Index) (request : Request) where
       subst (λ g. IsStopped before u g failures t)
       (sym (ap (responded settings index request) same ∙ responded-stays (begun (body_run r)) t ended.refused))
       (record { ended = ended; failures_are = sym empty })
-
-  pub search-stops-solving : (v w u : View) (failures : List Failure) (t : Tripped)
-      → ((before : Before) (r : Run) → StandsAt before v r → StandsAt before w (run settings.limits r (charge_of child.Inflight (2 * request.bytes))))
-      → StopsSearching settings index request w u failures t → StopsSolving settings index request v u failures t
-  search-stops-solving v w u failures t body stops before r stands =
-      let stopped = stops before (body_run r) (body before r stands) in
-      subst (λ g. IsStopped before u g failures t) (sym (responded-stays (after_search (body_run r)) t stopped.ended.refused)) stopped
-
-  module _ (v w x u : View) (failures : List Failure) (o : Outcome)
-      (body : (before : Before) (r : Run) → StandsAt before v r → StandsAt before w (run settings.limits r (charge_of child.Inflight (2 * request.bytes))))
-      (found : Searches settings index request w x failures o) where
-    pub response-solves : ((before : Before) (r : Run) → StandsAt before x r → StandsAt before u (run settings.limits r (response_steps o))) → Solves settings index request v u failures o
-    response-solves response before r stands =
-        let g = after_search (body_run r) in
-        let at = found before (body_run r) (body before r stands) in
-        record {
-          stands = subst (λ e. StandsAt before u (run settings.limits g.run (response_steps e))) at.outcome_is (response before g.run at.stands);
-          failures_are = at.failures_are;
-          outcome_is = at.outcome_is;
-        }
-
-    pub response-stops : (t : Tripped) → ((before : Before) (r : Run) → StandsAt before x r → IsEnded before u (run settings.limits r (response_steps o)) t) → StopsSolving settings index request v u failures t
-    response-stops t response before r stands =
-        let g = after_search (body_run r) in
-        let at = found before (body_run r) (body before r stands) in
-        record {
-          ended = subst (λ e. IsEnded before u (run settings.limits g.run (response_steps e)) t) at.outcome_is (response before g.run at.stands);
-          failures_are = at.failures_are;
-        }

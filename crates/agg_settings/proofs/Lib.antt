@@ -6,4 +6,4 @@ mod RefusedWords
 pub mod ComputingLines
 mod ChangedSettings
 pub mod ChangesKeep
-mod OneAtOnce
+pub mod OneAtOnce

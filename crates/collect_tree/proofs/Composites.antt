@@ -21,7 +21,7 @@ use Rattle.composite_agg.specs.FirstPages.{is_composite}
 use Rattle.composite_agg.specs.Sources.{IsComposite}
 use Rattle.growth_laws.proofs.Combinations.{composite-count}
 use Rattle.growth_laws.specs.Gathering.{counted}
-use Rattle.growth_laws.specs.Steps.{with_matched, with_root}
+use Rattle.growth_laws.specs.Steps.{with_matched}
 use Rattle.list_laws.proofs.Options.{none_some}
 use Rattle.shard_columns.specs.Columns.{Columns}
 use Rattle.shard_columns.specs.Made.{IsAggFor}
@@ -39,25 +39,22 @@ composite-made shard a made e = by (out-Agg a).kind e (countable shard (out-Agg 
     by (kind.Composite sources size after) e h = h
     by _ e h = absurd (false≢true e)
 
--- a composite counts the matched roots, and no others
+-- a matched root is one that a composite counts
 pub page-matched : (all : List PlacedRow) (a : Agg) → is_composite (out-Agg a).kind ≡ true → (root : PlacedRow) (n : Node) → with_matched all a root n ≡ counted all a (root ∷ []) n
 unfolding computing
 page-matched all (Agg' name (kind.Composite sources size after) n children) e root node = refl
 page-matched all (Agg' name _ n children) e root node = absurd (false≢true e)
 
-pub page-root : (all : List PlacedRow) (a : Agg) → is_composite (out-Agg a).kind ≡ true → (root : PlacedRow) (n : Node) → with_root all a root n ≡ n
-unfolding computing
-page-root all (Agg' name (kind.Composite sources size after) n children) e root node = refl
-page-root all (Agg' name _ n children) e root node = absurd (false≢true e)
-
 module _ (shard : Columns) (search : Search) (bound : ℕ) (is : ceiling shard.kinds search shard.rows ≡ Some bound) where
   abbrev all : List PlacedRow
   all = shard.rows
 
+  -- where a task has a ceiling, no matched root has too many combinations of keys
   no-wide : has_wide_row search all ≡ false
   no-wide =
       elim (has_wide_row search all) as (λ b. ceiling_by b shard.kinds search all ≡ Some bound → b ≡ false) [ true ↦ λ e. none_some bound e | false ↦ λ e. refl ] is
 
+  -- so each has few at a composite
   few-at : (k : Kind) (rows : List PlacedRow) (n : ℕ) (root : PlacedRow) → is_composite k ≡ true → is_wide_at k rows ≡ false → slice_get rows n ≡ Some root → length (keys all k root) ≤ greatest_combinations
   few-at (kind.Composite sources size after) rows n root e narrow here =
       let count = composite-count sources root in

@@ -206,13 +206,14 @@ fn words_outside_the_grammar_are_refused(rt: HostRuntime) -> Result<(), Fail> {
 
 #[test]
 fn one_worker_and_one_search_where_no_more_are_answered(rt: HostRuntime) -> Result<(), Fail> {
-    for (line, key) in [
-        ("--workers 2", "--workers"),
-        ("--concurrent-searches 2", "--concurrent-searches"),
+    for (line, key, value) in [
+        ("--workers 2", "--workers", "2"),
+        ("--concurrent-searches 2", "--concurrent-searches", "2"),
+        ("--scan", "--scan", ""),
     ] {
         let words = words(rt.alloc(), line)?;
         let read = settings_of(rt.alloc(), words.as_slice(), false);
-        assert!(rt; is_usage(read, key, "2"), "{line}");
+        assert!(rt; is_usage(read, key, value), "{line}");
     }
     Ok(())
 }

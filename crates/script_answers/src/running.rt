@@ -22,7 +22,6 @@ use crate::step::{Waiting, finish, take_entry};
 use crate::stop::Stop;
 use crate::writing::write_refusal;
 use agg_base::{Lines, Sink, Source};
-use agg_model::limits::MAX_INPUT;
 use agg_model::{List, Settings};
 use script_entries::next_entry;
 use script_lines::ScriptFault;

@@ -21,7 +21,7 @@ returns-in_err-charge-clause-stops c =
     let v = c.args.pass.now.view in
     let u = c.charge.new.pass.view in
     rw (p.1, p.2)
-    (body-stops-if c.args.settings.now index (request_of index c.args.body.now) c.args.words.now.limits c.requires.limits v u u u c.args.progress.now.failures c.in_err-charge.field-0.0 c.requires.failures
+    (body-stops-if c.args.settings.now index (request_of index c.args.body.now) c.args.words.now.limits c.requires.limits v u c.args.progress.now.failures c.in_err-charge.field-0.0 c.requires.failures
     (subst (λ (n : ℕ). IfRefused c.in_err-charge.field-0.0 (StopsRunning c.args.words.now.limits (charge_of child.Inflight (2 * n)) v u)) c.len.ensures c.in_err-charge.ensures.stops))
 
 pub search_body-requires-clause-free : goal.search_body-requires-clause-free
