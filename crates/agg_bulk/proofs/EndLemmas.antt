@@ -1,6 +1,5 @@
 -- Why loading ends: where reading the script does, or at the charge of the columns.
-use Rattle.std.proofs.Common.{◌≡◌, ◌∙◌, ℕ, List, Option, sym, ap, subst}
-use Rattle.agg_model.specs.Lines.{Line}
+use Rattle.std.proofs.Common.{◌≡◌, ◌∙◌, ℕ, Bool, List, Option, sym, ap, subst}
 use Rattle.agg_model.specs.declared.breaker.Limits.{Limits}
 use Rattle.agg_reading.specs.Lines.{Place}
 use Rattle.agg_spec.specs.Columns.{columns_charge, columns_refusal}
@@ -23,10 +22,10 @@ by_fault limits bytes fault.Memory read ends = ends
 pub ends_as : (limits : Limits) (bytes : List ℕ) (f : ScriptFault) (answer : LoadEnd) (read : ℕ) → answer ≡ end_of f → Ends bytes f read → EndsLoading limits bytes answer read
 ends_as limits bytes f answer read same ends = subst (λ (e : LoadEnd). EndsLoading limits bytes e read) (sym same) (by_fault limits bytes f read ends)
 
-pub columns_end : (limits : Limits) (bytes : List ℕ) (built : LoadedIndex) (place : Place) (left : Option (List Line)) (charge : ℕ) (answer : LoadEnd) (read : ℕ) → IsLoaded bytes built place left →
+pub columns_end : (limits : Limits) (bytes : List ℕ) (built : LoadedIndex) (place : Place) (left : Option (List ℕ)) (count : ℕ) (ended : Bool) (charge : ℕ) (answer : LoadEnd) (read : ℕ) → IsLoaded bytes built place left count ended →
     charge ≡ columns_charge (index_of built.index) → RefusesColumns limits charge answer → EndsLoading limits bytes answer read
-columns_end limits bytes built place left charge (Columns t) read l is refused =
+columns_end limits bytes built place left count ended charge (Columns t) read l is refused =
     (l.defined, l.script, ap (λ (i : Index). columns_refusal limits (columns_charge i)) (sym l.index) ∙ ap (columns_refusal limits) (sym is) ∙ refused)
-columns_end limits bytes built place left charge Memory read l is refused = tt
-columns_end limits bytes built place left charge (Script r) read l is refused = absurd refused
-columns_end limits bytes built place left charge Read read l is refused = absurd refused
+columns_end limits bytes built place left count ended charge Memory read l is refused = tt
+columns_end limits bytes built place left count ended charge (Script r) read l is refused = absurd refused
+columns_end limits bytes built place left count ended charge Read read l is refused = absurd refused

@@ -211,5 +211,5 @@ one_more_item action done index store new items more same = sym (ap (λ (l : Loa
 
 -- all is loaded
 pub all_loaded : (bytes : List ℕ) (now : Loading) (place : Place) (left : Option (List ℕ)) (count : ℕ) (ended : Bool) → GoesOnAt bytes (after_action now place None) left count ended →
-    (rest : List Line) × (option_map lines left ≡ Some rest) × (loaded (lines bytes) ≡ Ok (done_at now place rest))
-all_loaded bytes now place left count ended goes_on = (lines goes_on.handed.rest, left_lines _ _ _ _ _ goes_on, whole _ _ _ _ _ goes_on)
+    (rest : List Line) × (option_map lines left ≡ Some rest) × (loaded (lines bytes) ≡ Ok (done_at now place rest)) × GoesOnAt bytes (after_action now place None) left count ended
+all_loaded bytes now place left count ended goes_on = (lines goes_on.handed.rest, left_lines _ _ _ _ _ goes_on, whole _ _ _ _ _ goes_on, goes_on)

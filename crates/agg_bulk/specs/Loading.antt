@@ -1,5 +1,5 @@
 -- Loading as it goes on line by line, behind the lines of a script that were read (Elasticsearch Reference 8, 'Bulk API').
-use Rattle.std.specs.Prelude.{◌≡◌, ℕ, List, [], ◌++◌, take, length, Option, Some, None, Result, Ok, Err, Bool, true, if◌then◌else◌, ⊤}
+use Rattle.std.specs.Prelude.{◌≡◌, ℕ, List, [], ◌++◌, take, length, Option, Some, None, Result, Ok, Err, Bool, true, if◌then◌else◌, option_map, ⊤}
 use Rattle.agg_model.specs.Lines.{Line, lines}
 use Rattle.agg_model.specs.declared.bulk.Action.{Action}
 use Rattle.agg_model.specs.declared.bulk.Item.{Item}
@@ -17,7 +17,7 @@ use Rattle.agg_reading.specs.Store.{Store, applied}
 use Rattle.agg_spec.specs.Output.{whole_lines}
 use Rattle.script_lines.specs.Faults.{refusal_of}
 use Rattle.script_lines.specs.Handed.{IsHanded}
-use Rattle.script_lines.specs.Steps.{place_of, rest_of}
+use Rattle.script_lines.specs.Steps.{place_of}
 use Rattle.script_lines.specs.declared.fault.ScriptFault.{ScriptFault}
 use Rattle.script_lines.specs.declared.fault.ScriptFault.TheVariants.{Refused, Read, Memory}
 use Rattle.agg_bulk.specs.declared.sections.Sections.{Sections}
@@ -79,15 +79,19 @@ abbrev pub fault_at : ℕ → RequestFault → ScriptFault
 fault_at line (reading.Bad code path) = Refused (record { number = code; line = line; path = path })
 fault_at line _ = Memory
 
--- what loading answers of an input
-abbrev pub LoadsAt : List ℕ → Result Sections ScriptFault → Place → Option (List Line) → ℕ → Type 0
-LoadsAt bytes (Ok s) place left read =
-    (rest : List Line) × (left ≡ Some rest)
-    × (loaded (lines bytes) ≡ Ok (record { index = s.index; store = s.store; items = s.items; place = place; rest = rest }))
-LoadsAt bytes (Err fault) place left read = Ends bytes fault read
+-- the sections that were loaded, in front of what is left
+abbrev pub before_rest : Sections → Place → List Line → Loaded
+before_rest s place rest = record { index = s.index; store = s.store; items = s.items; place = place; rest = rest }
+
+-- What loading answers of an input. What was loaded of it is loaded in front of whatever follows, too.
+abbrev pub LoadsAt : List ℕ → Result Sections ScriptFault → Place → Option (List ℕ) → ℕ → Bool → ℕ → Type 0
+LoadsAt bytes (Ok s) place left count ended read =
+    (rest : List Line) × (option_map lines left ≡ Some rest) × (loaded (lines bytes) ≡ Ok (before_rest s place rest))
+    × GoesOnAt bytes (λ more. Ok (before_rest s place more)) left count ended
+LoadsAt bytes (Err fault) place left count ended read = Ends bytes fault read
 
 abbrev pub Loads : {S : Type 0} {g : Ghosts S} → List ℕ → Result Sections ScriptFault → Lines S g → Type 0
-Loads bytes result reader = LoadsAt bytes result (place_of reader) (rest_of reader) (bytes_read reader)
+Loads bytes result reader = LoadsAt bytes result (place_of reader) (unread reader) (position reader) (has_ended reader) (bytes_read reader)
 
 -- what was loaded, without what follows it
 abbrev pub loaded_of : IndexLine → Store → Loaded

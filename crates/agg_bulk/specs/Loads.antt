@@ -1,17 +1,17 @@
 -- What loading answers: the index, its items and the charge of its columns, or why there are none (Elasticsearch Reference 8,
 -- 'Bulk API', 'Circuit breaker settings').
-use Rattle.std.specs.Prelude.{◌≡◌, ℕ, List, Option, Some, Result, Ok, Err}
-use Rattle.agg_base.specs.Lines.{bytes_read}
+use Rattle.std.specs.Prelude.{◌≡◌, ℕ, List, Option, Some, Result, Ok, Err, Bool}
+use Rattle.agg_base.specs.Lines.{unread, position, has_ended, bytes_read}
 use Rattle.agg_base.specs.declared.lines.Lines.{Lines}
 use Rattle.agg_base.specs.declared.source.Source.{Ghosts}
-use Rattle.agg_model.specs.Lines.{Line, lines}
+use Rattle.agg_model.specs.Lines.{lines}
 use Rattle.agg_model.specs.declared.breaker.Limits.{Limits}
 use Rattle.agg_reading.specs.Lines.{Place}
 use Rattle.agg_reading.specs.Script.{loaded}
 use Rattle.agg_reading.specs.Script.{Loaded as Defined}
 use Rattle.agg_spec.specs.Columns.{columns_charge, columns_refusal}
 use Rattle.agg_spec.specs.Requests.{loaded_index}
-use Rattle.script_lines.specs.Steps.{place_of, rest_of}
+use Rattle.script_lines.specs.Steps.{place_of}
 use Rattle.script_lines.specs.declared.fault.ScriptFault.{ScriptFault}
 use Rattle.script_lines.specs.declared.fault.ScriptFault.TheVariants as fault
 use Rattle.agg_bulk.specs.Indexing.{IsLoaded}
@@ -33,10 +33,10 @@ EndsLoading limits bytes (Columns t) read =
     (defined : Defined) × (loaded (lines bytes) ≡ Ok defined) × (columns_refusal limits (columns_charge (loaded_index defined)) ≡ Some t)
 EndsLoading limits bytes Memory read = Ends bytes fault.Memory read
 
-abbrev pub LoadsAt : Limits → List ℕ → Result Loaded LoadEnd → Place → Option (List Line) → ℕ → Type 0
-LoadsAt limits bytes (Ok l) place left read = IsLoaded bytes (record { index = l.index; items = l.items }) place left
-LoadsAt limits bytes (Err end) place left read = EndsLoading limits bytes end read
+abbrev pub LoadsAt : Limits → List ℕ → Result Loaded LoadEnd → Place → Option (List ℕ) → ℕ → Bool → ℕ → Type 0
+LoadsAt limits bytes (Ok l) place left count ended read = IsLoaded bytes (record { index = l.index; items = l.items }) place left count ended
+LoadsAt limits bytes (Err end) place left count ended read = EndsLoading limits bytes end read
 
 -- what loading answers of an input
 abbrev pub Loads : {S : Type 0} {g : Ghosts S} → Limits → List ℕ → Result Loaded LoadEnd → Lines S g → Type 0
-Loads limits bytes result reader = LoadsAt limits bytes result (place_of reader) (rest_of reader) (bytes_read reader)
+Loads limits bytes result reader = LoadsAt limits bytes result (place_of reader) (unread reader) (position reader) (has_ended reader) (bytes_read reader)

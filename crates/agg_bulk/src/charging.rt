@@ -1,7 +1,8 @@
 //! The one charge of the columns.
 ghost use Rattle.std.specs.Prelude.{◌≡◌, ◌<◌, ◌^◌, None, IfOk, IfErr};
 ghost use Rattle.agg_spec.specs.Columns.{columns_refusal};
-ghost use Rattle.agg_bulk.specs.Charging.{HoldsColumns, RefusesColumns};
+ghost use Rattle.breaker_tree.specs.Reopening.{HoldsColumns};
+ghost use Rattle.agg_bulk.specs.Charging.{RefusesColumns};
 
 use crate::end::LoadEnd;
 use agg_model::{Child, Limits};

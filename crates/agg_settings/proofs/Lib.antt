@@ -5,3 +5,4 @@ mod AcceptedWords
 mod RefusedWords
 pub mod ComputingLines
 mod ChangedSettings
+pub mod ChangesKeep

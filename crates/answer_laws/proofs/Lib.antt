@@ -29,4 +29,3 @@ pub mod Untripped
 mod RoomExamples
 pub mod WaveCounts
 pub mod LineCounts
-pub mod ChangesKeep

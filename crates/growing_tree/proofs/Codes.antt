@@ -1,5 +1,5 @@
 -- Different codes have different keys.
-use Rattle.std.specs.Prelude.{◌≡◌, refl, map, ℤ, pos, negsuc, Bool, true, false, T, List, [], ◌∷◌}
+use Rattle.std.specs.Prelude.{◌≡◌, refl, ℕ, map, ℤ, pos, negsuc, Bool, true, false, T, List, [], ◌∷◌}
 use Rattle.std.proofs.Common.{sym, ◌∙◌, ap, subst, arith}
 use Rattle.std.specs.List.{list_all}
 use Rattle.std.proofs.lemmas.Bool.{false≢true}
@@ -8,6 +8,8 @@ use Rattle.agg_evaluation.specs.Cost.{key_bytes}
 use Rattle.shard_columns.specs.Values.{Words}
 use Rattle.terms_agg.specs.Codes.{code_words, content_in, is_code, key_at, key_of}
 use Rattle.terms_agg.specs.Prepared.{IsReady}
+use Rattle.filters_agg.specs.declared.prepared_filters.PreparedFilters.{PreparedFilters}
+use Rattle.histogram_agg.proofs.Coding.{keys-apart}
 use Rattle.terms_agg.specs.declared.content.Content.{Content}
 use Rattle.terms_agg.specs.declared.content.Content.TheVariants as content
 use Rattle.terms_agg.specs.declared.prepared.PreparedTerms.{PreparedTerms}
@@ -22,7 +24,7 @@ use Rattle.shard_columns.specs.Columns.{Columns}
 use Rattle.growing_tree.specs.Codes.{code_key, fixed_key, key_where, no_key}
 use Rattle.growing_tree.specs.Readiness.{IsKindReady}
 use Rattle.growing_tree.specs.declared.ready.ReadyKind.{ReadyKind}
-use Rattle.growing_tree.specs.declared.ready.ReadyKind.TheVariants.{Single, Metric, Terms}
+use Rattle.growing_tree.specs.declared.ready.ReadyKind.TheVariants.{Single, Metric, Terms, Filters, Histogram, Composite}
 
 -- the number that a key shows
 number_at : Key-F ℤ → ℤ
@@ -80,6 +82,9 @@ pub codes-own : (shard : Columns) (k : Kind) (r : ReadyKind) → IsKindReady sha
 codes-own shard k Single h c d e = fixed-own c d e
 codes-own shard k Metric h c d e = fixed-own c d e
 codes-own shard k (Terms p) h c d e = terms-own shard k p h c d e
+codes-own shard k (Filters p) h c d e = fixed-own c d e
+codes-own shard k (Histogram p) h c d e = keys-apart p c d e
+codes-own shard k Composite h c d e = fixed-own c d e
 
 -- the bytes of keys that no row has
 no-bytes : (code : ℤ) (k : Key) → key_bytes (no_key code k) ≡ key_bytes k
@@ -100,3 +105,7 @@ where-bytes false code k = no-bytes code k
 pub where-codes : (shard : Columns) (p : PreparedTerms) (cs : List ℤ) → list_all (is_code shard p) cs ≡ true → map (code_key shard (Terms p)) cs ≡ map (key_of shard p) cs
 where-codes shard p [] h = refl
 where-codes shard p (c ∷ cs) h = λ i. key_where (and_first (is_code shard p c) _ h i) c (key_of shard p c) ∷ where-codes shard p cs (and_second (is_code shard p c) _ h) i
+
+pub filter-codes : (shard : Columns) (p : PreparedFilters) (ns : List ℕ) → map (code_key shard (Filters p)) (map pos ns) ≡ map key.Fixed ns
+filter-codes shard p [] = refl
+filter-codes shard p (n ∷ ns) = ap (λ ks. key.Fixed n ∷ ks) (filter-codes shard p ns)

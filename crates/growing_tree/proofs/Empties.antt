@@ -21,7 +21,7 @@ pub empty-level : (a : Agg) (k : Kind) → (out-Agg a).kind ≡ k → empty_node
 empty-level a k e = fold_agg-level (λ a. empty_by a.children (fixed_keys a.kind) (shape_of a.kind)) a ∙ ap (λ j. empty_by (map empty_node (out-Agg a).children) (fixed_keys j) (shape_of j)) e
 
 -- a key's bucket without rows
-abbrev none_at : List Node → Key → Bucket
+abbrev pub none_at : List Node → Key → Bucket
 none_at children k = record { key = k; count = 0; covered = 0; children = children }
 
 numbered-empty : (ds : List (Node → Node)) (key_of : ℤ → Key) (children : List Node) (n : ℕ) (bs : List Growing) → All (IsEmptyBucket ds children) bs

@@ -80,7 +80,7 @@ module _ (all : List PlacedRow) (k : Kind) (rows : List ℕ) where
       ap (map (row_of all)) (rows-with-key keys_at (λ n. ascending-keys all k (row_of all n)) q rows)
       ∙ sym (filter-map (λ r. has_key q (keys all k r)) (row_of all) rows)
 
-  module _ (key_of : ℤ → Key) (own : HasOwnKeys key_of) (codes : List ℤ) (groups : List (List ℕ)) (distinct : IsDistinct int_eq codes) (are : AreGroups key_of (pairs_of keys_at rows) codes groups) where
+  module _ (key_of : ℤ → Key) (own : HasOwnKeys key_of) (codes : List ℤ) (groups : List (List ℕ)) (are : AreGroups key_of (pairs_of keys_at rows) codes groups) where
     pub groups-are : map (map (row_of all)) groups ≡ map (λ c. group all k (map (row_of all) rows) (key_of c)) codes
     groups-are = ap (map (map (row_of all))) are.groups_are ∙ each codes
       where
@@ -88,9 +88,9 @@ module _ (all : List PlacedRow) (k : Kind) (rows : List ℕ) where
         each [] = refl
         each (c ∷ cs) = λ i. group-is (key_of c) i ∷ each cs i
 
-    pub many-rows : (gs : List Gatherer) (bs : List Bucket) → keeps_all k ≡ true → T (is_ascending (map bucket_key bs))
+    pub many-rows : IsDistinct int_eq codes → (gs : List Gatherer) (bs : List Bucket) → keeps_all k ≡ true → T (is_ascending (map bucket_key bs))
         → put_all (group all k (map (row_of all) rows)) gs (map key_of codes) bs ≡ gathered_buckets all gs k (map (row_of all) rows) bs
-    many-rows gs bs h up =
+    many-rows distinct gs bs h up =
         any-order (group all k (map (row_of all) rows)) gs (map key_of codes) (all_keys all k (map (row_of all) rows)) bs (codes-apart key_of own codes distinct)
         (ascending-apart (all_keys all k (map (row_of all) rows)) (ascending-distinct_keys (flat_map (keys all k) (map (row_of all) rows))))
         (λ q. are.there q ∙ ap (has_key q) (keys-of-pairs keys_at rows ∙ flat-rows rows) ∙ sym (has_key-distinct_keys q (flat_map (keys all k) (map (row_of all) rows)))) up

@@ -10,3 +10,8 @@ pub mod Grouping
 pub mod Finals
 pub mod Empties
 pub mod Ascents
+pub mod AggSizes
+pub mod Cuts
+pub mod Counting
+pub mod ReadyLaws
+pub mod EmptyCosts

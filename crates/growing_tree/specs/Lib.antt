@@ -8,3 +8,6 @@ pub mod ReadyFolds
 pub mod Readiness
 pub mod Shown
 pub mod Grouped
+pub mod Gathered
+pub mod Finished
+pub mod Starting

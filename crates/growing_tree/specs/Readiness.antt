@@ -1,16 +1,18 @@
 -- A prepared aggregation that stands for an aggregation on a shard (Elasticsearch Reference 8, 'Aggregations').
-use Rattle.std.specs.Prelude.{◌≡◌, ℕ, Bool, true, false, List, [], ◌∷◌, map, sum_by, slice_get, Option, Some, option_and_then, IsTrue}
+use Rattle.std.specs.Prelude.{◌≡◌, ℕ, Bool, true, false, List, [], ◌∷◌, length, map, sum_by, slice_get, Option, Some, option_and_then, IsTrue}
 use Rattle.agg_model.specs.Options.{Options, options_of}
 use Rattle.agg_model.specs.declared.aggregation.Agg.{Agg, out-Agg}
 use Rattle.agg_model.specs.declared.aggregation.Kind.{Kind}
 use Rattle.agg_model.specs.declared.aggregation.Kind.TheVariants as kind
 use Rattle.agg_evaluation.specs.Cost.{node_cost}
 use Rattle.agg_evaluation.specs.Whole.{empty_node}
+use Rattle.filters_agg.specs.PreparedFilters.{IsReady as IsReadyFilters}
+use Rattle.histogram_agg.specs.Codes.{IsReady as IsReadyHistogram}
 use Rattle.shard_columns.specs.Columns.{Columns}
-use Rattle.terms_agg.specs.Prepared.{IsReady}
+use Rattle.terms_agg.specs.Prepared.{IsReady as IsReadyTerms}
 use Rattle.growing_tree.specs.declared.ready.Ready.{Ready, out-Ready}
 use Rattle.growing_tree.specs.declared.ready.ReadyKind.{ReadyKind}
-use Rattle.growing_tree.specs.declared.ready.ReadyKind.TheVariants.{Single, Metric, Terms}
+use Rattle.growing_tree.specs.declared.ready.ReadyKind.TheVariants.{Single, Metric, Terms, Filters, Histogram, Composite}
 
 -- each row that the aggregation counts has its one key
 abbrev pub has_single_key : Kind → Bool
@@ -22,22 +24,37 @@ has_single_key _ = false
 abbrev pub is_metric : Kind → Bool
 is_metric k = elim (options_of k) [ Options.Metric m ↦ true | _ ↦ false ]
 
+abbrev pub is_composite : Kind → Bool
+is_composite (kind.Composite sources size after) = true
+is_composite _ = false
+
 -- what is prepared stands for the kind
 abbrev pub IsKindReady : Columns → Kind → ReadyKind → Type 0
 IsKindReady shard k Single = IsTrue (has_single_key k)
 IsKindReady shard k Metric = IsTrue (is_metric k)
-IsKindReady shard k (Terms p) = IsReady shard k p
+IsKindReady shard k (Terms p) = IsReadyTerms shard k p
+IsKindReady shard k (Filters p) = IsReadyFilters shard k p
+IsKindReady shard k (Histogram p) = IsReadyHistogram k p
+IsKindReady shard k Composite = IsTrue (is_composite k)
 
 -- rows have their own keys
 abbrev pub is_keyed : ReadyKind → Bool
 is_keyed Single = false
 is_keyed Metric = false
 is_keyed (Terms p) = true
+is_keyed (Filters p) = true
+is_keyed (Histogram p) = true
+is_keyed Composite = false
+
+-- what the children of a bucket cost before its first row
+abbrev pub HasChildBytes : Agg → Ready → Type 0
+HasChildBytes a r = (out-Ready r).child_bytes ≡ sum_by node_cost (map empty_node (out-Agg a).children)
 
 -- the same for one aggregation, without those below it
 pub record IsLevelReady (shard : Columns) (a : Agg) (r : Ready) : Type 0 where
   pub kind : IsKindReady shard (out-Agg a).kind (out-Ready r).kind
-  pub child_bytes : (out-Ready r).child_bytes ≡ sum_by node_cost (map empty_node (out-Agg a).children)
+  pub child_bytes : HasChildBytes a r
+  pub many : length (out-Ready r).children ≡ length (out-Agg a).children
 
 -- the aggregation at the end of a way down, by places among siblings
 abbrev pub agg_at : List ℕ → Agg → Option Agg

@@ -33,9 +33,13 @@ pub fn bucket_bytes(shard: &Shard, kind: &Kind, ready: &Ready, code: i64) -> Res
     sum(sum(BUCKET_BYTES, key)?, ready.child_bytes)
 }
 
-// A bucket without rows.
+/// A bucket without rows.
 #[cycle(begin)]
-fn begin_bucket(alloc: Global, aggs: &List<Agg>, ready: &List<Ready>) -> Result<Growing, AllocError>
+pub(crate) fn begin_bucket(
+    alloc: Global,
+    aggs: &List<Agg>,
+    ready: &List<Ready>,
+) -> Result<Growing, AllocError>
     ensures count { IfOk result (λ b. b.count ≡ 0) }
     ensures children { IfOk result (λ b. (shard : Columns) →
         decoded_children (map (decoded shard) ready.now) b.children.items ≡ map empty_node aggs.now) }
@@ -46,9 +50,9 @@ fn begin_bucket(alloc: Global, aggs: &List<Agg>, ready: &List<Ready>) -> Result<
     })
 }
 
-// The trees of aggregations side by side.
+/// The trees of aggregations side by side, each over no row. Errors and time as in `begin`.
 #[cycle(begin)]
-fn begin_trees(
+pub fn begin_trees(
     alloc: Global,
     aggs: &List<Agg>,
     ready: &List<Ready>,
@@ -68,7 +72,7 @@ fn begin_trees(
 }
 
 // The number of the buckets of filters.
-fn count_of(filters: &List<Query>, other: &Option<Text>) -> Result<usize, AllocError>
+pub(crate) fn count_of(filters: &List<Query>, other: &Option<Text>) -> Result<usize, AllocError>
     ensures { IfOk result (λ n. n ≡ option_map_or (λ name. length filters.now + 1) other.now (length filters.now)) }
 {
     match other {

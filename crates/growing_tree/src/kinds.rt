@@ -1,17 +1,54 @@
 //! What the kinds of aggregations make of codes and rows.
-ghost use Rattle.std.specs.Prelude.{◌≡◌, ◌<◌, OnOk, length, map};
+ghost use Rattle.std.specs.Prelude.{◌≡◌, ◌<◌, All, IfOk, IsTrue, OnOk, length, map, pos};
+ghost use Rattle.std.specs.List.Sorted.{IsStrictlyIncreasing};
 ghost use Rattle.agg_evaluation.specs.Cost.{key_bytes};
-ghost use Rattle.agg_evaluation.specs.Keys.{keys};
 ghost use Rattle.agg_evaluation.specs.Rows.{row_of};
+ghost use Rattle.shard_columns.specs.Columns.{Columns};
+ghost use Rattle.growing_tree.specs.Codes.{code_key, HasFixedKeys};
+ghost use Rattle.growing_tree.specs.Readiness.{IsKindReady, is_metric};
+ghost use Rattle.agg_evaluation.specs.Keys.{keys};
 ghost use Rattle.shard_columns.specs.Built.{IsShard};
-ghost use Rattle.growing_tree.specs.Codes.{code_key};
-ghost use Rattle.growing_tree.specs.Readiness.{IsKindReady};
+ghost use Rattle.growth_laws.specs.Growth.{metric_with};
+ghost use Rattle.growing_tree.specs.Shown.{HasBuckets, TakesRows};
+ghost use Rattle.growing_tree.specs.Trees.{IsAligned};
 
+use crate::number::Taken;
 use crate::ready::ReadyKind;
-use agg_model::Kind;
+use crate::tree::Level;
+use agg_model::{Kind, List};
+use filters_agg::codes as codes_of_filters;
+use histogram_agg::{codes as codes_of_histogram, key_bytes as key_bytes_of_interval};
 use shard_columns::Shard;
 use std::alloc::AllocError;
-use terms_agg::{codes as codes_of_row, key_bytes as key_bytes_of_code};
+use terms_agg::{codes as codes_of_terms, key_bytes as key_bytes_of_term};
+
+/// Whether the codes are numbers of buckets that exist from the start.
+pub(crate) fn has_fixed_keys(kind: &ReadyKind) -> bool
+    ensures { IsTrue result → (shard : Columns) → HasFixedKeys shard kind.now }
+{
+    match kind {
+        ReadyKind::Single | ReadyKind::Metric | ReadyKind::Filters(_) | ReadyKind::Composite =>
+            true,
+        ReadyKind::Terms(_) | ReadyKind::Histogram(_) => false,
+    }
+}
+
+/// Whether the level has buckets.
+pub(crate) fn has_buckets(level: &Level) -> bool
+    ensures { IsTrue result → HasBuckets level.now }
+{
+    match level {
+        Level::Keyed(_) | Level::Fixed(_) => true,
+        Level::Number(_) => false,
+    }
+}
+
+/// The number of a bucket that exists from the start.
+pub(crate) fn place_of(code: i64) -> Result<usize, AllocError>
+    ensures { IfOk result (λ place. code ≡ pos place) }
+{
+    usize::try_from(code).map_err(|_| AllocError)
+}
 
 /// The bytes of the key that a code stands for. The key of a bucket that exists from the start costs none; a number that is no
 /// code of the shard costs what the key of that number would. Time and memory are constant.
@@ -20,14 +57,16 @@ pub fn code_bytes(shard: &Shard, kind: &Kind, ready: &ReadyKind, code: i64) -> u
     ensures { result ≡ key_bytes (code_key shard.now ready.now code) }
 {
     match ready {
-        ReadyKind::Single | ReadyKind::Metric => 0,
-        ReadyKind::Terms(terms) => key_bytes_of_code(shard, terms, code),
+        ReadyKind::Single | ReadyKind::Metric | ReadyKind::Filters(_) | ReadyKind::Composite => 0,
+        ReadyKind::Terms(terms) => key_bytes_of_term(shard, terms, code),
+        ReadyKind::Histogram(histogram) => key_bytes_of_interval(histogram, code),
     }
 }
 
 /// Puts the codes of the keys of a row, in the order of the keys, in the place of what the list has: 0 for the one key of a
-/// single bucket, and none for a metric. Where memory is wanted, nothing is said of the list. Time and memory are those of
-/// `terms_agg::codes`.
+/// single bucket, and none for a metric. A composite has no codes, which is answered as want of memory: it never comes, since its
+/// page grows elsewhere. Where memory is wanted, nothing is said of the list. It takes time by the row's values, and memory only
+/// where the list has no room for the codes.
 pub fn row_codes(
     shard: &Shard,
     kind: &Kind,
@@ -48,12 +87,75 @@ pub fn row_codes(
             Ok(())
         }
         ReadyKind::Terms(terms) => {
-            codes_of_row(shard, terms, row, codes)?;
+            codes_of_terms(shard, terms, row, codes)?;
+            Ok(())
+        }
+        ReadyKind::Filters(filters) => {
+            codes_of_filters(shard, filters, row, codes)?;
+            Ok(())
+        }
+        ReadyKind::Histogram(histogram) => {
+            codes_of_histogram(shard, histogram, row, codes)?;
             Ok(())
         }
         ReadyKind::Metric => {
             codes.clear();
             Ok(())
         }
+        ReadyKind::Composite => Err(AllocError),
     }
+}
+
+/// The values of more rows, in a metric.
+pub(crate) fn take_rows(
+    kind: &Kind,
+    shard: &Shard,
+    rows: &List<u32>,
+    level: &mut Level,
+) -> Result<(), AllocError>
+    requires metric { IsTrue (is_metric kind.now) }
+    requires in_range { All (λ n. n < length shard.now.rows) rows.now }
+    ensures values { OnOk result (TakesRows kind.now (map (row_of shard.now.rows) rows.now) level.old level.new) }
+    ensures aligned { IsAligned level.old → IsAligned level.new }
+{
+    match level {
+        Level::Number(taken) => {
+            for row in rows.as_slice() {
+                take_row(kind, shard, *row, taken)?;
+            }
+            Ok(())
+        }
+        Level::Keyed(_) | Level::Fixed(_) => Err(AllocError),
+    }
+}
+
+// The values of one more row.
+fn take_row(kind: &Kind, shard: &Shard, row: u32, taken: &mut Taken) -> Result<(), AllocError>
+    requires metric { IsTrue (is_metric kind.now) }
+    requires in_range { row < length shard.now.rows }
+    ensures { OnOk result (taken.new ≡ metric_with kind.now (row_of shard.now.rows row) taken.old) }
+{
+    match kind {
+        Kind::Sum { field, missing }
+        | Kind::Min { field, missing }
+        | Kind::Max { field, missing }
+        | Kind::Avg { field, missing }
+        | Kind::ValueCount { field, missing } => {
+            taken.take_row(shard, row, *field, missing)?;
+            Ok(())
+        }
+        _ => unreachable!(),
+    }
+}
+
+/// Whether each row is below the next.
+pub(crate) fn ascend(rows: &[u32]) -> bool
+    ensures { IsTrue result → IsStrictlyIncreasing rows.now }
+{
+    for place in 1..rows.len() {
+        if rows[place - 1] >= rows[place] {
+            return false;
+        }
+    }
+    true
 }

@@ -1,6 +1,8 @@
 //! Aggregations that are prepared for a shard.
 
 use agg_model::List;
+use filters_agg::PreparedFilters;
+use histogram_agg::PreparedHistogram;
 use terms_agg::PreparedTerms;
 
 /// What an aggregation needs of the shard, prepared once.
@@ -10,6 +12,11 @@ pub enum ReadyKind {
     Single,
     Metric,
     Terms(PreparedTerms),
+    /// Of a filters, a filter or a missing aggregation: the codes are the numbers of its buckets.
+    Filters(PreparedFilters),
+    Histogram(PreparedHistogram),
+    /// It has no codes: its page is no tree that grows here.
+    Composite,
 }
 
 /// An aggregation that is prepared for a shard, with those below it.

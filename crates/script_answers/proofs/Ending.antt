@@ -1,5 +1,5 @@
 -- Where an output stops, and where it ends.
-use Rattle.std.specs.Prelude.{◌≡◌, ◌≤◌, ℕ, List, [], ◌∷◌, ◌++◌, map, length, Option, Some, Ok, Err}
+use Rattle.std.specs.Prelude.{◌≡◌, ◌≤◌, ℕ, List, [], ◌∷◌, ◌++◌, map, length, Option, Some, Result, Ok, Err, OnOk, IfErr}
 use Rattle.std.proofs.Common.{inl, inr, ◌∙◌, refl, sym, ap, subst, append-nil, arith}
 use Rattle.std.proofs.lemmas.List.{length-append, length-map}
 use Rattle.list_laws.proofs.Lists.{map-append}
@@ -67,9 +67,9 @@ module _ (words : Settings) (index : Index) (columns : ℕ) where
   -- ---- a search
 
   -- a wave that is not full yet
-  pub still-bodies_of : (recent : Recent) (wave now : List (List ℕ)) (text : List ℕ) (before : Option (List ℕ)) → now ≡ wave ++ text ∷ []
+  pub still-waiting : (recent : Recent) (wave now : List (List ℕ)) (text : List ℕ) (before : Option (List ℕ)) → now ≡ wave ++ text ∷ []
       → TakesEntry words index columns recent wave (body text) before before recent now
-  still-bodies_of recent wave now text before is = record {
+  still-waiting recent wave now text before is = record {
     answered = [];
     written = [];
     entries = sym (ap bodies_of is ∙ map-append body wave (text ∷ []));
@@ -178,6 +178,17 @@ module _ (words : Settings) (index : Index) (columns : ℕ) where
         stops-rest recent (behind (bodies_of wave) no_more) 0 (round_lines puts.rounds ++ statistics totals.totals ∷ []) before after stop
         (inl (refl, rest-well puts.rounds totals.totals puts.are (totals-of puts.rounds now totals.totals puts.recent_is totals.are)))
         (stops-behind before mid after (round_lines puts.rounds) (statistics totals.totals ∷ []) stop puts.puts totals.puts)
+
+    -- how the script ends by what became of the statistics
+    pub end-finishes : {X Y : Type 0} (x : X) (now : Recent) (result : Result Y Stop) → PutsWave {X = X} index columns recent (map (request_of index) wave) before mid now (Ok x)
+        → PutsTotals index columns now mid after result → OnOk result (Finishes words index columns recent (behind (bodies_of wave) no_more) before after)
+    end-finishes x now (Ok y) puts totals = ends-finished x y now puts totals
+    end-finishes x now (Err stop) puts totals = tt
+
+    pub end-stops : {X Y : Type 0} (x : X) (now : Recent) (result : Result Y Stop) → PutsWave {X = X} index columns recent (map (request_of index) wave) before mid now (Ok x)
+        → PutsTotals index columns now mid after result → IfErr result (λ stop. StopsAt words index columns recent (behind (bodies_of wave) no_more) before after stop)
+    end-stops x now (Ok y) puts totals = tt
+    end-stops x now (Err stop) puts totals = totals-stop x stop now puts totals
 
   -- ---- a refused script
 

@@ -7,3 +7,4 @@ pub mod Putting
 pub mod Sections
 pub mod Stepping
 pub mod Waving
+pub mod Widths

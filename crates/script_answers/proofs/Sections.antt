@@ -1,5 +1,5 @@
 -- A whole third section: what was written of it so far, and how it ends.
-use Rattle.std.specs.Prelude.{◌≡◌, ℕ, Bool, List, [], ◌∷◌, ◌++◌, Option, Some}
+use Rattle.std.specs.Prelude.{◌≡◌, ℕ, Bool, List, [], ◌∷◌, ◌++◌, take, Option, Some}
 use Rattle.std.proofs.Common.{◌∙◌, sym, ap, subst, append_assoc, append-nil}
 use Rattle.agg_model.specs.Lines.{Line as InputLine, lines}
 use Rattle.agg_model.specs.declared.settings.Settings.{Settings}
@@ -9,10 +9,13 @@ use Rattle.agg_settings.specs.Changes.{changed}
 use Rattle.agg_spec.specs.Index.{Index}
 use Rattle.agg_spec.specs.Answers.{Recent}
 use Rattle.agg_spec.specs.Written.{Line}
-use Rattle.agg_spec.specs.Output.{refusal_line}
-use Rattle.script_entries.specs.Reading.{behind, GoesOnAt, then_entries}
+use Rattle.agg_spec.specs.Output.{refusal_line, whole_lines}
+use Rattle.script_entries.specs.Reading.{behind, GoesOnAt, Ends, then_entries}
 use Rattle.script_entries.proofs.EntryLemmas.{all}
-use Rattle.script_answers.specs.Ends.{end_of, PutsLast}
+use Rattle.script_lines.specs.Faults.{refusal_of}
+use Rattle.script_lines.specs.declared.fault.ScriptFault.{ScriptFault}
+use Rattle.script_lines.specs.declared.fault.ScriptFault.TheVariants as fault
+use Rattle.script_answers.specs.Ends.{end_of, PutsLast, EndsAt}
 use Rattle.script_answers.specs.Rest.{EndsEarly, EndsWell, EndsRefused}
 use Rattle.script_answers.specs.Stepping.{bodies_of, IsReady, TakesEntry, StopsAt, Finishes}
 use Rattle.script_answers.specs.Steps.{Leads, WroteLines, Wrote}
@@ -145,3 +148,10 @@ module _ (words : Settings) (index : Index) (columns : ℕ) where
         (subst (λ (o : Option (List ℕ)). Wrote changed words index columns start (whole (lines bytes)) read ended.Memory before o) (sym same)
         (stopped-later mid (behind (bodies_of wave) later) read Memory (all whole bytes _ left count is_ended so.read ∙ apart-here later)
         (stops-here words index columns now (behind (bodies_of wave) later) mid)))
+
+    -- why there is no further entry
+    pub so-ended : (after : Option (List ℕ)) (count_read : ℕ) (fault : ScriptFault) (end : ScriptEnd) → IsReady words now wave → Ends whole bytes (so.answered ++ bodies_of wave) fault count_read
+        → EndsAt fault mid after end → Wrote changed words index columns start (whole (lines bytes)) (whole (whole_lines (take count_read bytes))) end before after
+    so-ended after count_read (fault.Refused r) end ready is ends = so-refused after (whole (whole_lines (take count_read bytes))) (refusal_of r) end ready is ends
+    so-ended after count_read fault.Read end ready is ends = so-unread after (whole (whole_lines (take count_read bytes))) end ready is ends
+    so-ended after count_read fault.Memory end ready is ends = so-wanting after (whole (whole_lines (take count_read bytes))) end ends

@@ -1,17 +1,18 @@
-//! Writing the answers to a script, by whoever answers: those of a wave, the refusal of the script and the statistics, each as a
-//! line of the output (Elasticsearch Reference 8, 'Multi search API').
+//! The answers to the third section of a script: its searches in waves, its settings lines between them, and the statistics
+//! at its end, each as a line of the output (Elasticsearch Reference 8, 'Multi search API', 'Cluster update settings API').
 //!
-//! Who answers is a type parameter, `Answerer`. A line counts as written once all of it was, its newline with it.
+//! Who answers a search is a type parameter: `Answerer`. A line counts as written once all of it was, its newline with it.
 #![tactic(auto)]
 
 mod answerer;
+mod changing;
 mod end;
+mod running;
+mod step;
 mod stop;
 mod wave;
 mod writing;
 
 pub use answerer::{Answerer, Reopening};
 pub use end::ScriptEnd;
-pub use stop::Stop;
-pub use wave::{answer_wave, close};
-pub use writing::{write_answers, write_refusal, write_statistics};
+pub use running::answer_script;

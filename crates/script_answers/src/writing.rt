@@ -27,7 +27,7 @@ fn write_ended<K: Sink>(sink: &mut K, text: &Text) -> Result<(), Failed>
 }
 
 /// Writes the text of a line with its newline.
-fn write_line<K: Sink>(sink: &mut K, text: &Text) -> Result<(), Stop>
+pub(crate) fn write_line<K: Sink>(sink: &mut K, text: &Text) -> Result<(), Stop>
     ensures puts { (line : Line) → IsTrue (is_printed line) → line_text line ≡ text.now →
         Puts (K.written sink.old) (K.written sink.new) (line ∷ []) result }
     ensures fault { result ≡ Err Stop.Write → Rose (K.faults sink.old) (K.faults sink.new) }

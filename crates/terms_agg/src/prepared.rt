@@ -3,7 +3,7 @@ ghost use Rattle.std.specs.Prelude.{◌≡◌, ℤ, ◌<◌, length, IfOk, IsTru
 ghost use Rattle.agg_model.specs.declared.aggregation.Kind.{Kind};
 ghost use Rattle.agg_evaluation.specs.Cost.{key_bytes as bytes_of_key};
 ghost use Rattle.shard_columns.specs.Columns.{Columns};
-ghost use Rattle.terms_agg.specs.Codes.{allows, code_words, is_code, key_of, word_at};
+ghost use Rattle.terms_agg.specs.Codes.{allows, code_words, is_code, is_place as is_place_among, key_of, word_at};
 ghost use Rattle.terms_agg.specs.Prepared.{IsReady};
 
 use crate::code_sets::{Codes, has};
@@ -44,27 +44,16 @@ pub(crate) fn is_allowed(prepared: &PreparedTerms, code: i64) -> bool
 }
 
 // The word of a code, which the shard or the prepared form lends.
-fn word_of<'a>(shard: &'a Shard, prepared: &'a PreparedTerms, code: i64) -> &'a [u8]
+fn word_of<'a>(shard: &'a Shard, prepared: &'a PreparedTerms, code: i64) -> &'a str
     ensures { result.now ≡ word_at (code_words shard.now prepared.now) code }
 {
     let words = i64::from(shard.words(prepared.field));
     if code >= 0 && code < words {
-        return shard.word(prepared.field, code as u32);
+        return shard.text(prepared.field, code as u32);
     }
     match &prepared.other {
-        Some(word) if code == words => word.as_str().as_bytes(),
-        _ => &[],
-    }
-}
-
-// The bytes as a text. All words of a shard are texts, so that those that are none never come: they are answered as want of
-// memory.
-fn text_of(alloc: Global, bytes: &[u8]) -> Result<Text, AllocError>
-    ensures { IfOk result (λ text. text ≡ bytes.now) }
-{
-    match str::from_utf8(bytes) {
-        Ok(text) => Text::of(alloc, text),
-        Err(_) => Err(AllocError),
+        Some(word) if code == words => word.as_str(),
+        _ => "",
     }
 }
 
@@ -81,7 +70,7 @@ pub fn key(
     match content_of_field(shard, prepared.field) {
         Content::Wholes => Ok(Key::Whole(i128::from(code))),
         Content::Flags => Ok(Key::Flag(code != 0)),
-        Content::Words => Ok(Key::Word(text_of(alloc, word_of(shard, prepared, code))?)),
+        Content::Words => Ok(Key::Word(Text::of(alloc, word_of(shard, prepared, code))?)),
     }
 }
 
@@ -93,6 +82,36 @@ pub fn key_bytes(shard: &Shard, prepared: &PreparedTerms, code: i64) -> u64
     match content_of_field(shard, prepared.field) {
         Content::Wholes | Content::Flags => NUMBER_KEY_BYTES,
         Content::Words => word_of(shard, prepared, code).len() as u64,
+    }
+}
+
+// Whether the number is a place among so many.
+fn is_place(places: u64, number: i64) -> bool
+    ensures { result ≡ is_place_among places number }
+{
+    number >= 0 && (number as u64) < places
+}
+
+// How many words have codes.
+fn word_count(shard: &Shard, prepared: &PreparedTerms) -> u64
+    ensures { result ≡ length (code_words shard.now prepared.now) }
+{
+    let words = u64::from(shard.words(prepared.field));
+    match &prepared.other {
+        Some(_) => words + 1,
+        None => words,
+    }
+}
+
+/// Whether the number is a code of the aggregation, so that it stands for a key. Time and memory are constant.
+pub fn has_key(shard: &Shard, prepared: &PreparedTerms, number: i64) -> bool
+    requires { prepared.now.field < length shard.now.kinds }
+    ensures { result ≡ is_code shard.now prepared.now number }
+{
+    match content_of_field(shard, prepared.field) {
+        Content::Wholes => true,
+        Content::Flags => is_place(2, number),
+        Content::Words => is_place(word_count(shard, prepared), number),
     }
 }
 

@@ -13,4 +13,5 @@ returns-clause-script g c bytes is =
       items = refl;
       stands = refl;
       rest = script.1;
+      goes_on = script.3;
     }

@@ -13,7 +13,7 @@ use Rattle.agg_cost.proofs.AggSizes.{children_less, item-most}
 use Rattle.agg_cost.proofs.Capping.{alike_capped}
 use Rattle.agg_cost.proofs.Conditions.{has-fields}
 use Rattle.agg_cost.proofs.Levels.{alike-buckets, bound-counted}
-use Rattle.agg_cost.proofs.Making.{kind-made, child-made}
+use Rattle.filters_agg.proofs.MadeAggs.{kind-made, child-made}
 use Rattle.agg_cost.proofs.bounds.+node_bytes.Goals as goal
 
 pub hand_on-requires-clause-made : goal.hand_on-requires-clause-made

@@ -4,7 +4,7 @@ use Rattle.agg_model.specs.declared.aggregation.Agg.{Agg, out-Agg}
 use Rattle.agg_evaluation.specs.Ceiling.{ceiling_by, is_wide_at}
 use Rattle.agg_cost.specs.Capped.{capped}
 use Rattle.agg_cost.specs.Paths.{reached_by}
-use Rattle.agg_cost.proofs.Making.{kind-made}
+use Rattle.filters_agg.proofs.MadeAggs.{kind-made}
 use Rattle.agg_cost.proofs.Totals.{bytes_of, is_wide_agg, query-made, agg-made, same-rows, one-bytes, total-more, none-more, one-wide, whole-ceiling}
 use Rattle.agg_cost.proofs.ceilings.ceiling.Goals as goal
 

@@ -1,5 +1,5 @@
 use Rattle.answer_laws.proofs.LineCounts.{written-length}
-use Rattle.answer_laws.proofs.ChangesKeep.{changed-keeps}
+use Rattle.agg_settings.proofs.ChangesKeep.{changed-keeps}
 use Rattle.answer_laws.proofs.laws.each_entry_of_a_script_has_one_line.Goals as goal
 
 pub returns-clause-lines : goal.returns-clause-lines

@@ -5,7 +5,6 @@ use Rattle.serde_json.specs.Data.{Data, null, boolean, number, string, array, ob
 use Rattle.agg_model.specs.declared.settings.Settings.{Settings}
 use Rattle.agg_reading.specs.SettingsLines.{scope_of}
 use Rattle.agg_settings.specs.Changes.{changed, changed_by, unless_refused, first_refused, settings_after}
-use Rattle.answer_laws.specs.LineCounts.{KeepsWaves}
 
 abbrev width_of : Result Settings (List ℕ) → ℕ
 width_of (Ok s) = s.width
@@ -15,7 +14,7 @@ abbrev scan_of : Result Settings (List ℕ) → Bool
 scan_of (Ok s) = s.scan
 scan_of (Err name) = false
 
-abbrev Keeps : Settings → Settings → Type 0
+abbrev pub Keeps : Settings → Settings → Type 0
 Keeps now after = (after.width ≡ now.width) × (after.scan ≡ now.scan)
 
 members-keep : (now words after : Settings) (ms : Members) (o : Option (List ℕ)) → unless_refused o (settings_after now words ms) ≡ Ok after → Keeps now after
@@ -32,6 +31,6 @@ scope-keeps now words after (Some (scope, number n)) e = absurd (let no : ⊥ = 
 scope-keeps now words after (Some (scope, string s)) e = absurd (let no : ⊥ = cc in no)
 scope-keeps now words after (Some (scope, array ds)) e = absurd (let no : ⊥ = cc in no)
 
-pub changed-keeps : (words : Settings) → KeepsWaves changed words
+pub changed-keeps : (words now after : Settings) (line : Data) → changed now words line ≡ Ok after → Keeps now after
 unfolding changed
 changed-keeps words now after line e = scope-keeps now words after (scope_of line) e

@@ -1,0 +1,71 @@
+-- What trees over no row cost.
+use Rattle.std.specs.Prelude.{◌≡◌, refl, ℕ, pos, ◌+◌, ◌*◌, List, [], ◌∷◌, length, map, None, sum_by}
+use Rattle.std.specs.List.{range_with_len}
+use Rattle.std.proofs.Common.{sym, ◌∙◌, ap, arith}
+use Rattle.std.proofs.lemmas.List.FromFn.{length-range_with_len}
+use Rattle.std.proofs.lemmas.List.Sums.{sum_by-cons}
+use Rattle.agg_model.specs.declared.aggregation.Agg.{Agg, out-Agg}
+use Rattle.agg_model.specs.declared.aggregation.Kind.{Kind}
+use Rattle.agg_model.specs.declared.aggregation.Kind.TheVariants as kind
+use Rattle.agg_model.specs.declared.key.Key.TheVariants as key
+use Rattle.agg_model.specs.declared.partial.Node.{Node}
+use Rattle.agg_evaluation.specs.Cost.{node_cost}
+use Rattle.agg_evaluation.specs.Shard.{fixed_keys}
+use Rattle.agg_evaluation.specs.Whole.{by_key, from_start, a_number, empty_by, empty_node, shape_of}
+use Rattle.agg_evaluation.proofs.Computing.{computing}
+use Rattle.evaluation_laws.proofs.CostLaws.{bytes, cost-Keyed, cost-Fixed, cost-Number}
+use Rattle.growing_tree.specs.Readiness.{HasChildBytes}
+use Rattle.growing_tree.specs.Starting.{start_count}
+use Rattle.growing_tree.specs.declared.ready.Ready.{Ready, out-Ready}
+use Rattle.growing_tree.proofs.Empties.{empty-level, none_at}
+
+-- the bytes of buckets without rows
+none-bytes : (children : List Node) (ns : List ℕ) → sum_by bytes (map (none_at children) (map key.Fixed ns)) ≡ length ns * (128 + sum_by node_cost children)
+unfolding computing
+none-bytes children [] = omega arith
+none-bytes children (n ∷ ns) =
+    let first = sum_by-cons bytes (none_at children (key.Fixed n)) (map (none_at children) (map key.Fixed ns)) in
+    let rest = none-bytes children ns in
+    omega arith
+
+-- the tree over no row, by the number of its buckets
+pub empty-cost : (a : Agg) (r : Ready) → HasChildBytes a r → node_cost (empty_node a) ≡ 512 + start_count (out-Agg a).kind * (128 + (out-Ready r).child_bytes)
+empty-cost a r child = at (out-Agg a).kind refl
+  where
+    below : List Node
+    below = map empty_node (out-Agg a).children
+
+    bucket : ℕ
+    bucket = 128 + (out-Ready r).child_bytes
+
+    fixed : (k : Kind) (ns : List ℕ) → (out-Agg a).kind ≡ k → fixed_keys k ≡ map key.Fixed ns → shape_of k ≡ from_start → node_cost (empty_node a) ≡ 512 + length ns * bucket
+    fixed k ns is keys shape =
+        ap node_cost (empty-level a k is ∙ (λ i. empty_by below (keys i) (shape i))) ∙ cost-Fixed (map (none_at below) (map key.Fixed ns))
+        ∙ ap (λ n. 512 + n) (none-bytes below ns ∙ ap (λ n. length ns * (128 + n)) (sym child))
+
+    none : 512 ≡ 512 + 0 * bucket
+    none = omega arith
+
+    keyed : (k : Kind) → (out-Agg a).kind ≡ k → shape_of k ≡ by_key → node_cost (empty_node a) ≡ 512 + 0 * bucket
+    keyed k is shape = ap node_cost (empty-level a k is ∙ ap (empty_by below (fixed_keys k)) shape) ∙ cost-Keyed [] 0 0 0 ∙ none
+
+    number : (k : Kind) → (out-Agg a).kind ≡ k → shape_of k ≡ a_number → node_cost (empty_node a) ≡ 512 + 0 * bucket
+    number k is shape = ap node_cost (empty-level a k is ∙ ap (empty_by below (fixed_keys k)) shape) ∙ cost-Number (record { count = 0; sum = pos 0; least = None; greatest = None }) ∙ none
+
+    at : (k : Kind) → (out-Agg a).kind ≡ k → node_cost (empty_node a) ≡ 512 + start_count k * bucket
+    at (kind.Filters names filters other) is =
+        let count = start_count (kind.Filters names filters other) in
+        fixed (kind.Filters names filters other) (range_with_len 0 count) is refl refl ∙ ap (λ n. 512 + n * bucket) (length-range_with_len 0 count)
+    at (kind.Filter query) is = fixed (kind.Filter query) (0 ∷ []) is refl refl
+    at (kind.Missing field) is = fixed (kind.Missing field) (0 ∷ []) is refl refl
+    at kind.Global is = fixed kind.Global (0 ∷ []) is refl refl
+    at (kind.Nested context) is = fixed (kind.Nested context) (0 ∷ []) is refl refl
+    at (kind.ReverseNested context) is = fixed (kind.ReverseNested context) (0 ∷ []) is refl refl
+    at (kind.Terms field size shard_size min_doc_count order include exclude missing show_error) is = keyed _ is refl
+    at (kind.Histogram field interval offset min_doc_count extended hard keyed_answer order missing) is = keyed _ is refl
+    at (kind.Composite sources size after) is = keyed _ is refl
+    at (kind.Sum field missing) is = number _ is refl
+    at (kind.Min field missing) is = number _ is refl
+    at (kind.Max field missing) is = number _ is refl
+    at (kind.Avg field missing) is = number _ is refl
+    at (kind.ValueCount field missing) is = number _ is refl

@@ -1,0 +1,159 @@
+use Rattle.std.proofs.Common.{◌≡◌, ◌<◌, ◌≤◌, ◌+◌, ◌∙◌, ◌∷◌, [], ◌++◌, List, sym, ap, subst, arith, rules, length, map, drop, get_or, pos, IfOk, w64, to_z, of_z}
+use Rattle.std.specs.Vec.Iter.{into_iter_items}
+use Rattle.std.proofs.lemmas.Int.{to_z-of_z}
+use Rattle.std.proofs.lemmas.Option.{slice_get-get_or}
+use Rattle.list_laws.proofs.Lists.{append-nil}
+use Rattle.agg_model.specs.declared.key.Key.TheVariants as key
+use Rattle.agg_model.specs.declared.partial.Bucket.{Bucket}
+use Rattle.agg_model.specs.declared.partial.Node.{Node}
+use Rattle.agg_model.specs.declared.partial.Node.TheVariants.{Keyed, Fixed, Number}
+use Rattle.agg_evaluation.specs.Shard.{sorted_by_key}
+use Rattle.growth_laws.specs.Cutting.{cut_tree}
+use Rattle.terms_agg.specs.Trim.{trimmed}
+use Rattle.growing_tree.specs.Codes.{code_key}
+use Rattle.growing_tree.specs.Decoded.{decoded}
+use Rattle.growing_tree.specs.Finished.{finished_bucket, finished_children, finished_with}
+use Rattle.growing_tree.specs.Trees.{coded_buckets, level_node, numbered_buckets}
+use Rattle.growing_tree.specs.declared.ready.Ready.{out-Ready}
+use Rattle.growing_tree.proofs.AggSizes.{children_less, item-most}
+use Rattle.growing_tree.proofs.Cuts.{child-finished, coded-more, coded-none, drop-full, fixed-finished, keyed-finished, number-finished, numbered-more}
+use Rattle.growing_tree.proofs.Levels.{children-ready, level-ready}
+use Rattle.growing_tree.proofs.Steps.{item-at}
+use Rattle.growing_tree.proofs.finishing.+finish.Goals as goal
+
+pub finish_children-finish-requires : goal.finish_children-finish-requires
+finish_children-finish-requires t c =
+    let place = c.loop-place.place in
+    let aggs = c.args.aggs.now in
+    let ready = c.args.ready.now in
+    let a = c.index-as_slice-place.result in
+    let r = c.index-as_slice-place-in-loop-place.result in
+    let below : place < length aggs = omega (arith, c.loop-place-test.true, c.len-place-end.ensures) in
+    let within : place < length ready = omega (arith, below, c.if-len.false, c.len.ensures, c.len-2.ensures) in
+    let a_get = c.index-as_slice-place.is ∙ ap (λ xs. get_or xs place a) c.as_slice.ensures in
+    let r_get = c.index-as_slice-place-in-loop-place.is ∙ ap (λ xs. get_or xs place r) c.as_slice-in-loop-place.ensures in
+    let less = item-most aggs place a below a_get in
+    (omega (arith, c.decreases, less), (c.requires.ready place a r (item-at aggs place a below a_get) (item-at ready place r within r_get), c.requires.built))
+
+pub finish_children-loop-place-preserved : goal.finish_children-loop-place-preserved
+finish_children-loop-place-preserved t c =
+    let shard = c.args.shard.now in
+    let place = c.loop-place.place in
+    let aggs = c.args.aggs.now in
+    let ready = c.args.ready.now in
+    let nodes = c.loop-place.nodes in
+    let a = c.index-as_slice-place.result in
+    let r = c.index-as_slice-place-in-loop-place.result in
+    let below : place < length aggs = omega (arith, c.loop-place-test.true, c.len-place-end.ensures) in
+    let within : place < length ready = omega (arith, below, c.if-len.false, c.len.ensures, c.len-2.ensures) in
+    let a_get = item-at aggs place a below (c.index-as_slice-place.is ∙ ap (λ xs. get_or xs place a) c.as_slice.ensures) in
+    let r_get = item-at ready place r within (c.index-as_slice-place-in-loop-place.is ∙ ap (λ xs. get_or xs place r) c.as_slice-in-loop-place.ensures) in
+    let next = into_iter_items c.next.new.self in
+    let steps = c.in-Some.ensures.items in
+    (record {
+      rest =
+          ap (λ xs. xs ++ finished_children shard (drop (place + 1) aggs) (drop (place + 1) ready) next) (c.in_ok-push.ensures.ok ∙ ap (λ (x : Node). nodes ++ x ∷ []) c.in_ok-node.ensures.node)
+          ∙ child-finished shard nodes aggs ready place a r c.in-Some.tree next a_get r_get
+          ∙ ap (λ ns. nodes ++ finished_children shard (drop place aggs) (drop place ready) ns) (sym steps) ∙ c.loop-place.invariant.rest;
+      many = omega (arith, ap (λ (ns : List Node). length ns) steps, c.loop-place.invariant.many);
+    })
+
+pub finish_children-returns : goal.finish_children-returns
+finish_children-returns t c =
+    let shard = c.args.shard.now in
+    let place = c.loop-place.place in
+    let aggs = c.args.aggs.now in
+    let ready = c.args.ready.now in
+    let nodes = c.loop-place.nodes in
+    let left = into_iter_items c.loop-place.left in
+    let all : length aggs ≤ place = omega (arith, c.loop-place-test.false, c.len-place-end.ensures) in
+    let both : length ready ≤ place = omega (arith, all, c.if-len.false, c.len.ensures, c.len-2.ensures) in
+    let none : length left ≤ 0 = omega (arith, all, c.loop-place.invariant.many) in
+    (record {
+      nodes =
+          sym (append-nil nodes)
+          ∙ sym (λ j. nodes ++ finished_children shard (drop-full aggs place all j) (drop-full ready place both j) (drop-full left 0 none j)) ∙ c.loop-place.invariant.rest;
+    })
+
+pub finish_keyed-loop-code-preserved : goal.finish_keyed-loop-code-preserved
+finish_keyed-loop-code-preserved t c =
+    let shard = c.args.shard.now in
+    let a = c.args.agg.now in
+    let r = c.args.ready.now in
+    let codes = c.codes-code-items.result.now in
+    let i = c.loop-code.code-index in
+    let code = get_or codes i (pos 0) in
+    let done = c.loop-code.finished.items in
+    let bucket = c.in-Some.bucket in
+    let next = into_iter_items c.next.new.self in
+    let finish = finished_bucket shard a r in
+    let within : i < length codes = omega (arith, c.loop-code-test.true) in
+    let same : to_z w64 (of_z w64 code) ≡ code = to_z-of_z w64 code (search rules) in
+    let key_is : c.in_ok-key-in-Some.key ≡ code_key shard (out-Ready r).kind code = c.in_ok-key-in-Some.ensures ∙ ap (code_key shard (out-Ready r).kind) same in
+    ap (λ xs. xs ++ map finish (coded_buckets (drop (i + 1) codes) next)) (c.in_ok-push-in-Some.ensures.items ∙ ap (λ (b : Bucket). done ++ b ∷ []) (c.in_ok-finish_bucket-in-Some.ensures ∙ ap (λ k. finished_with shard a r k bucket) key_is))
+    ∙ coded-more shard a r done codes i code bucket next (slice_get-get_or codes i (pos 0) within)
+    ∙ ap (λ gs. done ++ map finish (coded_buckets (drop i codes) gs)) (sym c.in-Some.ensures.items) ∙ c.loop-code.invariant
+
+pub finish_keyed-returns-in-None : goal.finish_keyed-returns-in-None
+finish_keyed-returns-in-None t c =
+    let codes = c.codes-code-items.result.now in
+    let done = c.loop-code.finished.items in
+    let finish = finished_bucket c.args.shard.now c.args.agg.now c.args.ready.now in
+    let left = into_iter_items c.loop-code.left in
+    let none : length left ≤ 0 = omega (arith, c.in-None.ensures.cases, c.loop-code.left.rest.ok) in
+    let over : coded_buckets (drop c.loop-code.code-index codes) left ≡ [] = ap (coded_buckets (drop c.loop-code.code-index codes)) (drop-full left 0 none) ∙ coded-none (drop c.loop-code.code-index codes) in
+    sym (append-nil done) ∙ sym (ap (λ bs. done ++ map finish bs) over) ∙ c.loop-code.invariant ∙ ap (λ cs. map finish (coded_buckets cs c.args.keyed.buckets.items)) c.codes-code-items.ensures.codes
+
+pub finish_fixed-loop-bucket-preserved : goal.finish_fixed-loop-bucket-preserved
+finish_fixed-loop-bucket-preserved t c =
+    let shard = c.args.shard.now in
+    let a = c.args.agg.now in
+    let r = c.args.ready.now in
+    let done = c.loop-bucket.finished in
+    let bucket = c.in-Some.bucket in
+    let next = into_iter_items c.next.new.self in
+    let finish = finished_bucket shard a r in
+    let key_is : c.in_ok-key.key ≡ key.Fixed (length done) = c.in_ok-key.ensures ∙ ap key.Fixed c.len.ensures in
+    (record {
+      next = tt;
+      finite = tt;
+      rest =
+          ap (λ xs. xs ++ map finish (numbered_buckets (length xs) next)) (c.in_ok-push.ensures.ok ∙ ap (λ (b : Bucket). done ++ b ∷ []) (c.in_ok-finish_bucket.ensures ∙ ap (λ k. finished_with shard a r k bucket) key_is))
+          ∙ numbered-more shard a r done bucket next ∙ ap (λ gs. done ++ map finish (numbered_buckets (length done) gs)) (sym c.in-Some.ensures.steps.0) ∙ c.loop-bucket.invariant.rest;
+    })
+
+pub finish_bucket-finish_children-requires : goal.finish_bucket-finish_children-requires
+finish_bucket-finish_children-requires t c =
+    (omega (arith, c.decreases, children_less c.args.agg.now), (children-ready c.args.shard.now c.args.agg.now c.args.ready.now c.requires.ready, c.requires.built))
+
+pub finish_keyed-key_of_code-requires : goal.finish_keyed-key_of_code-requires
+finish_keyed-key_of_code-requires t c = let h = (level-ready c.args.shard.now c.args.agg.now c.args.ready.now c.requires.ready).kind in record { ready = h }
+
+pub finish-returns-in_ok-buckets-in-Keyed : goal.finish-returns-in_ok-buckets-in-Keyed
+finish-returns-in_ok-buckets-in-Keyed t c =
+    let a = c.args.agg.now in
+    let r = c.args.ready.now in
+    let shard = c.args.shard.now in
+    let keyed = c.in-Keyed.keyed in
+    let bs = coded_buckets keyed.places keyed.buckets.items in
+    let tree_is : Keyed bs 0 0 0 ≡ c.args.tree = sym (ap level_node c.in-Keyed.is) ∙ c.tree.view_is in
+    let is : trimmed a (Keyed (sorted_by_key c.in_ok-buckets-in-Keyed.buckets.items) 0 0 0) ≡ cut_tree a (decoded shard r c.args.tree) =
+    ap (λ xs. trimmed a (Keyed (sorted_by_key xs) 0 0 0)) c.in_ok-buckets-in-Keyed.ensures ∙ sym (keyed-finished shard a r bs) ∙ ap (λ n. cut_tree a (decoded shard r n)) tree_is in
+    record { node = subst (λ (m : Node). IfOk c.finish_level.result (λ n. n ≡ m)) is c.finish_level.ensures }
+
+pub finish-returns-in_ok-finish_fixed-in-Fixed : goal.finish-returns-in_ok-finish_fixed-in-Fixed
+finish-returns-in_ok-finish_fixed-in-Fixed t c =
+    let a = c.args.agg.now in
+    let r = c.args.ready.now in
+    let shard = c.args.shard.now in
+    let bs = numbered_buckets 0 c.in-Fixed.buckets.items in
+    let tree_is : Fixed bs ≡ c.args.tree = sym (ap level_node c.in-Fixed.is) ∙ c.tree.view_is in
+    record { node = ap Fixed c.in_ok-finish_fixed-in-Fixed.ensures ∙ sym (fixed-finished shard a r bs) ∙ ap (λ n. cut_tree a (decoded shard r n)) tree_is }
+
+pub finish-returns-in-Number : goal.finish-returns-in-Number
+finish-returns-in-Number t c =
+    let a = c.args.agg.now in
+    let r = c.args.ready.now in
+    let shard = c.args.shard.now in
+    let tree_is : Number c.in-Number.taken ≡ c.args.tree = sym (ap level_node c.in-Number.is) ∙ c.tree.view_is in
+    record { node = ap Number c.metric.ensures ∙ sym (number-finished shard a r c.in-Number.taken) ∙ ap (λ n. cut_tree a (decoded shard r n)) tree_is }

@@ -1,0 +1,233 @@
+//! Trees that have all their rows, as what a shard answers.
+ghost use Rattle.std.specs.Prelude.{◌≡◌, ◌<◌, ◌^◌, IfOk, OnOk, map, sum_by};
+ghost use Rattle.agg_model.specs.declared.aggregation.Agg.{out-Agg};
+ghost use Rattle.agg_model.specs.declared.key.Key.TheVariants.{Fixed as FixedKey};
+ghost use Rattle.agg_model.specs.declared.partial.Node.TheVariants.{Keyed as KeyedNode};
+ghost use Rattle.agg_evaluation.specs.Folds.{fold_agg};
+ghost use Rattle.agg_evaluation.specs.Orders.{bucket_count};
+ghost use Rattle.agg_evaluation.specs.Shard.{sorted_by_key};
+ghost use Rattle.shard_columns.specs.Built.{IsShard};
+ghost use Rattle.terms_agg.specs.Trim.{trimmed};
+ghost use Rattle.growth_laws.specs.Cutting.{cut_children, cut_tree, cutter_at};
+ghost use Rattle.growing_tree.specs.Codes.{code_key, fixed_key as fixed_key_of};
+ghost use Rattle.growing_tree.specs.Decoded.{decoded, decoded_children};
+ghost use Rattle.growing_tree.specs.Finished.{finished_bucket, finished_with};
+ghost use Rattle.growing_tree.specs.Readiness.{AreReadyFor, IsKindReady, IsReadyFor};
+ghost use Rattle.growing_tree.specs.Trees.{coded_buckets, numbered_buckets};
+ghost use Rattle.growing_tree.specs.declared.ready.Ready.{out-Ready};
+
+use crate::kinds::place_of;
+use crate::ready::{Ready, ReadyKind};
+use crate::sums::sum;
+use crate::tree::{Growing, Keyed, Level, Tree};
+use agg_model::{Agg, Bucket, Key, Kind, List, Node};
+use bucket_order::sort_by_key;
+use histogram_agg::key as key_of_interval;
+use shard_columns::Shard;
+use std::alloc::{AllocError, Global};
+use terms_agg::{has_key, key as key_of_term, trim};
+
+// The key of the bucket at a place among those that exist from the start.
+fn key_at(place: usize) -> Result<Key, AllocError>
+    ensures { IfOk result (λ k. k ≡ FixedKey place) }
+{
+    let number = u32::try_from(place).map_err(|_| AllocError)?;
+    Ok(Key::Fixed(number))
+}
+
+// The same of a code. Less than 0 there is no place.
+fn fixed_key(code: i64) -> Result<Key, AllocError>
+    ensures { IfOk result (λ k. k ≡ fixed_key_of code) }
+{
+    let place = place_of(code)?;
+    key_at(place)
+}
+
+// The key that a code stands for. A number that is no code of the shard is answered as want of memory.
+fn key_of_code(
+    alloc: Global,
+    shard: &Shard,
+    kind: &Kind,
+    ready: &ReadyKind,
+    code: i64,
+) -> Result<Key, AllocError>
+    requires ready { IsKindReady shard.now kind.now ready.now }
+    ensures { IfOk result (λ k. k ≡ code_key shard.now ready.now code) }
+{
+    match ready {
+        ReadyKind::Single | ReadyKind::Metric | ReadyKind::Filters(_) | ReadyKind::Composite => {
+            fixed_key(code)
+        }
+        ReadyKind::Histogram(histogram) => Ok(key_of_interval(histogram, code)),
+        ReadyKind::Terms(terms) => {
+            if !has_key(shard, terms, code) {
+                return Err(AllocError);
+            }
+            key_of_term(alloc, shard, terms, code)
+        }
+    }
+}
+
+// Counts that together have more than 64 bits are answered as want of memory.
+fn total_count(buckets: &[Bucket]) -> Result<u64, AllocError>
+    ensures { IfOk result (λ n. n ≡ sum_by bucket_count buckets.now) }
+{
+    let mut total = 0;
+    for bucket in buckets {
+        total = sum(total, bucket.count)?;
+    }
+    Ok(total)
+}
+
+// The buckets of a level in the order in which their codes came, as what a shard answers.
+fn finish_level(alloc: Global, agg: &Agg, buckets: Vec<Bucket>) -> Result<Node, AllocError>
+    ensures { IfOk result (λ node. node ≡ trimmed agg.now (KeyedNode (sorted_by_key buckets.items) 0 0 0)) }
+{
+    let mut ascending = buckets;
+    sort_by_key(&mut ascending)?;
+    total_count(ascending.as_slice())?;
+    let whole = Node::Keyed {
+        buckets: List::from_vec(ascending),
+        error: 0,
+        full: 0,
+        cut: 0,
+    };
+    trim(alloc, agg, whole)
+}
+
+/// The same of trees side by side, the children of one bucket.
+#[cycle(finish)]
+pub fn finish_children(
+    alloc: Global,
+    aggs: &List<Agg>,
+    ready: &List<Ready>,
+    shard: &Shard,
+    trees: Vec<Tree>,
+) -> Result<List<Node>, AllocError>
+    requires ready { AreReadyFor shard.now aggs.now ready.now }
+    requires built { IsShard shard.now }
+    ensures nodes { IfOk result (λ nodes. nodes ≡ cut_children (map (fold_agg cutter_at) aggs.now) (decoded_children (map (decoded shard.now) ready.now) trees.items)) }
+{
+    if ready.len() != aggs.len() || trees.len() != aggs.len() {
+        return Err(AllocError);
+    }
+    let mut nodes = List::new(alloc);
+    let mut left = trees.into_iter();
+    for place in 0..aggs.len() {
+        let Some(tree) = left.next() else {
+            return Err(AllocError);
+        };
+        let node = finish(
+            alloc,
+            &aggs.as_slice()[place],
+            &ready.as_slice()[place],
+            shard,
+            tree,
+        )?;
+        nodes.push(node)?;
+    }
+    Ok(nodes)
+}
+
+// A bucket with this key.
+#[cycle(finish)]
+fn finish_bucket(
+    alloc: Global,
+    agg: &Agg,
+    ready: &Ready,
+    shard: &Shard,
+    key: Key,
+    bucket: Growing,
+) -> Result<Bucket, AllocError>
+    requires ready { IsReadyFor shard.now agg.now ready.now }
+    requires built { IsShard shard.now }
+    ensures { IfOk result (λ b. b ≡ finished_with shard.now agg.now ready.now key bucket) }
+{
+    let Growing { count, children } = bucket;
+    Ok(Bucket {
+        key,
+        count,
+        covered: 0,
+        children: finish_children(alloc, &agg.children, &ready.children, shard, children)?,
+    })
+}
+
+// The buckets of codes, in the order in which their codes came.
+#[cycle(finish)]
+fn finish_keyed(
+    alloc: Global,
+    agg: &Agg,
+    ready: &Ready,
+    shard: &Shard,
+    keyed: Keyed,
+) -> Result<Vec<Bucket>, AllocError>
+    requires ready { IsReadyFor shard.now agg.now ready.now }
+    requires built { IsShard shard.now }
+    ensures { IfOk result (λ bs. bs.items ≡ map (finished_bucket shard.now agg.now ready.now) (coded_buckets keyed.places keyed.buckets.items)) }
+{
+    let Keyed { places, buckets } = keyed;
+    let mut finished = Vec::new(alloc);
+    let mut left = buckets.into_iter();
+    for code in places.codes() {
+        match left.next() {
+            Some(bucket) => {
+                let key = key_of_code(alloc, shard, &agg.kind, &ready.kind, *code)?;
+                finished.push(finish_bucket(alloc, agg, ready, shard, key, bucket)?)?;
+            }
+            None => return Ok(finished),
+        }
+    }
+    Ok(finished)
+}
+
+// The buckets that exist from the start.
+#[cycle(finish)]
+fn finish_fixed(
+    alloc: Global,
+    agg: &Agg,
+    ready: &Ready,
+    shard: &Shard,
+    buckets: Vec<Growing>,
+) -> Result<List<Bucket>, AllocError>
+    requires ready { IsReadyFor shard.now agg.now ready.now }
+    requires built { IsShard shard.now }
+    ensures { IfOk result (λ bs. bs ≡ map (finished_bucket shard.now agg.now ready.now) (numbered_buckets 0 buckets.items)) }
+{
+    let mut finished = List::new(alloc);
+    for bucket in buckets {
+        let key = key_at(finished.len())?;
+        finished.push(finish_bucket(alloc, agg, ready, shard, key, bucket)?)?;
+    }
+    Ok(finished)
+}
+
+/// What a shard answers to an aggregation whose rows are all in the tree: keys for codes, ascending by key, and the terms of each
+/// level cut to the shard size, the lowest first. Everything is moved. It takes time by the buckets, times the logarithm of those
+/// of a level.
+///
+/// `AllocError` says that memory is wanted, or that the tree is of another aggregation: at some level it has not so many
+/// children, a number that is no code of the shard, or counts that together have more than 64 bits.
+#[cycle(finish)]
+pub fn finish(
+    alloc: Global,
+    agg: &Agg,
+    ready: &Ready,
+    shard: &Shard,
+    tree: Tree,
+) -> Result<Node, AllocError>
+    requires ready { IsReadyFor shard.now agg.now ready.now }
+    requires built { IsShard shard.now }
+    ensures node { IfOk result (λ node. node ≡ cut_tree agg.now (decoded shard.now ready.now tree)) }
+{
+    let Tree { level } = tree;
+    match level {
+        Level::Keyed(keyed) => {
+            let buckets = finish_keyed(alloc, agg, ready, shard, keyed)?;
+            finish_level(alloc, agg, buckets)
+        }
+        Level::Fixed(buckets) => Ok(Node::Fixed {
+            buckets: finish_fixed(alloc, agg, ready, shard, buckets)?,
+        }),
+        Level::Number(taken) => Ok(Node::Number(taken.metric())),
+    }
+}

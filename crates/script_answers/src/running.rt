@@ -1,0 +1,107 @@
+//! A whole third section, entry by entry.
+ghost use Rattle.std.specs.Prelude.{◌≡◌, ◌≤◌, ℕ, List as Items, [], None, take};
+ghost use Rattle.std.specs.Io.KnownBytes.{IsAtEnd};
+ghost use Rattle.agg_base.specs.Lines.{source_of, source_name, kept, bytes_read};
+ghost use Rattle.agg_base.specs.Outside.{Rose};
+ghost use Rattle.agg_model.specs.Lines.{Line, lines as lines_of};
+ghost use Rattle.agg_reading.specs.Entries.{Entries};
+ghost use Rattle.agg_settings.specs.Changes.{changed};
+ghost use Rattle.agg_spec.specs.Output.{whole_lines};
+ghost use Rattle.script_entries.specs.Reading.{HasRead};
+ghost use Rattle.script_lines.specs.declared.fault.ScriptFault.TheVariants as script_fault;
+ghost use Rattle.script_answers.specs.Ends.{end_of, EndsAt};
+ghost use Rattle.script_answers.specs.Steps.{Wrote};
+ghost use Rattle.script_answers.specs.declared.end.ScriptEnd.TheVariants as ended;
+
+use crate::answerer::Answerer;
+use crate::end::ScriptEnd;
+use crate::step::{Waiting, finish, take_entry};
+use crate::stop::Stop;
+use crate::writing::write_refusal;
+use agg_base::{Lines, Sink, Source};
+use agg_model::limits::MAX_INPUT;
+use agg_model::{List, Settings};
+use script_entries::next_entry;
+use script_lines::ScriptFault;
+use std::alloc::Global;
+
+/// How a script ends where a line was not written whole.
+fn stopped(stop: Stop) -> ScriptEnd
+    ensures { result ≡ end_of stop }
+{
+    match stop {
+        Stop::Write => ScriptEnd::Write,
+        Stop::Memory => ScriptEnd::Memory,
+    }
+}
+
+/// How a script ends where there is no further entry, with the line of its refusal.
+fn end_at<K: Sink>(alloc: Global, sink: &mut K, fault: &ScriptFault) -> ScriptEnd
+    ensures ends { EndsAt fault.now (K.written sink.old) (K.written sink.new) result }
+    ensures read { result ≡ ended.Read → fault.now ≡ script_fault.Read }
+    ensures fault { result ≡ ended.Write → Rose (K.faults sink.old) (K.faults sink.new) }
+    ensures never_falls { K.faults sink.old ≤ K.faults sink.new }
+{
+    match fault {
+        ScriptFault::Read => ScriptEnd::Read,
+        ScriptFault::Memory => ScriptEnd::Memory,
+        ScriptFault::Refused(refusal) => match write_refusal(alloc, sink, refusal) {
+            Ok(()) => ScriptEnd::Refused,
+            Err(stop) => stopped(stop),
+        },
+    }
+}
+
+/// Answers the third section of a script, behind the lines that were read before, and writes a line for each search, one for
+/// each settings line, and the statistics at the end. `words` are the settings of the program's words.
+///
+/// Searches are answered in waves of the width of the words; a settings line and the end of the script end a wave that is not
+/// full. Where the script is refused, or the source fails, the searches of a wave that is not full are not answered; a refusal
+/// is the last line. Where the sink fails, whole lines and a front of the next one were written, and where memory runs out,
+/// also in a search, whole lines.
+///
+/// Beside what the searches take, it holds the bodies of one wave.
+pub fn answer_script<S: Source, K: Sink, A: Answerer>(
+    alloc: Global,
+    lines: &mut Lines<'_, S>,
+    sink: &mut K,
+    answerer: A,
+    words: &Settings,
+) -> ScriptEnd
+    requires kept { kept lines.old ≡ None }
+    requires some { 1 ≤ words.now.width }
+    requires wide { (A.recent answerer).settings.width ≡ words.now.width }
+
+    // Where the source tells its bytes, by the entries of the whole input and by those of the whole lines that were read.
+    ensures output { (bytes : Items ℕ) (whole : Items Line → Entries) → HasRead whole bytes [] lines.old →
+        Wrote changed words.now (A.index answerer) (A.columns answerer) (A.recent answerer) (whole (lines_of bytes))
+        (whole (whole_lines (take (bytes_read lines.new) bytes))) result (K.written sink.old) (K.written sink.new) }
+
+    // Why each end comes.
+    ensures finished { result ≡ ended.Finished → IsAtEnd (S.left (source_of lines.new)) }
+    ensures read_fault { result ≡ ended.Read → Rose (S.faults (source_of lines.old)) (S.faults (source_of lines.new)) }
+    ensures write_fault { result ≡ ended.Write → Rose (K.faults sink.old) (K.faults sink.new) }
+    ensures reads_never_fall { S.faults (source_of lines.old) ≤ S.faults (source_of lines.new) }
+    ensures writes_never_fall { K.faults sink.old ≤ K.faults sink.new }
+    ensures same_source { source_name lines.new ≡ source_name lines.old }
+{
+    let mut waiting = Waiting {
+        answerer,
+        wave: List::new(alloc),
+    };
+    loop {
+        match next_entry(alloc, lines) {
+            Ok(Some(entry)) => match take_entry(alloc, sink, waiting, words, entry) {
+                Ok(now) => waiting = now,
+                Err(stop) => return stopped(stop),
+            },
+            Ok(None) => {
+                return match finish(alloc, sink, waiting, words) {
+                    Ok(()) => ScriptEnd::Finished,
+                    Err(stop) => stopped(stop),
+                };
+            }
+            Err(fault) => return end_at(alloc, sink, &fault),
+        }
+    }
+}

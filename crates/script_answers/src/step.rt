@@ -1,0 +1,135 @@
+//! One more entry of a script, and its end.
+ghost use Rattle.std.specs.Prelude.{◌≡◌, ◌≤◌, ◌∷◌, ◌++◌, [], Some, Err, IfOk, IfErr, OnOk, true};
+ghost use Rattle.serde_json.specs.View.{view};
+ghost use Rattle.agg_base.specs.Outside.{Rose};
+ghost use Rattle.agg_reading.specs.Entries as entry;
+ghost use Rattle.agg_reading.specs.Entries.{Entries, no_more};
+ghost use Rattle.agg_reading.specs.SettingsLines.{is_settings_line};
+ghost use Rattle.script_entries.specs.Reading.{IsFormed, behind, entry_of};
+ghost use Rattle.script_answers.specs.Stepping.{bodies_of, IsReady, TakesEntry, StopsAt, Finishes};
+
+use crate::answerer::Answerer;
+use crate::changing::change_settings;
+use crate::stop::Stop;
+use crate::wave::{answer_wave, close};
+use agg_base::Sink;
+use agg_model::{Bytes, List, Settings};
+use script_entries::Entry;
+use serde_json::Value;
+use std::alloc::Global;
+
+/// Who answers, and the bodies of the searches that wait for their wave to be full.
+#[derive(Drop)]
+pub(crate) struct Waiting<A: Answerer> {
+    pub answerer: A,
+    pub wave: List<Bytes>,
+}
+
+/// One more search: the wave is answered where it is full now.
+fn take_body<K: Sink, A: Answerer>(
+    alloc: Global,
+    sink: &mut K,
+    waiting: Waiting<A>,
+    words: &Settings,
+    body: Bytes,
+) -> Result<Waiting<A>, Stop>
+    requires ready { IsReady words.now (A.recent waiting.answerer) waiting.wave }
+    ensures takes { IfOk result (λ now. TakesEntry words.now (A.index waiting.answerer) (A.columns waiting.answerer) (A.recent waiting.answerer) waiting.wave
+        (entry.body body) (K.written sink.old) (K.written sink.new) (A.recent now.answerer) now.wave) }
+    ensures ready { IfOk result (λ now. IsReady words.now (A.recent now.answerer) now.wave) }
+    ensures stops { IfErr result (λ stop. (left : Entries) → StopsAt words.now (A.index waiting.answerer) (A.columns waiting.answerer) (A.recent waiting.answerer)
+        (behind (bodies_of waiting.wave ++ entry.body body ∷ []) left) (K.written sink.old) (K.written sink.new) stop) }
+    ensures same_index { IfOk result (λ now. A.index now.answerer ≡ A.index waiting.answerer) }
+    ensures same_columns { IfOk result (λ now. A.columns now.answerer ≡ A.columns waiting.answerer) }
+    ensures fault { result ≡ Err Stop.Write → Rose (K.faults sink.old) (K.faults sink.new) }
+    ensures never_falls { K.faults sink.old ≤ K.faults sink.new }
+{
+    let Waiting {
+        mut answerer,
+        mut wave,
+    } = waiting;
+    wave.push(body)?;
+    if wave.len() < words.width as usize {
+        return Ok(Waiting { answerer, wave });
+    }
+    answer_wave(alloc, sink, &mut answerer, &wave)?;
+    Ok(Waiting {
+        answerer,
+        wave: List::new(alloc),
+    })
+}
+
+/// A settings line, behind the searches of the wave before it.
+fn take_settings<K: Sink, A: Answerer>(
+    alloc: Global,
+    sink: &mut K,
+    waiting: Waiting<A>,
+    words: &Settings,
+    line: &Value,
+) -> Result<Waiting<A>, Stop>
+    requires ready { IsReady words.now (A.recent waiting.answerer) waiting.wave }
+    requires line { is_settings_line (view line.now) ≡ true }
+    ensures takes { IfOk result (λ now. TakesEntry words.now (A.index waiting.answerer) (A.columns waiting.answerer) (A.recent waiting.answerer) waiting.wave
+        (entry.change (view line.now)) (K.written sink.old) (K.written sink.new) (A.recent now.answerer) now.wave) }
+    ensures ready { IfOk result (λ now. IsReady words.now (A.recent now.answerer) now.wave) }
+    ensures stops { IfErr result (λ stop. (left : Entries) → StopsAt words.now (A.index waiting.answerer) (A.columns waiting.answerer) (A.recent waiting.answerer)
+        (behind (bodies_of waiting.wave ++ entry.change (view line.now) ∷ []) left) (K.written sink.old) (K.written sink.new) stop) }
+    ensures same_index { IfOk result (λ now. A.index now.answerer ≡ A.index waiting.answerer) }
+    ensures same_columns { IfOk result (λ now. A.columns now.answerer ≡ A.columns waiting.answerer) }
+    ensures fault { result ≡ Err Stop.Write → Rose (K.faults sink.old) (K.faults sink.new) }
+    ensures never_falls { K.faults sink.old ≤ K.faults sink.new }
+{
+    let Waiting { mut answerer, wave } = waiting;
+    answer_wave(alloc, sink, &mut answerer, &wave)?;
+    let answerer = change_settings(alloc, sink, answerer, words, line)?;
+    Ok(Waiting {
+        answerer,
+        wave: List::new(alloc),
+    })
+}
+
+/// One more entry.
+pub(crate) fn take_entry<K: Sink, A: Answerer>(
+    alloc: Global,
+    sink: &mut K,
+    waiting: Waiting<A>,
+    words: &Settings,
+    entry: Entry,
+) -> Result<Waiting<A>, Stop>
+    requires ready { IsReady words.now (A.recent waiting.answerer) waiting.wave }
+    requires formed { IsFormed (Some entry) }
+    ensures takes { IfOk result (λ now. TakesEntry words.now (A.index waiting.answerer) (A.columns waiting.answerer) (A.recent waiting.answerer) waiting.wave
+        (entry_of entry) (K.written sink.old) (K.written sink.new) (A.recent now.answerer) now.wave) }
+    ensures ready { IfOk result (λ now. IsReady words.now (A.recent now.answerer) now.wave) }
+    ensures stops { IfErr result (λ stop. (left : Entries) → StopsAt words.now (A.index waiting.answerer) (A.columns waiting.answerer) (A.recent waiting.answerer)
+        (behind (bodies_of waiting.wave ++ entry_of entry ∷ []) left) (K.written sink.old) (K.written sink.new) stop) }
+    ensures same_index { IfOk result (λ now. A.index now.answerer ≡ A.index waiting.answerer) }
+    ensures same_columns { IfOk result (λ now. A.columns now.answerer ≡ A.columns waiting.answerer) }
+    ensures fault { result ≡ Err Stop.Write → Rose (K.faults sink.old) (K.faults sink.new) }
+    ensures never_falls { K.faults sink.old ≤ K.faults sink.new }
+{
+    match entry {
+        Entry::Body(body) => take_body(alloc, sink, waiting, words, body),
+        Entry::Settings(line) => take_settings(alloc, sink, waiting, words, &line),
+    }
+}
+
+/// The end of the script: the last wave, which may be short, and the statistics.
+pub(crate) fn finish<K: Sink, A: Answerer>(
+    alloc: Global,
+    sink: &mut K,
+    waiting: Waiting<A>,
+    words: &Settings,
+) -> Result<(), Stop>
+    requires ready { IsReady words.now (A.recent waiting.answerer) waiting.wave }
+    ensures finishes { OnOk result (Finishes words.now (A.index waiting.answerer) (A.columns waiting.answerer) (A.recent waiting.answerer)
+        (behind (bodies_of waiting.wave) no_more) (K.written sink.old) (K.written sink.new)) }
+    ensures stops { IfErr result (λ stop. StopsAt words.now (A.index waiting.answerer) (A.columns waiting.answerer) (A.recent waiting.answerer)
+        (behind (bodies_of waiting.wave) no_more) (K.written sink.old) (K.written sink.new) stop) }
+    ensures fault { result ≡ Err Stop.Write → Rose (K.faults sink.old) (K.faults sink.new) }
+    ensures never_falls { K.faults sink.old ≤ K.faults sink.new }
+{
+    let Waiting { mut answerer, wave } = waiting;
+    answer_wave(alloc, sink, &mut answerer, &wave)?;
+    close(alloc, sink, answerer)
+}
