@@ -11,8 +11,6 @@ mod numbers;
 mod search_line;
 mod settings;
 mod statistics;
-#[cfg(test)]
-mod tests;
 mod values;
 
 pub use bulk::bulk_line;

@@ -1,5 +1,5 @@
-//! Tests of circuit breakers, of the tasks that threads share, and of what charges them. They stand in a crate of their own,
-//! since a crate that has tests is proved once more for them.
+//! Tests of circuit breakers and of what charges them. They stand in a crate of their own, since a crate that has tests is
+//! proved once more for them.
 #![tactic(auto)]
 
 #[cfg(test)]

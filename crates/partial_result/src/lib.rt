@@ -6,8 +6,6 @@ mod beginning;
 mod costing;
 pub mod laws;
 mod merging;
-#[cfg(test)]
-mod tests;
 
 pub use beginning::{empty, empty_nodes};
 pub use costing::cost;

@@ -1,7 +1,10 @@
-use crate::{bulk_line, exception, refusal, script_line, settings_line, stats_line, usage_line};
+//! The lines that the program prints.
 use agg_model::{
     ActionKind, Applied, BreakerStats, Failure, Item, ItemEnd, ItemRefusal, List, Refused, Text,
     Totals, Tripped, Usage, Which,
+};
+use agg_response::{
+    bulk_line, exception, refusal, script_line, settings_line, stats_line, usage_line,
 };
 use std::alloc::{AllocError, Global};
 use std::test::Fail;
@@ -36,16 +39,6 @@ fn a_bulk_line_lists_each_item_with_its_end(rt: HostRuntime) -> Result<(), Fail>
     let wanted =
         "{\"errors\":true,\"items\":[{\"create\":{\"_id\":\"1\",\"_index\":\"i\",\"result\":\"created\",\"status\":201}},{\"create\":{\"_id\":\"1\",\"_index\":\"i\",\"error\":{\"number\":26,\"type\":\"version_conflict_engine_exception\"},\"status\":409}},{\"delete\":{\"_id\":\"9\",\"_index\":\"i\",\"result\":\"not_found\",\"status\":404}}],\"took\":0}";
     assert!(rt; line.as_str() == wanted);
-    let none = bulk_line(rt.alloc(), &index, &List::new(rt.alloc()), false)?;
-    assert!(rt; none.as_str() == "{\"errors\":false,\"items\":[],\"took\":0}");
-    Ok(())
-}
-
-#[test]
-fn a_bulk_line_of_a_generated_script_counts_the_items(rt: HostRuntime) -> Result<(), Fail> {
-    let index = Text::of(rt.alloc(), "generated")?;
-    let line = bulk_line(rt.alloc(), &index, &items(rt.alloc())?, true)?;
-    assert!(rt; line.as_str() == "{\"errors\":true,\"items\":3,\"took\":0}");
     Ok(())
 }
 
@@ -84,46 +77,7 @@ fn lines_name_the_shards_that_failed(rt: HostRuntime) -> Result<(), Fail> {
 }
 
 #[test]
-fn each_refusal_of_a_search_has_its_line(rt: HostRuntime) -> Result<(), Fail> {
-    let none = List::new(rt.alloc());
-    let line = refusal(rt.alloc(), &Refused::NotJson, &none)?;
-    assert!(rt;
-        line.as_str()
-            == "{\"error\":{\"reason\":\"the body is not JSON\",\"type\":\"parsing_exception\"},\"status\":400}"
-    );
-    let path = Text::of(rt.alloc(), "/aggs/t/terms/field")?;
-    let line = refusal(rt.alloc(), &Refused::Bad { code: 108, path }, &none)?;
-    assert!(rt;
-        line.as_str()
-            == "{\"error\":{\"code\":108,\"path\":\"/aggs/t/terms/field\",\"reason\":\"bad request\",\"type\":\"parsing_exception\"},\"status\":400}"
-    );
-    let many = Refused::TooManyBuckets {
-        count: 10000000001,
-        max: 65536,
-    };
-    let line = refusal(rt.alloc(), &many, &none)?;
-    assert!(rt;
-        line.as_str()
-            == "{\"error\":{\"count\":10000000001,\"max_buckets\":65536,\"reason\":\"too many buckets\",\"type\":\"too_many_buckets_exception\"},\"status\":400}"
-    );
-    let path = Text::of(rt.alloc(), "/s")?;
-    let line = refusal(rt.alloc(), &Refused::SumRange { path }, &none)?;
-    assert!(rt;
-        line.as_str()
-            == "{\"error\":{\"path\":\"/s\",\"reason\":\"a number is outside 64 bits\",\"type\":\"number_range_exception\"},\"status\":400}"
-    );
-    let line = refusal(rt.alloc(), &Refused::TooWide, &none)?;
-    assert!(rt;
-        line.as_str()
-            == "{\"error\":{\"reason\":\"the search is too wide\",\"type\":\"too_wide_exception\"},\"status\":400}"
-    );
-    Ok(())
-}
-
-#[test]
-fn a_settings_line_is_acknowledged_or_refused(rt: HostRuntime) -> Result<(), Fail> {
-    let line = settings_line(rt.alloc(), None)?;
-    assert!(rt; line.as_str() == "{\"acknowledged\":true}");
+fn a_settings_line_is_refused(rt: HostRuntime) -> Result<(), Fail> {
     let name = Text::of(rt.alloc(), "search.max_buckets")?;
     let line = settings_line(rt.alloc(), Some(&name))?;
     assert!(rt;
@@ -149,11 +103,6 @@ fn a_run_that_ends_early_says_why(rt: HostRuntime) -> Result<(), Fail> {
     assert!(rt;
         line.as_str()
             == "{\"error\":{\"line\":1,\"number\":31,\"path\":\"/mappings/properties/x/type\",\"type\":\"bad_index_line\"},\"status\":5}"
-    );
-    let line = script_line(rt.alloc(), 33, 3, &Text::of(rt.alloc(), "")?)?;
-    assert!(rt;
-        line.as_str()
-            == "{\"error\":{\"line\":3,\"number\":33,\"type\":\"update_not_supported\"},\"status\":5}"
     );
     Ok(())
 }

@@ -2,8 +2,8 @@
 ghost use Rattle.std.specs.Prelude.{◌≡◌, ◌<◌, ◌^◌, IfOk, length};
 ghost use Rattle.agg_evaluation.specs.Cost.{cost as cost_of};
 
-use crate::{cost, empty, merge};
 use agg_model::{Agg, Bucket, Key, Kind, List, Node, Partial, Query, Search, Text};
+use partial_result::{cost, empty, merge};
 use std::alloc::{AllocError, Global};
 use std::test::Fail;
 
@@ -34,7 +34,7 @@ fn search(alloc: Global) -> Result<Search, AllocError> {
 }
 
 /// What a shard answers that returns this term of three documents and leaves `cut` others out.
-#[tactic(auto, using(crate::proofs::CostLevels::cost_levels))]
+#[tactic(auto, using(partial_result::proofs::CostLevels::cost_levels))]
 fn returned(alloc: Global, word: &str, cut: u32) -> Result<Partial, AllocError>
     requires { length word.now < 100 }
     ensures { IfOk result (λ p. cost_of p < 2 ^ 64) }
