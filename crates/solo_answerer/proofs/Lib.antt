@@ -3,3 +3,5 @@ mod SameHolds
 mod Rounds
 mod Totals
 mod Refusals
+mod Idle
+mod Bodies

@@ -1,6 +1,6 @@
 -- The columns at breakers that are opened anew.
-use Rattle.std.specs.Prelude.{◌≡◌, ◌≤◌, ◌+◌, ℕ, Bool, true, false, nat_lt, List, [], Option, Some, None, if◌then◌else◌}
-use Rattle.std.proofs.Common.{refl, ◌∙◌, sym, ap, subst, arith}
+use Rattle.std.specs.Prelude.{◌≡◌, ◌≤◌, ◌+◌, ℕ, Bool, true, false, nat_lt, [], Option, Some, None, if◌then◌else◌}
+use Rattle.std.proofs.Common.{refl, ◌∙◌, sym, ap, arith}
 use Rattle.std.proofs.lemmas.Bool.{ltb-false}
 use Rattle.agg_model.specs.Breakers.{limit_of}
 use Rattle.agg_model.specs.declared.breaker.Limits.{Limits}
@@ -9,17 +9,14 @@ use Rattle.agg_model.specs.declared.breaker.Which.{Which}
 use Rattle.agg_model.specs.declared.breaker.Which.TheVariants as at
 use Rattle.agg_model.specs.declared.limits.TheConstants.{MAX_BYTE_SIZE}
 use Rattle.agg_model.specs.declared.settings.Settings.{Settings}
-use Rattle.agg_settings.specs.Ranges.{AreInRange}
-use Rattle.agg_spec.specs.Charges.{no_amounts, or_else, trip_at, amount_at}
+use Rattle.agg_spec.specs.Charges.{no_amounts, or_else, amount_at}
 use Rattle.agg_spec.specs.Columns.{columns_refusal}
 use Rattle.agg_spec.specs.Index.{Index}
-use Rattle.agg_spec.specs.Solo.{columns_held, idle}
-use Rattle.breaker_tree.specs.Reopening.{HoldsColumns, columns_at, refusal_of_columns, refused_at}
+use Rattle.agg_spec.specs.Solo.{columns_held}
+use Rattle.breaker_tree.specs.Reopening.{HoldsColumns, columns_at, refusal_of_columns}
 use Rattle.breaker_words.specs.Breakers.{counter_value}
 use Rattle.breaker_words.specs.Passes.{WordsModel, PassModel}
-use Rattle.breaker_words.specs.Views.{hold_of, granted_of, trips_of}
-use Rattle.solo_charges.specs.Standing.{StandsAt}
-use Rattle.solo_answerer.specs.Worked.{before_searches, HasAnswered}
+use Rattle.solo_answerer.specs.Worked.{HasAnswered}
 
 tripped_at : Limits → Which → ℕ → Tripped
 tripped_at l x n = record { which = x; wanted = n; limit = limit_of l x }
@@ -81,6 +78,7 @@ none-less true t later is = absurd (let no : ⊥ = cc in no)
 none-less false t later is = refl
 
 pub few-columns : (l : Limits) (n : ℕ) → columns_refusal l n ≡ None → l.fielddata ≤ MAX_BYTE_SIZE → n ≤ 18446744073709551615
+unfolding refusal_by tripped_at
 few-columns l n light limit =
     let not = none-less (nat_lt l.fielddata n) (tripped_at l at.Fielddata n) _ (sym (defined-so l n) ∙ light) in
     let le = ltb-false l.fielddata n not in

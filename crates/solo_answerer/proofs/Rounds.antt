@@ -1,11 +1,11 @@
 -- One more round of one worker.
-use Rattle.std.specs.Prelude.{◌≡◌, ◌≤◌, ℕ, Bool, true, false, ◌&&◌, ◌==◌, List, [], ◌∷◌, ◌++◌, flat_map}
+use Rattle.std.specs.Prelude.{◌≡◌, ℕ, Bool, true, false, ◌&&◌, ◌==◌, List, [], ◌∷◌, ◌++◌, flat_map}
 use Rattle.std.proofs.Common.{inl, inr, refl, ◌∙◌, sym, ap, subst, arith, eq-eqb}
 use Rattle.list_laws.proofs.Lists.{flat_map-append}
 use Rattle.agg_model.specs.declared.outcome.Answered.{Answered}
 use Rattle.agg_model.specs.declared.outcome.Outcome.TheVariants as ended
 use Rattle.agg_model.specs.declared.settings.Settings.{Settings}
-use Rattle.agg_spec.specs.Answers.{Recent, IsAllowed, IsSolo, AreRounds, AreFormed}
+use Rattle.agg_spec.specs.Answers.{Recent, IsAllowed, IsSolo, AreRounds}
 use Rattle.agg_spec.specs.Charges.{Run}
 use Rattle.agg_spec.specs.Index.{Index}
 use Rattle.agg_spec.specs.Outcome.{Request}

@@ -1,5 +1,5 @@
 -- What one worker answers depends on what is held alone, and not on what was granted or refused before.
-use Rattle.std.specs.Prelude.{◌≡◌, ℕ, ◌*◌, Bool, true, false, List, [], ◌∷◌, ◌++◌, fold, Option, Some, None}
+use Rattle.std.specs.Prelude.{◌≡◌, ℕ, ◌*◌, Bool, true, false, List, [], ◌∷◌, ◌++◌, Option, Some, None}
 use Rattle.std.proofs.Common.{refl, ◌∙◌, sym, ap, subst}
 use Rattle.agg_model.specs.declared.aggregation.Search.{Search}
 use Rattle.agg_model.specs.declared.breaker.Child.{Child}
@@ -13,8 +13,8 @@ use Rattle.agg_model.specs.declared.settings.Settings.{Settings}
 use Rattle.agg_spec.specs.Charges.{charge_of, Amounts, Run, Step, charge, give_back, raised, lowered, refusal_of, charged, stepped, stepped_unless, run}
 use Rattle.agg_spec.specs.Index.{Index}
 use Rattle.agg_spec.specs.Outcome.{Request, running_search, outcome}
-use Rattle.agg_spec.specs.Reduction.{Task, Going, begun, task_steps, unless_ended, task_refused, task_ended, after_task, merged, merge_steps, after_batch, after_tasks, after_batches, after_last, reduced, batches, tasks_of}
-use Rattle.agg_spec.specs.Solo.{searched, body_charged, response_steps, outcome_unless, outcome_with, responded, solo_run, solo_answer, after_request, after_requests}
+use Rattle.agg_spec.specs.Reduction.{Task, Going, begun, task_steps, unless_ended, task_refused, task_ended, after_task, merge_steps, after_batch, after_tasks, after_batches, after_last, reduced, batches, tasks_of}
+use Rattle.agg_spec.specs.Solo.{searched, response_steps, outcome_unless, outcome_with, responded, solo_run, solo_answer, after_request, after_requests}
 
 -- the runs hold the same, and have ended by the same refusal
 pub record IsLike (a b : Run) : Type 0 where

@@ -1,5 +1,5 @@
 -- The statistics of one worker.
-use Rattle.std.specs.Prelude.{◌≡◌, ◌+◌, ℕ, Bool, true, List, flat_map}
+use Rattle.std.specs.Prelude.{◌≡◌, ◌+◌, ℕ, Bool, List, flat_map}
 use Rattle.std.proofs.Common.{refl, ◌∙◌, sym, ap, subst, arith}
 use Rattle.agg_model.specs.Breakers.{limit_of, overhead_of}
 use Rattle.agg_model.specs.declared.breaker.BreakerStats.{BreakerStats}
@@ -13,7 +13,7 @@ use Rattle.agg_spec.specs.Charges.{Run, amount_at}
 use Rattle.agg_spec.specs.Index.{Index}
 use Rattle.agg_spec.specs.Rounds.{Round}
 use Rattle.agg_spec.specs.Solo.{columns_held, idle, after_requests}
-use Rattle.agg_spec.specs.Statistics.{AreTotals, AreTotalsBy, is_solo, solo_totals}
+use Rattle.agg_spec.specs.Statistics.{AreTotals, AreTotalsBy, solo_totals}
 use Rattle.breaker_tree.specs.Statistics.{stats_of, totals_of}
 use Rattle.breaker_words.specs.Breakers.{counter_value}
 use Rattle.breaker_words.specs.Views.{hold_of, granted_of, trips_of}

@@ -3,7 +3,6 @@ use Rattle.std.specs.Prelude.{◌≡◌, ℕ, false, List, flat_map}
 use Rattle.agg_bulk.specs.Indexing.{index_of}
 use Rattle.agg_model.specs.declared.breaker.Which.TheVariants.{Request, Fielddata, Inflight}
 use Rattle.agg_model.specs.declared.settings.Settings.{Settings}
-use Rattle.agg_settings.specs.Ranges.{AreInRange}
 use Rattle.agg_spec.specs.Charges.{no_amounts}
 use Rattle.agg_spec.specs.Columns.{columns_charge}
 use Rattle.agg_spec.specs.Index.{Index}
