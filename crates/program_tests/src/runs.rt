@@ -1,11 +1,9 @@
 //! Runs over memory. What is wanted was computed by another program.
 ghost use Rattle.std.specs.Prelude.{◌≤◌};
 
-
-
-use agg_program::run;
 use agg_base::{MemorySink, MemorySource};
 use agg_model::{Bytes, List, Text};
+use agg_program::run;
 use std::alloc::{AllocError, Global};
 use std::test::Fail;
 
