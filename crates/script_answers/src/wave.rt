@@ -1,5 +1,5 @@
 //! The searches of a wave, and the statistics behind the last one.
-ghost use Rattle.std.specs.Prelude.{◌≡◌, ◌≤◌, map, length, Err};
+ghost use Rattle.std.specs.Prelude.{◌≡◌, ◌≤◌, map, length, Err, OnOk};
 ghost use Rattle.agg_base.specs.Outside.{Rose};
 ghost use Rattle.agg_spec.specs.Requests.{request_of};
 ghost use Rattle.agg_spec.specs.Answers.{Recent};

@@ -6,4 +6,4 @@ pub returns-clause-lines : goal.returns-clause-lines
 returns-clause-lines c = written-length
 
 pub returns-clause-kept : goal.returns-clause-kept
-returns-clause-kept c = changed-keeps
+returns-clause-kept c = λ words now after line is. let kept = changed-keeps words now after line is in (kept.0, kept.1)
