@@ -1,7 +1,7 @@
 //! Each read and each write of a run fails, one after another.
 
 use crate::runs::{
-    FailedCalls, INDEX, ONE_ANSWER, ONE_BODY, answered, are_first_lines, is_front, joined,
+    FailedCalls, INDEX, ONE_ANSWER, ONE_BODY, answered, are_first_lines, is_front, joined, line_count,
 };
 use std::alloc::Global;
 use std::process::Abort;
@@ -26,15 +26,26 @@ const CASES: [Case; 2] = [
         status: 0,
     },
     Case {
-        rest: "\n\n\n{}\n{\"aggs\":{\"t\":{\"terms\":{\"field\":\"t\"}}}}\n{}\n",
-        output: "{\"errors\":false,\"items\":[],\"took\":0}\n{\"_shards\":{\"failed\":0,\"skipped\":0,\"successful\":1,\"total\":1},\"aggregations\":{\"t\":{\"buckets\":[],\"doc_count_error_upper_bound\":0,\"sum_other_doc_count\":0}},\"hits\":{\"hits\":[],\"max_score\":null,\"total\":{\"relation\":\"eq\",\"value\":0}},\"status\":200,\"timed_out\":false,\"took\":0}\n{\"error\":{\"line\":6,\"number\":36,\"type\":\"missing_body\"},\"status\":5}\n",
+        rest: r#"
+
+
+{}
+{"aggs":{"t":{"terms":{"field":"t"}}}}
+{}
+"#,
+        output: r#"{"errors":false,"items":[],"took":0}
+{"_shards":{"failed":0,"skipped":0,"successful":1,"total":1},"aggregations":{"t":{"buckets":[],"doc_count_error_upper_bound":0,"sum_other_doc_count":0}},"hits":{"hits":[],"max_score":null,"total":{"relation":"eq","value":0}},"status":200,"timed_out":false,"took":0}
+{"error":{"line":6,"number":36,"type":"missing_body"},"status":5}
+"#,
         status: 5,
     },
 ];
 
-/// Lets one read after another fail, and answers how many could.
+/// Lets one read after another fail, and answers how many could. What was read is answered: the later the read that fails, the
+/// more lines there are, and at the end all but the last one.
 fn failed_reads(rt: &impl Abort, alloc: Global, case: Case, piece: usize) -> Result<u64, Fail> {
     let all = case.output.as_bytes();
+    let mut lines = 0;
     for call in 0..MANY {
         let faults = FailedCalls {
             read: Some(call),
@@ -45,9 +56,12 @@ fn failed_reads(rt: &impl Abort, alloc: Global, case: Case, piece: usize) -> Res
         if status != 3 {
             assert_eq!(rt; status, case.status);
             assert!(rt; written.as_slice() == all);
+            assert!(rt; lines.checked_add(1) == Some(line_count(all)));
             return Ok(call);
         }
         assert!(rt; are_first_lines(written.as_slice(), all), "{call}");
+        assert!(rt; lines <= line_count(written.as_slice()), "{call}");
+        lines = line_count(written.as_slice());
     }
     Ok(MANY)
 }

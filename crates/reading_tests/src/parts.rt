@@ -47,7 +47,7 @@ fn bytes_are_read_or_are_not_json(rt: HostRuntime) -> Result<(), Fail> {
 #[test]
 fn parts_are_found_or_refused(rt: HostRuntime) -> Result<(), Fail> {
     let at = At::Start("");
-    let value = value_of(rt.alloc(), b"{\"b\":null,\"a\":[],\"z\":\"w\"}")?;
+    let value = value_of(rt.alloc(), r#"{"b":null,"a":[],"z":"w"}"#.as_bytes())?;
     let a = rt.alloc();
     let Ok(members) = object(a, 103, &at, &value) else {
         assert!(rt; false);
@@ -68,14 +68,14 @@ fn numbers_words_and_booleans_are_read_or_refused(rt: HostRuntime) -> Result<(),
     let at = At::Start("");
     let a = rt.alloc();
     let five = value_of(a, b"5")?;
-    let name = value_of(a, b"\"asc\"")?;
+    let name = value_of(a, r#""asc""#.as_bytes())?;
     assert!(rt; signed(a, &at, &five) == Ok(5));
     assert!(rt; is_bad(truth(a, &at, &five), 103, ""));
     assert!(rt; choice(a, &["asc", "desc"], &at, &name) == Ok("asc"));
     assert!(rt; is_bad(choice(a, &["desc"], &at, &name), 104, ""));
     let value = value_of(
         a,
-        b"{\"n\":-7,\"t\":true,\"x\":null,\"five\":5,\"zero\":-0,\"name\":\"asc\"}",
+        r#"{"n":-7,"t":true,"x":null,"five":5,"zero":-0,"name":"asc"}"#.as_bytes(),
     )?;
     let Ok(members) = object(a, 103, &at, &value) else {
         assert!(rt; false);
@@ -120,15 +120,15 @@ fn values_of_fields(rt: HostRuntime) -> Result<(), Fail> {
         );
     }
     for (json, wanted) in [
-        (b"\"-0\"".as_slice(), Some(0)),
+        (r#""-0""#.as_bytes(), Some(0)),
         (b"-0".as_slice(), None),
-        (b"\"+1\"".as_slice(), None),
+        (r#""+1""#.as_bytes(), None),
         (
-            b"\"-00000000000000000000000000000000000012\"".as_slice(),
+            r#""-00000000000000000000000000000000000012""#.as_bytes(),
             Some(-12),
         ),
         (
-            b"\"000000000000000000000000000000000000001\"".as_slice(),
+            r#""000000000000000000000000000000000000001""#.as_bytes(),
             None,
         ),
         (b"true".as_slice(), None),

@@ -14,7 +14,10 @@ abbrev pub item_of : List ℕ → Row
 item_of word = roll-Row (record { values = record { field = 0; values = Word word ∷ [] } ∷ []; children = [] })
 
 abbrev pub example_root : Row
-example_root = roll-Row (record { values = []; children = roll-Children (record { path = 0; rows = item_of (107 ∷ []) ∷ item_of (109 ∷ 109 ∷ []) ∷ item_of (107 ∷ []) ∷ [] }) ∷ [] })
+example_root = roll-Row (record {
+  values = [];
+  children = roll-Children (record { path = 0; rows = item_of (107 ∷ []) ∷ item_of (109 ∷ 109 ∷ []) ∷ item_of (107 ∷ []) ∷ [] }) ∷ [];
+})
 
 -- a keyword `s` in the nested path `items`
 abbrev pub example_mapping : Mapping
@@ -34,7 +37,11 @@ example_values = roll-Agg (record { name = codes "values"; kind = kind.ValueCoun
 
 -- the most frequent word
 abbrev pub example_words : Agg
-example_words = roll-Agg (record { name = codes "words"; kind = kind.Terms 0 1 1 1 (record { by = by.Count; descending = true } ∷ []) None [] None true; children = example_values ∷ [] })
+example_words = roll-Agg (record {
+  name = codes "words";
+  kind = kind.Terms 0 1 1 1 (record { by = by.Count; descending = true } ∷ []) None [] None true;
+  children = example_values ∷ [];
+})
 
 -- of the nested items
 abbrev pub example_agg : Agg

@@ -1,1 +1,2 @@
+-- The index, the documents and the aggregation that the tests speak of.
 pub mod Example
