@@ -11,3 +11,4 @@ pub mod AggSizes
 pub mod CollectedRoots
 pub mod Totals
 pub mod Summing
+pub mod NodeSums

@@ -108,10 +108,10 @@ apart-at [] (suc i) x e = absurd (let no : ⊥ = cc in no)
 apart-at (y ∷ ys) zero x e = let same : y ≡ x = cc in ap (λ z. z ∷ ys) same
 apart-at (y ∷ ys) (suc i) x e = ap (λ zs. y ∷ zs) (apart-at ys i x e)
 
-take-next : (xs : List Columns) (i : ℕ) (x : Columns) → slice_get xs i ≡ Some x → take (i + 1) xs ≡ take i xs ++ x ∷ []
+pub take-next : {A : Type 0} (xs : List A) (i : ℕ) (x : A) → slice_get xs i ≡ Some x → take (i + 1) xs ≡ take i xs ++ x ∷ []
 take-next xs i x e = ap (λ n. take n xs) (let one : i + 1 ≡ suc i = omega arith in one) ∙ suc-next xs i x e
   where
-    suc-next : (xs : List Columns) (i : ℕ) (x : Columns) → slice_get xs i ≡ Some x → take (suc i) xs ≡ take i xs ++ x ∷ []
+    suc-next : {A : Type 0} (xs : List A) (i : ℕ) (x : A) → slice_get xs i ≡ Some x → take (suc i) xs ≡ take i xs ++ x ∷ []
     suc-next [] zero x e = absurd (let no : ⊥ = cc in no)
     suc-next [] (suc i) x e = absurd (let no : ⊥ = cc in no)
     suc-next (y ∷ ys) zero x e = let same : y ≡ x = cc in ap (λ z. z ∷ []) same
@@ -151,7 +151,7 @@ some-each (Some n ∷ os) (suc i) o total e sum = by_rest (λ c same. some-each 
     by_rest later (Some c) same = later c same
     by_rest later None same = absurd (let no : None ≡ Some total = sym (ap (option_map (λ rest. n + rest)) same) ∙ sum in (let none : ⊥ = cc in none))
 
-get-map : {A B : Type 0} (g : A → B) (xs : List A) (i : ℕ) (x : A) → slice_get xs i ≡ Some x → slice_get (map g xs) i ≡ Some (g x)
+pub get-map : {A B : Type 0} (g : A → B) (xs : List A) (i : ℕ) (x : A) → slice_get xs i ≡ Some x → slice_get (map g xs) i ≡ Some (g x)
 get-map g [] i x e = absurd (let no : ⊥ = cc in no)
 get-map g (y ∷ ys) zero x e = let same : y ≡ x = cc in ap (λ z. Some (g z)) same
 get-map g (y ∷ ys) (suc i) x e = get-map g ys i x e

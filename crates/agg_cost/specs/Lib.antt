@@ -6,3 +6,4 @@ pub mod Counters
 pub mod Staying
 pub mod Roots
 pub mod Searches
+pub mod Nodes

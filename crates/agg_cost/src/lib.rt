@@ -3,14 +3,14 @@
 #![tactic(auto)]
 
 mod bounds;
-mod ceilings;
 mod handing_on;
 mod key_bytes;
 mod key_counts;
 mod paths;
 mod searches;
+mod task;
 
 pub use bounds::node_bytes;
-pub use ceilings::ceiling;
 pub use paths::RowPaths;
 pub use searches::search_ceiling;
+pub use task::ceiling;

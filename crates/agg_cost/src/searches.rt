@@ -5,7 +5,7 @@ ghost use Rattle.agg_evaluation.specs.Ceiling.{search_ceiling as ceiling_of_sear
 ghost use Rattle.agg_evaluation.specs.SearchFits.{search_fits};
 ghost use Rattle.shard_columns.specs.Index.{rows_by_shard};
 
-use crate::ceilings::{ceiling, within_greatest};
+use crate::task::{ceiling, within_greatest};
 use agg_model::Search;
 use shard_columns::Index;
 use std::alloc::{AllocError, Global};

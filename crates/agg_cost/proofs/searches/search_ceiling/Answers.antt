@@ -39,7 +39,7 @@ returns-in_default c =
     let at : slice_get index.shards i ≡ Some s = subst (λ (xs : List Columns). slice_get xs i ≡ Some s) c.as_slice-shard-items.ensures (here items i s c.loop-shard-test.true c.shard-item.is) in
     let of = one-shard index.mapping index.shards i s at index.built in
     let none : c.in_ok-more.field-0 ≡ None = nothing c.in_ok-more.field-0 c.in_default.not-Some in
-    sym (none-all kinds search index.shards i s at (sym (by-mapping index.mapping s search of) ∙ (sym c.in_ok-more.ensures ∙ none)))
+    sym (none-all kinds search index.shards i s at (sym (by-mapping index.mapping s search of) ∙ (sym c.in_ok-more.ensures.exact ∙ none)))
   where
     nothing : (o : Option ℕ) → ((n : ℕ) → o ≡ Some n → ⊥) → o ≡ None
     nothing None not = refl
@@ -55,7 +55,7 @@ loop-shard-preserved c =
     let items = c.as_slice-shard-items.result.now in
     let at : slice_get items i ≡ Some s = here items i s c.loop-shard-test.true c.shard-item.is in
     let of = one-shard index.mapping index.shards i s (subst (λ (xs : List Columns). slice_get xs i ≡ Some s) c.as_slice-shard-items.ensures at) index.built in
-    let one : ceiling kinds search s.rows ≡ Some c.in-Some.more = sym (by-mapping index.mapping s search of) ∙ (sym c.in_ok-more.ensures ∙ c.in-Some.is) in
+    let one : ceiling kinds search s.rows ≡ Some c.in-Some.more = sym (by-mapping index.mapping s search of) ∙ (sym c.in_ok-more.ensures.exact ∙ c.in-Some.is) in
     let bound = ceiling-low kinds search s.rows c.in-Some.more one in
     let before = c.loop-shard.invariant.low in
     record {

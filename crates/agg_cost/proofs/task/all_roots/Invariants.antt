@@ -2,7 +2,7 @@ use Rattle.std.proofs.Common.{◌≡◌, length, take}
 use Rattle.agg_evaluation.specs.Rows.{roots}
 use Rattle.agg_cost.specs.Paths.{reached_by, AreBelow}
 use Rattle.agg_cost.specs.Roots.{once_each}
-use Rattle.agg_cost.proofs.ceilings.all_roots.Given as goal
+use Rattle.agg_cost.proofs.task.all_roots.Given as goal
 
 abbrev pub invariant-loop-place : goal.invariant-loop-place
 invariant-loop-place l =

@@ -5,8 +5,9 @@ use Rattle.agg_evaluation.specs.Ceiling.{ceiling_by, is_wide_at}
 use Rattle.agg_cost.specs.Capped.{capped}
 use Rattle.agg_cost.specs.Paths.{reached_by}
 use Rattle.filters_agg.proofs.MadeAggs.{kind-made}
+use Rattle.agg_cost.proofs.NodeSums.{ceiling-by-nodes}
 use Rattle.agg_cost.proofs.Totals.{bytes_of, is_wide_agg, query-made, agg-made, same-rows, one-bytes, total-more, none-more, one-wide, whole-ceiling}
-use Rattle.agg_cost.proofs.ceilings.ceiling.Goals as goal
+use Rattle.agg_cost.proofs.task.ceiling.Goals as goal
 
 pub matched_roots-requires : goal.matched_roots-requires
 matched_roots-requires c = query-made c.args.shard.now c.args.search.now c.requires.made
@@ -40,7 +41,8 @@ returns-then-is_wide c =
     let same = same-rows rows c.as_slice.result.now _ (ap (reached_by rows) c.as_slice.ensures.value ∙ c.in_ok-matched.ensures.roots) in
     let here = sym (c.is_wide.ensures ∙ ap (is_wide_at (out-Agg agg).kind) same) ∙ c.if-is_wide.true in
     let wide = sym (ap (list_any (is_wide_agg rows search)) c.as_slice-agg-items.ensures) ∙ one-wide (is_wide_agg rows search) items i agg c.loop-agg-test.true c.agg-item.is here in
-    sym (ap (λ (b : Bool). ceiling_by b kinds search rows) wide)
+    let exact = sym (ap (λ (b : Bool). ceiling_by b kinds search rows) wide) in
+    record { exact = exact; by_nodes = exact ∙ ceiling-by-nodes kinds search rows }
 
 pub loop-agg-preserved : goal.loop-agg-preserved
 loop-agg-preserved c =
@@ -60,5 +62,11 @@ loop-agg-preserved c =
 
 pub returns : goal.returns
 returns c =
+    let kinds = c.args.shard.now.kinds in
+    let rows = c.args.shard.now.rows in
+    let search = c.args.search.now in
+    let exact =
     c.within_greatest.ensures
-    ∙ whole-ceiling c.args.shard.now.kinds c.args.shard.now.rows c.args.search.now c.as_slice-agg-items.result.now c.loop-agg.agg-index c.loop-agg.bytes c.saturating_mul.result c.as_slice-agg-items.ensures c.loop-agg-test.false c.loop-agg.invariant.0 c.loop-agg.invariant.1 c.saturating_mul.ensures
+    ∙ whole-ceiling kinds rows search c.as_slice-agg-items.result.now c.loop-agg.agg-index c.loop-agg.bytes c.saturating_mul.result c.as_slice-agg-items.ensures c.loop-agg-test.false c.loop-agg.invariant.0 c.loop-agg.invariant.1 c.saturating_mul.ensures
+    in
+    record { exact = exact; by_nodes = exact ∙ ceiling-by-nodes kinds search rows }

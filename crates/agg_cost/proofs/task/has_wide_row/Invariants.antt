@@ -4,7 +4,7 @@ use Rattle.std.specs.List.{list_any}
 use Rattle.agg_evaluation.specs.Ceiling.{greatest_combinations}
 use Rattle.agg_evaluation.specs.Keys.{keys}
 use Rattle.agg_evaluation.specs.Rows.{row_of}
-use Rattle.agg_cost.proofs.ceilings.has_wide_row.Given as goal
+use Rattle.agg_cost.proofs.task.has_wide_row.Given as goal
 
 abbrev pub invariant-loop-from : goal.invariant-loop-from
 invariant-loop-from l =

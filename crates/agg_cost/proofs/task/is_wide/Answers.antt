@@ -11,7 +11,7 @@ use Rattle.filters_agg.specs.Filtering.{IsMadeFor}
 use Rattle.agg_cost.specs.declared.paths.RowPaths.{RowPaths}
 use Rattle.agg_cost.proofs.CollectedRoots.{wide-rows}
 use Rattle.agg_cost.proofs.Conditions.{countable}
-use Rattle.agg_cost.proofs.ceilings.is_wide.Goals as goal
+use Rattle.agg_cost.proofs.task.is_wide.Goals as goal
 
 pub has_wide_row-requires-clause-composite : goal.has_wide_row-requires-clause-composite
 has_wide_row-requires-clause-composite c =

@@ -7,8 +7,8 @@ use Rattle.agg_cost.specs.Paths.{AreBelow, reached_by}
 use Rattle.agg_cost.specs.Roots.{once_each}
 use Rattle.agg_cost.specs.declared.paths.RowPaths.{RowPaths}
 use Rattle.agg_cost.proofs.CollectedRoots.{reached-next, passed-next, failed-next, one_path}
-use Rattle.agg_cost.proofs.ceilings.matched_roots.Goals.{then-get+in_ok-push, else-get}
-use Rattle.agg_cost.proofs.ceilings.matched_roots.Goals as goal
+use Rattle.agg_cost.proofs.task.matched_roots.Goals.{then-get+in_ok-push, else-get}
+use Rattle.agg_cost.proofs.task.matched_roots.Goals as goal
 
 pub loop-place-preserved : goal.loop-place-preserved
 loop-place-preserved c =

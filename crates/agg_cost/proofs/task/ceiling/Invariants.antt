@@ -3,7 +3,7 @@ use Rattle.std.specs.Prelude.{sum_by}
 use Rattle.std.specs.List.{list_any}
 use Rattle.agg_cost.specs.Capped.{capped}
 use Rattle.agg_cost.proofs.Totals.{bytes_of, is_wide_agg}
-use Rattle.agg_cost.proofs.ceilings.ceiling.Given as goal
+use Rattle.agg_cost.proofs.task.ceiling.Given as goal
 
 abbrev pub invariant-loop-agg : goal.invariant-loop-agg
 invariant-loop-agg l =

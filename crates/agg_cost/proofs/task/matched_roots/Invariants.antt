@@ -3,7 +3,7 @@ use Rattle.agg_evaluation.specs.Matching.{matches}
 use Rattle.agg_evaluation.specs.Rows.{roots}
 use Rattle.agg_cost.specs.Paths.{reached_by, AreBelow}
 use Rattle.agg_cost.specs.Roots.{once_each}
-use Rattle.agg_cost.proofs.ceilings.matched_roots.Given as goal
+use Rattle.agg_cost.proofs.task.matched_roots.Given as goal
 
 abbrev pub invariant-loop-place : goal.invariant-loop-place
 invariant-loop-place l =

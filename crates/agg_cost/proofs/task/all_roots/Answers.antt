@@ -4,7 +4,7 @@ use Rattle.agg_evaluation.specs.Rows.{roots}
 use Rattle.agg_cost.specs.Paths.{AreBelow}
 use Rattle.agg_cost.specs.declared.paths.RowPaths.{RowPaths}
 use Rattle.agg_cost.proofs.CollectedRoots.{all-next, one_path}
-use Rattle.agg_cost.proofs.ceilings.all_roots.Goals as goal
+use Rattle.agg_cost.proofs.task.all_roots.Goals as goal
 
 pub loop-place-preserved : goal.loop-place-preserved
 loop-place-preserved c =
