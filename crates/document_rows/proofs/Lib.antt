@@ -1,4 +1,5 @@
 pub mod Added
+pub mod Ascending
 pub mod Fronts
 pub mod Items
 pub mod Order

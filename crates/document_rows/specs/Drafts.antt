@@ -1,5 +1,5 @@
 -- A row while its object is walked, as the code holds it: lists by place in a map (Elasticsearch Reference 8, 'Nested field type').
-use Rattle.std.specs.Prelude.{ℕ, List, [], ◌∷◌, ◌++◌, map, nat_lt, Bool, true, Option, None, Some}
+use Rattle.std.specs.Prelude.{ℕ, ◌+◌, ◌≤◌, List, [], ◌∷◌, ◌++◌, map, nat_lt, Bool, true, Option, None, Some, ⊤}
 use Rattle.std.specs.List.{list_all}
 use Rattle.std.specs.Ordering.{nat_cmp, match_ordering}
 use Rattle.agg_model.specs.declared.mapping.Field.{Field}
@@ -20,6 +20,16 @@ has_room (Some most) n = nat_lt n most
 abbrev pub with_item : {A : Type 0} → ℕ → A → List (ℕ × List A) → List (ℕ × List A)
 with_item place x [] = (place, x ∷ []) ∷ []
 with_item place x (e ∷ es) = match_ordering (nat_cmp place e.0) ((place, x ∷ []) ∷ e ∷ es) ((place, e.1 ++ x ∷ []) ∷ es) (e ∷ with_item place x es)
+
+-- places from a least one on, each above the one before
+abbrev pub Ascends : {A : Type 0} → ℕ → List (ℕ × A) → Type 0
+Ascends least [] = ⊤
+Ascends least (e ∷ es) = (least ≤ e.0) × Ascends (e.0 + 1) es
+
+-- the lists that came in order, or all lists once one came late
+abbrev pub all_lists : {A : Type 0} → List (ℕ × A) → List (ℕ × A) → List (ℕ × A)
+all_lists ascending [] = ascending
+all_lists ascending (e ∷ es) = e ∷ es
 
 abbrev pub field_values : ℕ × List Scalar → FieldValues
 field_values e = record { field = e.0; values = e.1 }

@@ -1,63 +1,27 @@
 //! A row while its object is walked.
 
-ghost use Rattle.std.specs.Prelude.{◌≡◌, ◌<◌, List as Items, true, map, nat_lt, IfOk, IfSome, IsTrue, OnOk, length, unwrap_or, option_map};
-ghost use Rattle.std.specs.Map.{lookup};
-ghost use Rattle.std.specs.BTreeMap.{is_at};
-ghost use Rattle.std.specs.Ordering.{nat_cmp};
+ghost use Rattle.std.specs.Prelude.{◌≡◌, ◌<◌, List as Items, true, map, nat_lt, IfOk, IsTrue, OnOk};
 ghost use Rattle.agg_model.specs.declared.mapping.Field.{Field};
 ghost use Rattle.agg_reading.specs.Rows.{finished_field};
-ghost use Rattle.document_rows.specs.Drafts.{has_room, with_item, field_values, child_rows, is_typed};
+ghost use Rattle.document_rows.specs.Drafts.{field_values, child_rows, is_typed};
 
+use crate::lists::{append, joined};
 use crate::values::in_order;
 use agg_model::{Children, FieldValues, List, Row, Scalar};
 use std::alloc::{AllocError, Global};
 use std::collections::BTreeMap;
-use std::collections::btree_map::Entry;
 use std::marker::Model;
-
-/// Puts an item behind those that stand at its place, and answers `true`; `false` where `most` stand there already, and
-/// then the lists are of no more use. The place is looked up once.
-fn append<T: Drop>(
-    alloc: Global,
-    lists: &mut BTreeMap<u32, List<T>>,
-    place: u32,
-    most: Option<usize>,
-    item: T,
-) -> Result<bool, AllocError>
-    requires { IfSome most (λ n. 0 < n) }
-    ensures room { IfOk result (λ added. added ≡ has_room most (unwrap_or (option_map length (lookup (is_at (nat_cmp place)) lists.old.entries)) 0)) }
-    ensures added { IfOk result (λ added. IsTrue added → lists.new.entries ≡ with_item place item lists.old.entries) }
-{
-    match lists.entry(place) {
-        Err(_) => Err(AllocError),
-        Ok(Entry::Occupied(entry)) => {
-            let found = entry.into_mut();
-            if most.is_some_and(|most| found.len() >= most) {
-                return Ok(false);
-            }
-            found.push(item)?;
-            Ok(true)
-        }
-        Ok(Entry::Vacant(entry)) => {
-            // Most fields of a document have one value.
-            let mut first = Vec::with_capacity(alloc, 1)?;
-            first.push(item)?;
-            entry.insert(List::from_vec(first));
-            Ok(true)
-        }
-    }
-}
 
 /// The values of each field, walked to the end.
 #[tactic(auto, unfolding(agg_reading::specs::Rows::finished_field))]
 fn finished_fields(
     alloc: Global,
-    fields: BTreeMap<u32, List<Scalar>>,
+    fields: Vec<(u32, List<Scalar>)>,
 ) -> Result<List<FieldValues>, AllocError>
-    requires { (all : Items Field) × (is_typed all (map field_values fields.entries) ≡ true) }
-    ensures { IfOk result (λ fs. fs ≡ map finished_field (map field_values fields.entries)) }
+    requires { (all : Items Field) × (is_typed all (map field_values fields.items) ≡ true) }
+    ensures { IfOk result (λ fs. fs ≡ map finished_field (map field_values fields.items)) }
 {
-    let mut finished = List::new(alloc);
+    let mut finished = List::from_vec(Vec::with_capacity(alloc, fields.len())?);
     for (field, values) in fields {
         finished.push(FieldValues {
             field,
@@ -70,11 +34,11 @@ fn finished_fields(
 /// The rows at each nested path.
 fn all_children(
     alloc: Global,
-    children: BTreeMap<u32, List<Row>>,
+    children: Vec<(u32, List<Row>)>,
 ) -> Result<List<Children>, AllocError>
-    ensures { IfOk result (λ cs. cs ≡ map child_rows children.entries) }
+    ensures { IfOk result (λ cs. cs ≡ map child_rows children.items) }
 {
-    let mut all = List::new(alloc);
+    let mut all = List::from_vec(Vec::with_capacity(alloc, children.len())?);
     for (path, rows) in children {
         all.push(Children { path, rows })?;
     }
@@ -82,24 +46,31 @@ fn all_children(
 }
 
 /// A row while its object is walked: the values of each field and the rows at each nested path, in the order of the
-/// walk. A value is put in its place in time in the logarithm of the fields that have one.
+/// walk. A value is put in its place in time in the logarithm of the fields that have one, and at once where the fields
+/// come in their order.
 #[derive(Drop)]
 pub(crate) struct RowDraft {
-    values: BTreeMap<u32, List<Scalar>>,
-    children: BTreeMap<u32, List<Row>>,
+    values: Vec<(u32, List<Scalar>)>,
+    /// The values instead, once a field came late.
+    other_values: BTreeMap<u32, List<Scalar>>,
+    children: Vec<(u32, List<Row>)>,
+    /// The rows instead, once a path came late.
+    other_children: BTreeMap<u32, List<Row>>,
 }
 
 impl Model for RowDraft {
     ghost use Rattle.agg_reading.specs.declared.parts.Draft.{Draft};
     ghost use Rattle.agg_model.specs.contracts.row.Children as child;
     ghost use Rattle.std.specs.Coded.{codes};
-    ghost use Rattle.document_rows.specs.Drafts.{draft_of};
+    ghost use Rattle.document_rows.specs.Drafts.{all_lists, draft_of, Ascends};
 
     ghost Value = { Draft };
 
     ghost coded = { Prim.hlevel (codes, child.the_row.coded) };
 
-    ghost view = { λ d. draft_of d.values.entries d.children.entries };
+    ghost view = { λ d. draft_of (all_lists d.values.items d.other_values.entries) (all_lists d.children.items d.other_children.entries) };
+
+    ghost invariant = { λ d. Ascends 0 d.values.items × Ascends 0 d.children.items };
 }
 
 impl RowDraft {
@@ -110,8 +81,10 @@ impl RowDraft {
         ensures { result ≡ empty_draft }
     {
         RowDraft {
-            values: BTreeMap::new(alloc),
-            children: BTreeMap::new(alloc),
+            values: Vec::new(alloc),
+            other_values: BTreeMap::new(alloc),
+            children: Vec::new(alloc),
+            other_children: BTreeMap::new(alloc),
         }
     }
 
@@ -128,7 +101,14 @@ impl RowDraft {
         ensures room { IfOk result (λ added. added ≡ nat_lt (count_in field self.old.values) most) }
         ensures added { IfOk result (λ added. IsTrue added → self.new ≡ record { values = with_value field value self.old.values; children = self.old.children }) }
     {
-        let added = append(alloc, &mut self.values, field, Some(most), value)?;
+        let added = append(
+            alloc,
+            &mut self.values,
+            &mut self.other_values,
+            field,
+            Some(most),
+            value,
+        )?;
         Ok(added)
     }
 
@@ -136,7 +116,14 @@ impl RowDraft {
     pub(crate) fn add_row(&mut self, alloc: Global, path: u32, row: Row) -> Result<(), AllocError>
         ensures { OnOk result (self.new ≡ record { values = self.old.values; children = with_row path row self.old.children }) }
     {
-        append(alloc, &mut self.children, path, None, row)?;
+        append(
+            alloc,
+            &mut self.children,
+            &mut self.other_children,
+            path,
+            None,
+            row,
+        )?;
         Ok(())
     }
 
@@ -146,10 +133,15 @@ impl RowDraft {
         requires { (fields : Items Field) × (is_typed fields self.values ≡ true) }
         ensures { IfOk result (λ row. row ≡ finished self) }
     {
-        let RowDraft { values, children } = self;
+        let RowDraft {
+            values,
+            other_values,
+            children,
+            other_children,
+        } = self;
         Ok(Row {
-            values: finished_fields(alloc, values)?,
-            children: all_children(alloc, children)?,
+            values: finished_fields(alloc, joined(alloc, values, other_values)?)?,
+            children: all_children(alloc, joined(alloc, children, other_children)?)?,
         })
     }
 }

@@ -6,6 +6,7 @@ mod document;
 mod draft;
 mod fault;
 mod field_value;
+mod lists;
 mod refusal;
 mod roles;
 #[cfg(test)]

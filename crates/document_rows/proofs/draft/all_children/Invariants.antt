@@ -3,4 +3,4 @@ use Rattle.document_rows.specs.Drafts.{child_rows}
 use Rattle.document_rows.proofs.draft.all_children.Given as goal
 
 abbrev pub invariant-loop-path : goal.invariant-loop-path
-invariant-loop-path l = l.all ++ map child_rows l.path-iterator ≡ map child_rows l.fn.children.entries
+invariant-loop-path l = l.all ++ map child_rows l.path-iterator.rest.items ≡ map child_rows l.fn.children.items

@@ -6,6 +6,6 @@ use Rattle.document_rows.proofs.draft.finished_fields.Given as goal
 
 abbrev pub invariant-loop-field : goal.invariant-loop-field
 invariant-loop-field l = record {
-  typed : (all : List Field) × (is_typed all (map field_values l.field-iterator) ≡ true);
-  done : l.finished ++ map finished_field (map field_values l.field-iterator) ≡ map finished_field (map field_values l.fn.fields.entries);
+  typed : (all : List Field) × (is_typed all (map field_values l.field-iterator.rest.items) ≡ true);
+  done : l.finished ++ map finished_field (map field_values l.field-iterator.rest.items) ≡ map finished_field (map field_values l.fn.fields.items);
 }
