@@ -33,7 +33,8 @@ left-known input given (Some rest) is =
     ap Some (sym (ap (drop (length given)) all ∙ drop-append_seam given rest))
 
 -- what is left of an input behind the bytes that were read from its start on
-pub left_behind : (input : List ℕ) {left : Option (List ℕ)} {read : ℕ} → GaveAt (Some input) 0 left read → left ≡ Some (drop read input)
-left_behind input {left} {read} gave =
-    let same : length gave.given ≡ read = omega (arith, gave.counted) in
-    left-known input gave.given left gave.left ∙ ap (λ n. Some (drop n input)) same
+pub left_behind : (input : List ℕ) {old left : Option (List ℕ)} {before read : ℕ} → GaveAt old before left read → old ≡ Some input → before ≡ 0
+    → left ≡ Some (drop read input)
+left_behind input {old} {left} {before} {read} gave known start =
+    let same : length gave.given ≡ read = omega (arith, gave.counted, start) in
+    left-known input gave.given left (sym known ∙ gave.left) ∙ ap (λ n. Some (drop n input)) same
