@@ -1,5 +1,5 @@
 -- What a clause sees of a reader of lines.
-use Rattle.std.specs.Prelude.{◌≡◌, ◌<◌, ◌≤◌, ℕ, ◌+◌, ◌-◌, List, [], ◌∷◌, ◌++◌, length, Bool, true, Option, Some, None, slice_range, vec_len}
+use Rattle.std.specs.Prelude.{◌≡◌, ◌<◌, ℕ, ◌+◌, ◌-◌, List, [], ◌∷◌, ◌++◌, length, Bool, true, Option, Some, None, slice_range, vec_len}
 use Rattle.std.specs.Borrow.{GName}
 use Rattle.std.specs.Io.KnownBytes.{prepend_known, IsAtEnd}
 use Rattle.agg_model.specs.Lines.{newline}
@@ -46,6 +46,16 @@ kept lines = lines.kept
 abbrev pub has_ended : {S : Type 0} {g : Ghosts S} → Lines S g → Bool
 has_ended lines = lines.is_ended
 
+-- From one state on to the other the source gave these bytes, and as many more count as read. `old` and `new` are what it had left.
+pub record GaveAt (old : Option (List ℕ)) (before : ℕ) (new : Option (List ℕ)) (after : ℕ) : Type 0 where
+  pub given : List ℕ
+  pub left : old ≡ prepend_known given new
+  pub counted : after ≡ before + length given
+
+-- the same of two states of a reader, whatever it answered on the way
+abbrev pub Gave : {S : Type 0} {g : Ghosts S} → Lines S g → Lines S g → Type 0
+Gave {g = g} old new = GaveAt (g.left (source_of old)) (bytes_read old) (g.left (source_of new)) (bytes_read new)
+
 -- What was read and is not handed out is the front of a line, without its newline: `bytes_read` bytes of the input hold no
 -- further whole line.
 abbrev pub IsFrontOfLine : {S : Type 0} {g : Ghosts S} → Lines S g → Type 0
@@ -58,14 +68,13 @@ Stays old new = (unread new ≡ unread old) × (position new ≡ position old) �
 
 -- what a piece of a line leaves: a longer front of the line, the whole line before its newline, or all that was left
 abbrev pub Took : {S : Type 0} {g : Ghosts S} → Lines S g → Lines S g → Option LineEnd → Type 0
-Took old new None =
-    (unread new ≡ unread old) × (vec_len old.line < vec_len new.line) × (has_ended new ≡ has_ended old) × (bytes_read old ≤ bytes_read new)
-Took old new (Some Newline) =
+Took old new None = (unread new ≡ unread old) × (vec_len old.line < vec_len new.line) × (has_ended new ≡ has_ended old) × Gave old new
+Took {g = g} old new (Some Newline) =
     (unread old ≡ prepend_known (new.line.items ++ newline ∷ []) (to_come new))
     × (fault_of (position old) (vec_len new.line) (vec_len new.line + 1) ≡ None)
-    × (bytes_read old ≤ bytes_read new + 1)
+    × GaveAt (g.left (source_of old)) (bytes_read old) (g.left (source_of new)) (bytes_read new + 1)
 Took {g = g} old new (Some Input) =
-    (unread new ≡ unread old) × IsAtEnd (to_come new) × IsAtEnd (g.left (source_of new)) × (has_ended new ≡ true) × (bytes_read old ≤ bytes_read new)
+    (unread new ≡ unread old) × IsAtEnd (to_come new) × IsAtEnd (g.left (source_of new)) × (has_ended new ≡ true) × Gave old new
 
 -- what only the handing out of a line changes; a newline that was gone over is not yet counted
 abbrev pub KeepsCounts : {S : Type 0} {g : Ghosts S} → Lines S g → Lines S g → Type 0

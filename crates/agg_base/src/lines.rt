@@ -145,7 +145,7 @@ pub struct Lines<'a, S: Source> {
 }
 
 impl<'a, S: Source> Lines<'a, S> {
-    ghost use Rattle.agg_base.specs.Lines.{source_of, source_name, to_come, unread, position, bytes_read, handed, kept, has_ended, IsFrontOfLine, Stays, Took, KeepsCounts};
+    ghost use Rattle.agg_base.specs.Lines.{source_of, source_name, to_come, unread, position, bytes_read, handed, kept, has_ended, Gave, IsFrontOfLine, Stays, Took, KeepsCounts};
 
     /// The lines of what `source` has left, of which nothing is read yet. It takes no memory.
     pub fn new(alloc: Global, source: &'a mut S, block: Block) -> Lines<'a, S>
@@ -222,6 +222,7 @@ impl<'a, S: Source> Lines<'a, S> {
         ensures none { IfOk result (λ next. IfNone next (Stays self.old self.new)) }
         ensures err { OnErr result (Stays self.old self.new) }
         ensures never_falls { S.faults (source_of self.old) ≤ S.faults (source_of self.new) }
+        ensures gave { Gave self.old self.new }
         ensures bytes_read { bytes_read self.old ≤ bytes_read self.new }
         ensures within { position self.new ≤ MAX_INPUT }
         ensures same_source { source_name self.new ≡ source_name self.old }
@@ -267,7 +268,7 @@ impl<'a, S: Source> Lines<'a, S> {
         ensures not_ended { result ≡ Err LineFault.Read → has_ended self.old ≡ false }
         ensures stays_ended { has_ended self.old ≡ true → has_ended self.new ≡ true }
         ensures err { OnErr result (unread self.new ≡ unread self.old) }
-        ensures bytes_read { OnErr result (bytes_read self.old ≤ bytes_read self.new) }
+        ensures gave { OnErr result (Gave self.old self.new) }
         ensures answer { IfErr result (λ fault. IfSome (unread self.old) (λ rest. Answers (next_of (position self.old) rest) (Err fault))) }
         ensures read { result ≡ Err LineFault.Read → Rose (S.faults (source_of self.old)) (S.faults (source_of self.new)) }
         ensures line_too_long { result ≡ Err LineFault.LineTooLong → position self.old + MAX_LINE < bytes_read self.new }
@@ -289,7 +290,7 @@ impl<'a, S: Source> Lines<'a, S> {
         ensures not_ended { result ≡ Err LineFault.Read → has_ended self.old ≡ false }
         ensures stays_ended { has_ended self.old ≡ true → has_ended self.new ≡ true }
         ensures err { OnErr result (unread self.new ≡ unread self.old) }
-        ensures bytes_read { OnErr result (bytes_read self.old ≤ bytes_read self.new) }
+        ensures gave { OnErr result (Gave self.old self.new) }
         ensures answer { IfErr result (λ fault. IfSome (unread self.old) (λ rest. Answers (next_of (position self.old) rest) (Err fault))) }
         ensures read { result ≡ Err LineFault.Read → Rose (S.faults (source_of self.old)) (S.faults (source_of self.new)) }
         ensures line_too_long { result ≡ Err LineFault.LineTooLong → position self.old + MAX_LINE < bytes_read self.new }
@@ -326,7 +327,7 @@ impl<'a, S: Source> Lines<'a, S> {
         ensures never_falls { S.faults (source_of self.old) ≤ S.faults (source_of self.new) }
         ensures line { self.new.line ≡ self.old.line }
         ensures counts { KeepsCounts self.old self.new }
-        ensures bytes_read { bytes_read self.old ≤ bytes_read self.new }
+        ensures gave { Gave self.old self.new }
     {
         if self.start < self.end {
             return Ok(true);

@@ -1,6 +1,6 @@
 //! The bulk section, action by action.
 ghost use Rattle.std.specs.Prelude.{◌≡◌, ◌≢◌, ◌≤◌, ◌<◌, ℕ, [], List, None, Some, Ok, Err, IfOk, IsTrue, is_some, OnOk};
-ghost use Rattle.agg_base.specs.Lines.{source_of as source_behind, source_name, kept, handed};
+ghost use Rattle.agg_base.specs.Lines.{source_of as source_behind, source_name, kept, handed, Gave};
 ghost use Rattle.agg_base.specs.Outside.{Rose};
 ghost use Rattle.agg_reading.specs.Script.{Loading, actions, is_delete, source_of, with_action};
 ghost use Rattle.agg_reading.specs.declared.parts.Heading.{Heading as AnyHeading};
@@ -53,6 +53,7 @@ fn next_heading<S: Source>(
     ensures room { IfOk result (λ heading. IsTrue (is_some heading) → taken < MAX_ACTIONS) }
     ensures fault { result ≡ Err Read → Rose (S.faults (source_behind lines.old)) (S.faults (source_behind lines.new)) }
     ensures never_falls { S.faults (source_behind lines.old) ≤ S.faults (source_behind lines.new) }
+    ensures gave { Gave lines.old lines.new }
     ensures kept { OnOk result (kept lines.new ≡ None) }
     ensures same_source { source_name lines.new ≡ source_name lines.old }
 {
@@ -77,6 +78,7 @@ fn source_line<S: Source>(alloc: Global, lines: &mut Lines<'_, S>) -> Result<Byt
         Steps bytes result (λ text. actions (with_action heading text now) (place_of lines.new)) lines.new }
     ensures fault { result ≡ Err Read → Rose (S.faults (source_behind lines.old)) (S.faults (source_behind lines.new)) }
     ensures never_falls { S.faults (source_behind lines.old) ≤ S.faults (source_behind lines.new) }
+    ensures gave { Gave lines.old lines.new }
     ensures kept { OnOk result (kept lines.new ≡ None) }
     ensures same_source { source_name lines.new ≡ source_name lines.old }
 {
@@ -117,6 +119,7 @@ fn source<S: Source>(
         Steps bytes result (λ text. actions (with_action heading text now) (place_of lines.new)) lines.new }
     ensures fault { result ≡ Err Read → Rose (S.faults (source_behind lines.old)) (S.faults (source_behind lines.new)) }
     ensures never_falls { S.faults (source_behind lines.old) ≤ S.faults (source_behind lines.new) }
+    ensures gave { Gave lines.old lines.new }
     ensures kept { OnOk result (kept lines.new ≡ None) }
     ensures same_source { source_name lines.new ≡ source_name lines.old }
 {
@@ -140,6 +143,7 @@ pub(crate) fn next_action<S: Source>(
     ensures room { IfOk result (λ action. IsTrue (is_some action) → taken < MAX_ACTIONS) }
     ensures fault { result ≡ Err Read → Rose (S.faults (source_behind lines.old)) (S.faults (source_behind lines.new)) }
     ensures never_falls { S.faults (source_behind lines.old) ≤ S.faults (source_behind lines.new) }
+    ensures gave { Gave lines.old lines.new }
     ensures kept { OnOk result (kept lines.new ≡ None) }
     ensures same_source { source_name lines.new ≡ source_name lines.old }
 {

@@ -1,6 +1,6 @@
 //! The index of what was loaded.
 ghost use Rattle.std.specs.Prelude.{◌≡◌, ◌≤◌, ℕ, List, None, Some, Err, IfOk, OnOk};
-ghost use Rattle.agg_base.specs.Lines.{source_of, source_name, kept, unread};
+ghost use Rattle.agg_base.specs.Lines.{source_of, source_name, kept, unread, Gave};
 ghost use Rattle.agg_base.specs.Outside.{Rose};
 ghost use Rattle.agg_reading.specs.Lines.{start};
 ghost use Rattle.agg_spec.specs.Requests.{loaded_index};
@@ -55,6 +55,7 @@ pub fn load_index<S: Source>(
     ensures script { (bytes : List ℕ) → unread lines.old ≡ Some bytes → Indexes bytes result lines.new }
     ensures fault { result ≡ Err Read → Rose (S.faults (source_of lines.old)) (S.faults (source_of lines.new)) }
     ensures never_falls { S.faults (source_of lines.old) ≤ S.faults (source_of lines.new) }
+    ensures gave { Gave lines.old lines.new }
     ensures kept { OnOk result (kept lines.new ≡ None) }
     ensures same_source { source_name lines.new ≡ source_name lines.old }
 {

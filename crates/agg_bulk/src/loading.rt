@@ -1,6 +1,6 @@
 //! Loading, with the charge of the columns.
 ghost use Rattle.std.specs.Prelude.{◌≡◌, ◌≤◌, ℕ, List, None, Some, Err, IfOk, OnOk};
-ghost use Rattle.agg_base.specs.Lines.{source_of, source_name, kept, unread};
+ghost use Rattle.agg_base.specs.Lines.{source_of, source_name, kept, unread, Gave};
 ghost use Rattle.agg_base.specs.Outside.{Rose};
 ghost use Rattle.agg_reading.specs.Lines.{start};
 ghost use Rattle.agg_spec.specs.Columns.{columns_charge, columns_refusal};
@@ -63,6 +63,7 @@ pub fn load<S: Source>(
     ensures pass { IfOk result (λ l. HoldsColumns settings.now.limits (columns_charge (index_of l.index)) l.words l.pass) }
     ensures fault { result ≡ Err Read → Rose (S.faults (source_of lines.old)) (S.faults (source_of lines.new)) }
     ensures never_falls { S.faults (source_of lines.old) ≤ S.faults (source_of lines.new) }
+    ensures gave { Gave lines.old lines.new }
     ensures kept { OnOk result (kept lines.new ≡ None) }
     ensures same_source { source_name lines.new ≡ source_name lines.old }
 {

@@ -1,6 +1,6 @@
 //! The first two sections of a script.
 ghost use Rattle.std.specs.Prelude.{◌≡◌, ◌≤◌, ℕ, List, None, Ok, Err, IfOk, OnOk, IsTrue};
-ghost use Rattle.agg_base.specs.Lines.{source_of, source_name, kept, unread};
+ghost use Rattle.agg_base.specs.Lines.{source_of, source_name, kept, unread, Gave};
 ghost use Rattle.agg_base.specs.Outside.{Rose};
 ghost use Rattle.agg_model.specs.declared.limits.TheConstants.{MAX_ACTIONS, MAX_SHARDS};
 ghost use Rattle.agg_model.specs.MappingOrder.{IsOrdered};
@@ -46,6 +46,7 @@ fn index_line<S: Source>(alloc: Global, lines: &mut Lines<'_, S>) -> Result<Inde
     ensures paths { IfOk result (λ index. IsTrue (parents_before index.mapping)) }
     ensures fault { result ≡ Err Read → Rose (S.faults (source_of lines.old)) (S.faults (source_of lines.new)) }
     ensures never_falls { S.faults (source_of lines.old) ≤ S.faults (source_of lines.new) }
+    ensures gave { Gave lines.old lines.new }
     ensures kept { OnOk result (kept lines.new ≡ None) }
     ensures same_source { source_name lines.new ≡ source_name lines.old }
 {
@@ -69,6 +70,7 @@ fn empty_line<S: Source>(alloc: Global, lines: &mut Lines<'_, S>) -> Result<(), 
         Steps bytes result (λ _. actions (begun index) (place_of lines.new)) lines.new }
     ensures fault { result ≡ Err Read → Rose (S.faults (source_of lines.old)) (S.faults (source_of lines.new)) }
     ensures never_falls { S.faults (source_of lines.old) ≤ S.faults (source_of lines.new) }
+    ensures gave { Gave lines.old lines.new }
     ensures kept { OnOk result (kept lines.new ≡ None) }
     ensures same_source { source_name lines.new ≡ source_name lines.old }
 {
@@ -93,6 +95,7 @@ fn bulk_actions<S: Source>(
     ensures fitting { IfOk result (λ sections. IsFitting sections.index.mapping sections.store) }
     ensures fault { result ≡ Err Read → Rose (S.faults (source_of lines.old)) (S.faults (source_of lines.new)) }
     ensures never_falls { S.faults (source_of lines.old) ≤ S.faults (source_of lines.new) }
+    ensures gave { Gave lines.old lines.new }
     ensures kept { OnOk result (kept lines.new ≡ None) }
     ensures same_source { source_name lines.new ≡ source_name lines.old }
 {
@@ -122,6 +125,7 @@ pub fn load_sections<S: Source>(
     ensures indexed { IfOk result (λ sections. IsIndexed (loaded_of sections.index sections.store)) }
     ensures fault { result ≡ Err Read → Rose (S.faults (source_of lines.old)) (S.faults (source_of lines.new)) }
     ensures never_falls { S.faults (source_of lines.old) ≤ S.faults (source_of lines.new) }
+    ensures gave { Gave lines.old lines.new }
     ensures kept { OnOk result (kept lines.new ≡ None) }
     ensures same_source { source_name lines.new ≡ source_name lines.old }
 {

@@ -1,7 +1,7 @@
 //! The next entry of a script.
 ghost use Rattle.std.specs.Prelude.{◌≡◌, ◌≤◌, ◌<◌, ℕ, List, None, Some, Ok, Err, IfOk, IfNone, OnOk, OnSome};
 ghost use Rattle.std.specs.Io.KnownBytes.{IsAtEnd};
-ghost use Rattle.agg_base.specs.Lines.{source_of, source_name, kept, position};
+ghost use Rattle.agg_base.specs.Lines.{source_of, source_name, kept, position, Gave};
 ghost use Rattle.agg_base.specs.Outside.{Rose};
 ghost use Rattle.agg_model.specs.Lines.{Line};
 ghost use Rattle.agg_reading.specs.Entries.{Entries, body_of};
@@ -38,6 +38,7 @@ fn next_header<S: Source>(
     ensures formed { IfOk result IsFormedHeader }
     ensures fault { result ≡ Err Read → Rose (S.faults (source_of lines.old)) (S.faults (source_of lines.new)) }
     ensures never_falls { S.faults (source_of lines.old) ≤ S.faults (source_of lines.new) }
+    ensures gave { Gave lines.old lines.new }
     ensures kept { OnOk result (kept lines.new ≡ None) }
     ensures same_source { source_name lines.new ≡ source_name lines.old }
     ensures moves { IfOk result (λ header. OnSome header (position lines.old < position lines.new)) }
@@ -60,6 +61,7 @@ fn next_body<S: Source>(alloc: Global, lines: &mut Lines<'_, S>) -> Result<Bytes
         GoesOn whole bytes (λ later. behind before (body_of (place_of lines.old) later)) lines.old → Bodies whole bytes before result lines.new }
     ensures fault { result ≡ Err Read → Rose (S.faults (source_of lines.old)) (S.faults (source_of lines.new)) }
     ensures never_falls { S.faults (source_of lines.old) ≤ S.faults (source_of lines.new) }
+    ensures gave { Gave lines.old lines.new }
     ensures kept { OnOk result (kept lines.new ≡ None) }
     ensures same_source { source_name lines.new ≡ source_name lines.old }
     ensures moves { OnOk result (position lines.old < position lines.new) }
@@ -88,6 +90,7 @@ pub fn next_entry<S: Source>(
     ensures formed { IfOk result IsFormed }
     ensures fault { result ≡ Err Read → Rose (S.faults (source_of lines.old)) (S.faults (source_of lines.new)) }
     ensures never_falls { S.faults (source_of lines.old) ≤ S.faults (source_of lines.new) }
+    ensures gave { Gave lines.old lines.new }
     ensures kept { OnOk result (kept lines.new ≡ None) }
     ensures same_source { source_name lines.new ≡ source_name lines.old }
     ensures moves { IfOk result (λ entry. OnSome entry (position lines.old < position lines.new)) }

@@ -1,7 +1,7 @@
 //! The next line of a script.
 ghost use Rattle.std.specs.Prelude.{◌≡◌, ◌≢◌, ◌≤◌, ◌<◌, ◌+◌, ℕ, [], List, None, Some, Ok, Err, IfOk, IfErr, IfSome, IfNone, OnOk, OnSome};
 ghost use Rattle.std.specs.Io.KnownBytes.{IsAtEnd};
-ghost use Rattle.agg_base.specs.Lines.{source_of, source_name, kept, handed, position, unread, bytes_read, has_ended};
+ghost use Rattle.agg_base.specs.Lines.{source_of, source_name, kept, handed, position, unread, bytes_read, has_ended, Gave};
 ghost use Rattle.agg_base.specs.Outside.{Rose};
 ghost use Rattle.agg_model.specs.Lines.{Line};
 ghost use Rattle.agg_reading.specs.Lines.{is_empty_line};
@@ -62,6 +62,7 @@ pub fn next_line<S: Source>(
 
     ensures fault { result ≡ Err Read → Rose (S.faults (source_of lines.old)) (S.faults (source_of lines.new)) }
     ensures never_falls { S.faults (source_of lines.old) ≤ S.faults (source_of lines.new) }
+    ensures gave { Gave lines.old lines.new }
     ensures kept { OnOk result (kept lines.new ≡ None) }
     ensures same_source { source_name lines.new ≡ source_name lines.old }
     ensures moves { IfOk result (λ line. OnSome line (position lines.old < position lines.new)) }
@@ -96,6 +97,7 @@ pub fn take_line<S: Source>(
 
     ensures fault { result ≡ Err Read → Rose (S.faults (source_of lines.old)) (S.faults (source_of lines.new)) }
     ensures never_falls { S.faults (source_of lines.old) ≤ S.faults (source_of lines.new) }
+    ensures gave { Gave lines.old lines.new }
     ensures kept { OnOk result (kept lines.new ≡ None) }
     ensures same_source { source_name lines.new ≡ source_name lines.old }
     ensures moves { OnOk result (position lines.old < position lines.new) }

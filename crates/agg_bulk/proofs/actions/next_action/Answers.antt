@@ -1,5 +1,6 @@
 use Rattle.std.proofs.Common.{refl, subst}
 use Rattle.std.proofs.lemmas.Result.{err_from_is_err_and}
+use Rattle.agg_base.proofs.Gave.{gave_then}
 use Rattle.agg_base.specs.Lines.{unread, position, has_ended}
 use Rattle.agg_reading.specs.Script.{Loading, actions}
 use Rattle.agg_bulk.specs.Loading.{GoesOnAt}
@@ -24,3 +25,9 @@ returns-clause-script g c bytes now named counted goes_on =
     subst (λ (l : Loading). GoesOnAt bytes (actions l (place_of c.source.new.lines)) (unread c.source.new.lines) (position c.source.new.lines) (has_ended c.source.new.lines))
     (as_action c.in-Some.heading c.in_ok-source.source now)
     (c.in_ok-source.ensures.script bytes now c.in-Some.heading refl read)
+
+pub returns-in_err-source-clause-gave : goal.returns-in_err-source-clause-gave
+returns-in_err-source-clause-gave g c = gave_then c.next_heading.ensures.gave c.source.ensures.gave
+
+pub returns-clause-gave : goal.returns-clause-gave
+returns-clause-gave g c = gave_then c.next_heading.ensures.gave c.source.ensures.gave

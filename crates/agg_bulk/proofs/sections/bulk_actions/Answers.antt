@@ -1,5 +1,6 @@
 use Rattle.std.proofs.Common.{rules, arith, ◌≡◌, ◌∙◌, length, refl, sym, ap}
 use Rattle.std.proofs.lemmas.Result.{err_from_is_err_and}
+use Rattle.agg_base.proofs.Gave.{gave_nothing, gave_then}
 use Rattle.agg_reading.specs.Store.{applied}
 use Rattle.fitting_laws.proofs.Stores.{applied_fits}
 use Rattle.agg_bulk.proofs.FittingLemmas.{empty_fits, still_fits}
@@ -12,6 +13,7 @@ pub loop-items-init : goal.loop-items-init
 loop-items-init g c = record {
   kept = c.requires.kept;
   never_falls = search rules;
+  gave = gave_nothing;
   same_source = refl;
   index = refl;
   few = let none : length c.new-items.result ≡ 0 = ap length c.new-items.ensures in omega arith;
@@ -41,6 +43,7 @@ loop-items-preserved g c =
       kept = c.in_ok-action.ensures.kept;
       never_falls = omega (arith, before.never_falls, c.in_ok-action.ensures.never_falls);
       same_source = c.in_ok-action.ensures.same_source ∙ before.same_source;
+      gave = gave_then before.gave c.in_ok-action.ensures.gave;
       index = before.index;
       few = omega (arith, more, c.len.ensures, room refl);
       fitting =
@@ -58,3 +61,12 @@ returns-clause-script g c bytes goes_on =
 
 pub returns-clause-fitting : goal.returns-clause-fitting
 returns-clause-fitting g c = c.loop-items.invariant.fitting
+
+pub returns-in_err-action-clause-gave : goal.returns-in_err-action-clause-gave
+returns-in_err-action-clause-gave g c = gave_then c.loop-items.invariant.gave c.next_action.ensures.gave
+
+pub returns-in_err-apply-clause-gave : goal.returns-in_err-apply-clause-gave
+returns-in_err-apply-clause-gave g c = gave_then c.loop-items.invariant.gave c.next_action.ensures.gave
+
+pub returns-clause-gave : goal.returns-clause-gave
+returns-clause-gave g c = gave_then c.loop-items.invariant.gave c.next_action.ensures.gave

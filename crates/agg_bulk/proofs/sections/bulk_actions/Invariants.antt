@@ -1,5 +1,5 @@
 use Rattle.std.proofs.Common.{◌≡◌, ◌≤◌, ℕ, List, None, ◌+◌, ◌-◌, length}
-use Rattle.agg_base.specs.Lines.{source_of, source_name, kept}
+use Rattle.agg_base.specs.Lines.{source_of, source_name, kept, Gave}
 use Rattle.agg_model.specs.declared.limits.TheConstants.{MAX_ACTIONS}
 use Rattle.agg_reading.specs.Script.{actions, begun}
 use Rattle.fitting_laws.specs.Stores.{IsFitting}
@@ -12,6 +12,7 @@ pub record Doing (g : goal.Over) (l : goal.Live-loop-items g) : Type 0 where
   pub kept : kept l.lines ≡ None
   pub never_falls : g.S.Source.faults (source_of l.fn.lines) ≤ g.S.Source.faults (source_of l.lines)
   pub same_source : source_name l.lines ≡ source_name l.fn.lines
+  pub gave : Gave l.fn.lines l.lines
   pub index : l.index ≡ l.fn.index
   pub few : length l.items ≤ MAX_ACTIONS
   pub fitting : IsFitting l.index.mapping l.store

@@ -1,4 +1,5 @@
 use Rattle.std.proofs.lemmas.Result.{err_from_is_err_and}
+use Rattle.agg_base.proofs.Gave.{gave_then}
 use Rattle.agg_base.specs.Lines.{has_ended}
 use Rattle.script_lines.specs.Steps.{place_of}
 use Rattle.agg_bulk.proofs.FittingLemmas.{indexed}
@@ -23,3 +24,9 @@ returns-clause-script g c bytes is =
 
 pub returns-clause-indexed : goal.returns-clause-indexed
 returns-clause-indexed g c = indexed c.in_ok-index.index c.bulk_actions.result c.in_ok-index.ensures.ordered c.in_ok-index.ensures.paths c.in_ok-index.ensures.shards c.bulk_actions.ensures.index c.bulk_actions.ensures.fitting
+
+pub returns-in_err-empty_line-clause-gave : goal.returns-in_err-empty_line-clause-gave
+returns-in_err-empty_line-clause-gave g c = gave_then c.index_line.ensures.gave c.empty_line.ensures.gave
+
+pub returns-clause-gave : goal.returns-clause-gave
+returns-clause-gave g c = gave_then c.index_line.ensures.gave (gave_then c.empty_line.ensures.gave c.bulk_actions.ensures.gave)

@@ -1,5 +1,6 @@
 use Rattle.std.proofs.Common.{◌≡◌, ◌∙◌, ℕ, List, Some, None, Ok, sym, ap, subst, arith}
 use Rattle.std.proofs.lemmas.Result.{err_from_is_err_and}
+use Rattle.agg_base.proofs.Gave.{gave_then}
 use Rattle.agg_base.specs.Lines.{position}
 use Rattle.agg_reading.specs.Lines.{is_empty_line}
 use Rattle.script_lines.specs.Faults.{Fails}
@@ -45,6 +46,7 @@ loop-line-preserved g c =
       kept = c.in_ok-line.ensures.kept;
       never_falls = omega (arith, before_line.never_falls, c.in_ok-line.ensures.never_falls);
       same_source = c.in_ok-line.ensures.same_source ∙ before_line.same_source;
+      gave = gave_then before_line.gave c.in_ok-line.ensures.gave;
       goes_on = omega (arith, before_line.goes_on, moved);
       within = c.in_ok-line.ensures.within;
       so_far = λ bytes whole before read.
@@ -58,3 +60,15 @@ loop-line-preserved g c =
 pub returns-clause-script : goal.returns-clause-script
 returns-clause-script g c bytes whole before read =
     no_header whole bytes before _ _ _ _ (c.loop-line.invariant.so_far bytes whole before read) _ _ (rw c.in_default.is at c.in_ok-line.ensures.line)
+
+pub returns-in_err-line-clause-gave : goal.returns-in_err-line-clause-gave
+returns-in_err-line-clause-gave g c = gave_then c.loop-line.invariant.gave c.next_line.ensures.gave
+
+pub returns-in_err-header-clause-gave : goal.returns-in_err-header-clause-gave
+returns-in_err-header-clause-gave g c = gave_then c.loop-line.invariant.gave c.next_line.ensures.gave
+
+pub returns-then-not-is_empty_line-clause-gave : goal.returns-then-not-is_empty_line-clause-gave
+returns-then-not-is_empty_line-clause-gave g c = gave_then c.loop-line.invariant.gave c.next_line.ensures.gave
+
+pub returns-clause-gave : goal.returns-clause-gave
+returns-clause-gave g c = gave_then c.loop-line.invariant.gave c.next_line.ensures.gave

@@ -1,5 +1,5 @@
 use Rattle.std.proofs.Common.{◌≡◌, ◌≤◌, ◌-◌, ℕ, List, None}
-use Rattle.agg_base.specs.Lines.{source_of, source_name, kept, position}
+use Rattle.agg_base.specs.Lines.{source_of, source_name, kept, position, Gave}
 use Rattle.agg_model.specs.Lines.{Line}
 use Rattle.agg_model.specs.declared.limits.TheConstants.{MAX_INPUT}
 use Rattle.agg_reading.specs.Entries.{Entries}
@@ -12,6 +12,7 @@ pub record Passing (g : goal.Over) (l : goal.Live-loop-line g) : Type 0 where
   pub kept : kept l.lines ≡ None
   pub never_falls : g.S.Source.faults (source_of l.fn.lines) ≤ g.S.Source.faults (source_of l.lines)
   pub same_source : source_name l.lines ≡ source_name l.fn.lines
+  pub gave : Gave l.fn.lines l.lines
   pub goes_on : position l.fn.lines ≤ position l.lines
   pub within : position l.lines ≤ MAX_INPUT
   pub so_far : (bytes : List ℕ) (whole : List Line → Entries) (before : List Defined) → HasRead whole bytes before l.fn.lines → HasRead whole bytes before l.lines

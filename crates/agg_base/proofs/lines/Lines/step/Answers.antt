@@ -5,6 +5,7 @@ use Rattle.std.proofs.lemmas.Result.{err_from_is_err_and}
 use Rattle.agg_base.specs.Cut.{first_line, fault_of}
 use Rattle.agg_base.proofs.StepLemmas.{refused_unread, ended_piece, open_piece, after_piece, length-ahead, nothing_ahead}
 use Rattle.agg_base.proofs.CutLemmas.{length-first_line-le}
+use Rattle.agg_base.proofs.Gave.{gave_as}
 use Rattle.agg_base.proofs.lines.Lines.step.Goals as goal
 
 pub returns-in_err-place-clause-answer : goal.returns-in_err-place-clause-answer
@@ -42,7 +43,7 @@ returns-then-is_ended-clause-took g c =
           (subst (λ n. n < length ahead) place below)
           (after_piece seen now.buffer.items now.start now.end c.in_ok-place.place (length (first_line ahead)) c.as_slice.ensures.value place (omega (arith, long, below))),
       ap (λ n. fault_of n (vec_len c.take_piece.new.line) (vec_len c.take_piece.new.line + 1)) (sym c.fill.ensures.counts.0) ∙ c.in_ok-place.ensures.ended below,
-      omega (arith, c.fill.ensures.bytes_read, c.in_ok-place.ensures.grown, ap (λ v. vec_len v) c.fill.ensures.line, long, below),
+      gave_as c.fill.ensures.gave (omega (arith, c.in_ok-place.ensures.grown, ap (λ v. vec_len v) c.fill.ensures.line, c.fill.ensures.counts.0, long, below)),
     )
 
 pub invariant_of-self-else-is_ended-clause-ordered : goal.invariant_of-self-else-is_ended-clause-ordered
@@ -71,5 +72,5 @@ returns-clause-took g c =
           ∙ ap (prepend_known was.line.items) c.fill.ensures.to_come,
       omega (arith, c.in_ok-place.ensures.grown, ap (λ v. vec_len v) c.fill.ensures.line, all, long, is_ahead),
       c.in_ok-fill.ensures.goes_on c.if-not-branch.false,
-      omega (arith, c.fill.ensures.bytes_read, c.in_ok-place.ensures.grown, ap (λ v. vec_len v) c.fill.ensures.line, used),
+      gave_as c.fill.ensures.gave (omega (arith, c.in_ok-place.ensures.grown, ap (λ v. vec_len v) c.fill.ensures.line, c.fill.ensures.counts.0, used, now.ordered)),
     )
