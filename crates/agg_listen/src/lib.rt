@@ -2,6 +2,7 @@
 #![tactic(auto)]
 
 mod audience;
+mod large_answers;
 pub mod laws;
 mod list_listener;
 mod listener;
@@ -9,5 +10,6 @@ mod listener;
 mod tests;
 
 pub use audience::Audience;
+pub use large_answers::LargeAnswers;
 pub use list_listener::ListListener;
 pub use listener::{Keep, Listener, Told};
