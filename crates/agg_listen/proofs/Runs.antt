@@ -1,5 +1,5 @@
 -- Listeners that are told of several answers.
-use Rattle.std.proofs.Common.{◌≡◌, refl, ap, sym, ◌∙◌, ℕ, zero, suc, ◌-◌, List, [], ◌∷◌, ◌++◌, append_assoc, map, length, Bool, ◌&&◌, ◌||◌, true, false, Option, Some, None, nat_le, nat_lt, cond, arith}
+use Rattle.std.proofs.Common.{◌≡◌, refl, ap, sym, ◌∙◌, ℕ, suc, ◌-◌, List, [], ◌∷◌, ◌++◌, append_assoc, map, length, Bool, ◌&&◌, ◌||◌, true, false, Option, Some, None, nat_le, cond, arith}
 use Rattle.std.proofs.lemmas.Bool.Decides.{nat_tests}
 use Rattle.std.specs.List.{filter}
 use Rattle.agg_listen.specs.Standing.{Standing, stays, stays_for, having_heard, having_heard_all, all_having_heard, all_having_heard_each}

@@ -1,2 +1,3 @@
 -- Listeners.
+pub mod Hearing
 pub mod Standing

@@ -1,5 +1,5 @@
 -- Listeners: who stays when an answer is told, and what each has heard. The program's own.
-use Rattle.std.specs.Prelude.{ℕ, ◌+◌, ◌-◌, nat_lt, nat_le, Bool, ◌||◌, List, [], ◌∷◌, ◌++◌, map, length, Option, if◌then◌else◌}
+use Rattle.std.specs.Prelude.{ℕ, ◌-◌, nat_lt, nat_le, Bool, ◌||◌, List, [], ◌∷◌, ◌++◌, map, length, Option, if◌then◌else◌}
 use Rattle.std.specs.Option.{option_map}
 use Rattle.std.specs.List.{filter}
 use Rattle.agg_listen.specs.declared.listener.Told.{Told}

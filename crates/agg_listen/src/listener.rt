@@ -1,8 +1,8 @@
-//! Listeners, and the telling of an answer to each of them.
-ghost use Rattle.std.specs.Prelude.{◌≡◌, ◌↔◌, ℕ, List, Option, map, false, IsTrue};
+//! Listeners.
+ghost use Rattle.std.specs.Prelude.{◌≡◌, ◌↔◌, List, Option, false};
 ghost use Rattle.std.specs.Option.{option_and_then};
 ghost use Rattle.std.specs.List.{slice_get};
-ghost use Rattle.agg_listen.specs.Standing.{Standing, stays, having_heard, all_having_heard};
+ghost use Rattle.agg_listen.specs.Standing.{Standing, stays, having_heard};
 ghost use Rattle.agg_listen.specs.declared.listener.Keep.TheVariants.{Stay, Leave};
 
 /// Whether a listener is to be told of later answers too.
@@ -38,24 +38,4 @@ pub trait Listener: Drop {
     /// What it heard at this place, from 0; none behind the last, and where it does not tell.
     fn entry(&self, place: usize) -> Option<Told>
         ensures { result ≡ option_and_then (λ heard. slice_get heard place) (standing self.now).heard };
-}
-
-/// Tells one listener, and answers whether it stays.
-fn is_kept(listener: &mut Box<dyn Listener>, told: Told) -> bool
-    ensures stays { result ≡ stays (standing listener.old) }
-    ensures heard { IsTrue result → standing listener.new ≡ having_heard told (standing listener.old) }
-{
-    listener.hear(told) == Keep::Stay
-}
-
-/// Tells each listener in turn, once. Those that leave are dropped, and the others stay in their order. It takes no
-/// memory, and time in proportion to the number of listeners.
-pub fn tell(listeners: &mut Vec<Box<dyn Listener>>, told: Told)
-    ensures { map (λ listener. standing listener) listeners.new.items ≡ all_having_heard told (map (λ listener. standing listener) listeners.old.items) }
-{
-    let keeps = move |listener: &mut Box<dyn Listener>| -> bool
-        ensures stays { result ≡ stays (standing listener.entry.now) }
-        ensures heard { IsTrue result → standing listener.exit.now ≡ having_heard told (standing listener.entry.now) }
-    { is_kept(listener, told) };
-    listeners.retain_mut(keeps);
 }

@@ -18,6 +18,7 @@ use Rattle.agg_spec.specs.Answers.{Recent, IsAllowed, AreRounds, with_rounds, ch
 use Rattle.agg_spec.specs.Written.{Line, settings, statistics, round_lines}
 use Rattle.agg_spec.specs.Output.{refusal_line}
 use Rattle.script_entries.specs.Reading.{behind}
+use Rattle.script_answers.specs.Outputs.{Output}
 use Rattle.script_answers.specs.Puts.{Stops}
 use Rattle.script_answers.specs.Rest.{IsRest, EndsWell, EndsEarly}
 use Rattle.script_answers.specs.Stepping.{bodies_of, IsReady, TakesEntry, StopsAt, Finishes}
@@ -34,7 +35,7 @@ module _ (words : Settings) (index : Index) (columns : ℕ) where
   -- ---- a step that stops
 
   -- lines that answer entries, of which the first ones were written
-  pub stops-within : (recent now : Recent) (answered : List Entry) (lines : List Line) (before after : Option (List ℕ)) (stop : Stop)
+  pub stops-within : (recent now : Recent) (answered : List Entry) (lines : List Line) (before after : Output) (stop : Stop)
       → Leads changed words index columns recent answered lines now → Stops before after lines stop → (left : Entries) → StopsAt words index columns recent (behind answered left) before after stop
   stops-within recent now answered lines before after Write leads stops left =
       (stops.done, stops.next, stops.wrote, cut-within changed words index columns recent now answered lines leads left stops.done stops.others stops.next stops.are)
@@ -42,7 +43,7 @@ module _ (words : Settings) (index : Index) (columns : ℕ) where
       (stops.done, stops.next, stops.wrote, cut-within changed words index columns recent now answered lines leads left stops.done stops.others stops.next stops.are)
 
   -- a rest of which the first lines were written
-  pub stops-rest : (recent : Recent) (left : Entries) (status : ℕ) (lines : List Line) (before after : Option (List ℕ)) (stop : Stop)
+  pub stops-rest : (recent : Recent) (left : Entries) (status : ℕ) (lines : List Line) (before after : Output) (stop : Stop)
       → IsRest changed words index columns recent left status lines → Stops before after lines stop → StopsAt words index columns recent left before after stop
   stops-rest recent left status lines before after Write rest stops =
       (stops.done, stops.next, stops.wrote, record { later = stops.others; status = status; rest = subst (IsRest changed words index columns recent left status) stops.are rest })
@@ -50,13 +51,13 @@ module _ (words : Settings) (index : Index) (columns : ℕ) where
       (stops.done, stops.next, stops.wrote, record { later = stops.others; status = status; rest = subst (IsRest changed words index columns recent left status) stops.are rest })
 
   -- nothing was written
-  pub stops-here : (recent : Recent) (left : Entries) (before : Option (List ℕ)) → StopsAt words index columns recent left before before Memory
+  pub stops-here : (recent : Recent) (left : Entries) (before : Output) → StopsAt words index columns recent left before before Memory
   stops-here recent left before =
       let more = some-rest changed words index columns recent left in
       ([], more.next, wrote-nothing before, more.cut)
 
   -- behind lines that were written
-  pub stops-later : (recent now : Recent) (answered : List Entry) (lines : List Line) (start before after : Option (List ℕ)) (stop : Stop) (left : Entries)
+  pub stops-later : (recent now : Recent) (answered : List Entry) (lines : List Line) (start before after : Output) (stop : Stop) (left : Entries)
       → Leads changed words index columns recent answered lines now → WroteLines start before lines → StopsAt words index columns now left before after stop
       → StopsAt words index columns recent (behind answered left) start after stop
   stops-later recent now answered lines start before after Write left leads wrote stops =
@@ -67,7 +68,7 @@ module _ (words : Settings) (index : Index) (columns : ℕ) where
   -- ---- a search
 
   -- a wave that is not full yet
-  pub still-waiting : (recent : Recent) (wave now : List (List ℕ)) (text : List ℕ) (before : Option (List ℕ)) → now ≡ wave ++ text ∷ []
+  pub still-waiting : (recent : Recent) (wave now : List (List ℕ)) (text : List ℕ) (before : Output) → now ≡ wave ++ text ∷ []
       → TakesEntry words index columns recent wave (body text) before before recent now
   still-waiting recent wave now text before is = record {
     answered = [];
@@ -77,7 +78,7 @@ module _ (words : Settings) (index : Index) (columns : ℕ) where
     wrote = wrote-nothing before;
   }
 
-  module _ (recent now : Recent) (wave full : List (List ℕ)) (text : List ℕ) (before after : Option (List ℕ)) (ready : IsReady words recent wave)
+  module _ (recent now : Recent) (wave full : List (List ℕ)) (text : List ℕ) (before after : Output) (ready : IsReady words recent wave)
       (is : full ≡ wave ++ text ∷ []) (enough : words.width ≤ length full) where
     wave-length : length (map (request_of index) full) ≡ recent.settings.width
     wave-length = let l = ap length is ∙ length-append wave (text ∷ []) in
@@ -109,7 +110,7 @@ module _ (words : Settings) (index : Index) (columns : ℕ) where
 
   -- ---- a settings line
 
-  module _ (recent : Recent) (wave : List (List ℕ)) (line : Data) (before mid after : Option (List ℕ)) where
+  module _ (recent : Recent) (wave : List (List ℕ)) (line : Data) (before mid after : Output) where
     abbrev changed_line : Recent → Line
     changed_line now = settings (changed_by changed words index columns now line)
 
@@ -147,7 +148,7 @@ module _ (words : Settings) (index : Index) (columns : ℕ) where
 
   -- ---- the end of the script
 
-  module _ (recent : Recent) (wave : List (List ℕ)) (before mid after : Option (List ℕ)) where
+  module _ (recent : Recent) (wave : List (List ℕ)) (before mid after : Output) where
     rest-well : (rounds : List Round) (t : Totals) → AreRounds index columns (IsAllowed index columns) recent.settings (map (request_of index) wave) rounds
         → AreTotals recent.settings index columns (with_rounds rounds recent).rounds t
         → EndsWell changed words index columns recent (behind (bodies_of wave) no_more) (round_lines rounds ++ statistics t ∷ [])
@@ -198,7 +199,7 @@ module _ (words : Settings) (index : Index) (columns : ℕ) where
   short-unanswered recent wave refused last ready =
       ends-early changed words index columns recent wave refused last (subst (λ n. 1 ≤ n) (sym ready.wide) ready.some) ready.wide ready.short
 
-  pub refusal-stops : (recent : Recent) (wave : List (List ℕ)) (r : ScriptRefusal) (before after : Option (List ℕ)) (stop : Stop) → IsReady words recent wave
+  pub refusal-stops : (recent : Recent) (wave : List (List ℕ)) (r : ScriptRefusal) (before after : Output) (stop : Stop) → IsReady words recent wave
       → Stops before after (refusal_line r ∷ []) stop → StopsAt words index columns recent (behind (bodies_of wave) (refused_with r)) before after stop
   refusal-stops recent wave r before after stop ready stops =
       stops-rest recent (behind (bodies_of wave) (refused_with r)) 5 (refusal_line r ∷ []) before after stop (inr (refl, short-unanswered recent wave (Some r) (refusal_line r ∷ []) ready)) stops

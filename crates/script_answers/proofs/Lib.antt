@@ -2,6 +2,7 @@ pub mod Batches
 pub mod Completing
 pub mod Ending
 pub mod Forming
+pub mod Hearing
 pub mod Leading
 pub mod Putting
 pub mod Sections

@@ -16,6 +16,7 @@ use Rattle.script_lines.specs.Faults.{refusal_of}
 use Rattle.script_lines.specs.declared.fault.ScriptFault.{ScriptFault}
 use Rattle.script_lines.specs.declared.fault.ScriptFault.TheVariants as fault
 use Rattle.script_answers.specs.Ends.{end_of, PutsLast, EndsAt}
+use Rattle.script_answers.specs.Outputs.{Output}
 use Rattle.script_answers.specs.Rest.{EndsEarly, EndsWell, EndsRefused}
 use Rattle.script_answers.specs.Stepping.{bodies_of, IsReady, TakesEntry, StopsAt, Finishes}
 use Rattle.script_answers.specs.Steps.{Leads, WroteLines, Wrote}
@@ -29,7 +30,7 @@ use Rattle.script_answers.proofs.Stepping.{nothing-leads, leads-on}
 
 module _ (words : Settings) (index : Index) (columns : ℕ) where
   -- the entries that were answered, and their lines
-  pub record SoFar (whole : List InputLine → Entries) (bytes : List ℕ) (start now : Recent) (wave : List (List ℕ)) (before after : Option (List ℕ)) (place : Place)
+  pub record SoFar (whole : List InputLine → Entries) (bytes : List ℕ) (start now : Recent) (wave : List (List ℕ)) (before after : Output) (place : Place)
       (left : Option (List ℕ)) (count : ℕ) (is_ended : Bool) : Type 0 where
     pub answered : List Entry
     pub written : List Line
@@ -38,7 +39,7 @@ module _ (words : Settings) (index : Index) (columns : ℕ) where
     pub read : GoesOnAt whole bytes (then_entries (answered ++ bodies_of wave) place) left count is_ended
 
   -- nothing was answered yet
-  pub so-started : (whole : List InputLine → Entries) (bytes : List ℕ) (start : Recent) (before : Option (List ℕ)) (place : Place) (left : Option (List ℕ)) (count : ℕ) (is_ended : Bool)
+  pub so-started : (whole : List InputLine → Entries) (bytes : List ℕ) (start : Recent) (before : Output) (place : Place) (left : Option (List ℕ)) (count : ℕ) (is_ended : Bool)
       → GoesOnAt whole bytes (then_entries [] place) left count is_ended → SoFar whole bytes start start [] before before place left count is_ended
   so-started whole bytes start before place left count is_ended read = record {
     answered = [];
@@ -48,12 +49,12 @@ module _ (words : Settings) (index : Index) (columns : ℕ) where
     read = read;
   }
 
-  stop-wrote : (start : Recent) (left read : Entries) (before after : Option (List ℕ)) (stop : Stop) → StopsAt words index columns start left before after stop
+  stop-wrote : (start : Recent) (left read : Entries) (before after : Output) (stop : Stop) → StopsAt words index columns start left before after stop
       → Wrote changed words index columns start left read (end_of stop) before after
   stop-wrote start left read before after Write stops = stops
   stop-wrote start left read before after Memory stops = stops
 
-  module _ (whole : List InputLine → Entries) (bytes : List ℕ) (start now : Recent) (wave : List (List ℕ)) (before mid : Option (List ℕ)) (place : Place)
+  module _ (whole : List InputLine → Entries) (bytes : List ℕ) (start now : Recent) (wave : List (List ℕ)) (before mid : Output) (place : Place)
       (left : Option (List ℕ)) (count : ℕ) (is_ended : Bool) (so : SoFar whole bytes start now wave before mid place left count is_ended) where
     -- the same entries, those that wait taken apart from those that were answered
     apart : (es : List Entry) (later : Entries) → behind ((so.answered ++ bodies_of wave) ++ es) later ≡ behind so.answered (behind (bodies_of wave ++ es) later)
@@ -63,7 +64,7 @@ module _ (words : Settings) (index : Index) (columns : ℕ) where
     apart-here : (later : Entries) → behind (so.answered ++ bodies_of wave) later ≡ behind so.answered (behind (bodies_of wave) later)
     apart-here later = ap (λ (xs : List Entry). record { entries = xs; refused = later.refused }) (append_assoc so.answered (bodies_of wave) later.entries)
 
-    stopped-later : (after : Option (List ℕ)) (rest read : Entries) (stop : Stop) → whole (lines bytes) ≡ behind so.answered rest → StopsAt words index columns now rest mid after stop
+    stopped-later : (after : Output) (rest read : Entries) (stop : Stop) → whole (lines bytes) ≡ behind so.answered rest → StopsAt words index columns now rest mid after stop
         → Wrote changed words index columns start (whole (lines bytes)) read (end_of stop) before after
     stopped-later after rest read stop is stops =
         stop-wrote start (whole (lines bytes)) read before after stop
@@ -71,7 +72,7 @@ module _ (words : Settings) (index : Index) (columns : ℕ) where
         (stops-later words index columns start now so.answered so.written before mid after stop rest so.leads so.wrote stops))
 
     -- one more entry
-    pub so-more : (e : Entry) (next : Recent) (still : List (List ℕ)) (after : Option (List ℕ)) (here : Place) (new_left : Option (List ℕ)) (new_count : ℕ) (now_ended : Bool)
+    pub so-more : (e : Entry) (next : Recent) (still : List (List ℕ)) (after : Output) (here : Place) (new_left : Option (List ℕ)) (new_count : ℕ) (now_ended : Bool)
         → GoesOnAt whole bytes (then_entries ((so.answered ++ bodies_of wave) ++ e ∷ []) here) new_left new_count now_ended
         → TakesEntry words index columns now wave e mid after next still → SoFar whole bytes start next still before after here new_left new_count now_ended
     so-more e next still after here new_left new_count now_ended read takes = record {
@@ -84,7 +85,7 @@ module _ (words : Settings) (index : Index) (columns : ℕ) where
     }
 
     -- one more entry, whose lines were not all written
-    pub so-stopped : (e : Entry) (after : Option (List ℕ)) (here : Place) (new_left : Option (List ℕ)) (new_count : ℕ) (now_ended : Bool) (read : Entries) (stop : Stop)
+    pub so-stopped : (e : Entry) (after : Output) (here : Place) (new_left : Option (List ℕ)) (new_count : ℕ) (now_ended : Bool) (read : Entries) (stop : Stop)
         → GoesOnAt whole bytes (then_entries ((so.answered ++ bodies_of wave) ++ e ∷ []) here) new_left new_count now_ended
         → ((rest : Entries) → StopsAt words index columns now (behind (bodies_of wave ++ e ∷ []) rest) mid after stop)
         → Wrote changed words index columns start (whole (lines bytes)) read (end_of stop) before after
@@ -94,7 +95,7 @@ module _ (words : Settings) (index : Index) (columns : ℕ) where
         (all whole bytes _ new_left new_count now_ended goes_on ∙ apart (e ∷ []) later) (stops later)
 
     -- the end of the script
-    pub so-finished : (after : Option (List ℕ)) (read : Entries) → whole (lines bytes) ≡ behind (so.answered ++ bodies_of wave) no_more
+    pub so-finished : (after : Output) (read : Entries) → whole (lines bytes) ≡ behind (so.answered ++ bodies_of wave) no_more
         → Finishes words index columns now (behind (bodies_of wave) no_more) mid after → Wrote changed words index columns start (whole (lines bytes)) read ended.Finished before after
     so-finished after read is finishes = (
       so.written ++ finishes.0,
@@ -102,7 +103,7 @@ module _ (words : Settings) (index : Index) (columns : ℕ) where
       subst (λ es. EndsWell changed words index columns start es (so.written ++ finishes.0)) (sym (is ∙ apart-here no_more)) (so.leads.well (behind (bodies_of wave) no_more) finishes.0 finishes.2),
     )
 
-    pub so-unfinished : (after : Option (List ℕ)) (read : Entries) (stop : Stop) → whole (lines bytes) ≡ behind (so.answered ++ bodies_of wave) no_more
+    pub so-unfinished : (after : Output) (read : Entries) (stop : Stop) → whole (lines bytes) ≡ behind (so.answered ++ bodies_of wave) no_more
         → StopsAt words index columns now (behind (bodies_of wave) no_more) mid after stop → Wrote changed words index columns start (whole (lines bytes)) read (end_of stop) before after
     so-unfinished after read stop is stops = stopped-later after (behind (bodies_of wave) no_more) read stop (is ∙ apart-here no_more) stops
 
@@ -111,7 +112,7 @@ module _ (words : Settings) (index : Index) (columns : ℕ) where
     refused-early r ready = so.leads.early (behind (bodies_of wave) (refused_with r)) (refusal_line r ∷ []) (refusal_line r ∷ [])
         (short-unanswered words index columns now wave (Some r) (refusal_line r ∷ []) ready)
 
-    pub so-refused : (after : Option (List ℕ)) (read : Entries) (r : ScriptRefusal) (end : ScriptEnd) → IsReady words now wave
+    pub so-refused : (after : Output) (read : Entries) (r : ScriptRefusal) (end : ScriptEnd) → IsReady words now wave
         → whole (lines bytes) ≡ behind (so.answered ++ bodies_of wave) (refused_with r) → PutsLast (refusal_line r) mid after end
         → Wrote changed words index columns start (whole (lines bytes)) read end before after
     so-refused after read r ended.Refused ready is puts = (
@@ -127,30 +128,30 @@ module _ (words : Settings) (index : Index) (columns : ℕ) where
     so-refused after read r ended.Read ready is puts = absurd puts
 
     -- the source failed
-    pub so-unread : (after : Option (List ℕ)) (read : Entries) (end : ScriptEnd) → IsReady words now wave → read.entries ≡ so.answered ++ bodies_of wave → (end ≡ ended.Read) × (after ≡ mid)
+    pub so-unread : (after : Output) (read : Entries) (end : ScriptEnd) → IsReady words now wave → read.entries ≡ so.answered ++ bodies_of wave → (end ≡ ended.Read) × (after ≡ mid)
         → Wrote changed words index columns start (whole (lines bytes)) read end before after
     so-unread after read end ready is (at, same) =
         let early = so.leads.early (behind (bodies_of wave) (record { entries = []; refused = read.refused })) [] [] (short-unanswered words index columns now wave read.refused [] ready) in
         let here : so.answered ++ (bodies_of wave ++ []) ≡ read.entries = ap (λ (es : List Entry). so.answered ++ es) (append-nil (bodies_of wave)) ∙ sym is in
         subst (λ e. Wrote changed words index columns start (whole (lines bytes)) read e before after) (sym at) (
           so.written,
-          subst (λ (o : Option (List ℕ)). WroteLines before o so.written) (sym same) so.wrote,
+          subst (λ (o : Output). WroteLines before o so.written) (sym same) so.wrote,
           subst (EndsEarly changed words index columns start read []) (append-nil so.written)
               (subst (λ (es : List Entry). EndsEarly changed words index columns start (record { entries = es; refused = read.refused }) [] (so.written ++ [])) here early),
         )
 
     -- there was no memory for the next entry
-    pub so-wanting : (after : Option (List ℕ)) (read : Entries) (end : ScriptEnd) → (end ≡ ended.Memory) × (after ≡ mid)
+    pub so-wanting : (after : Output) (read : Entries) (end : ScriptEnd) → (end ≡ ended.Memory) × (after ≡ mid)
         → Wrote changed words index columns start (whole (lines bytes)) read end before after
     so-wanting after read end (at, same) =
         let later = entries place (lines so.read.handed.rest) in
         subst (λ e. Wrote changed words index columns start (whole (lines bytes)) read e before after) (sym at)
-        (subst (λ (o : Option (List ℕ)). Wrote changed words index columns start (whole (lines bytes)) read ended.Memory before o) (sym same)
+        (subst (λ (o : Output). Wrote changed words index columns start (whole (lines bytes)) read ended.Memory before o) (sym same)
         (stopped-later mid (behind (bodies_of wave) later) read Memory (all whole bytes _ left count is_ended so.read ∙ apart-here later)
         (stops-here words index columns now (behind (bodies_of wave) later) mid)))
 
     -- why there is no further entry
-    pub so-ended : (after : Option (List ℕ)) (count_read : ℕ) (fault : ScriptFault) (end : ScriptEnd) → IsReady words now wave → Ends whole bytes (so.answered ++ bodies_of wave) fault count_read
+    pub so-ended : (after : Output) (count_read : ℕ) (fault : ScriptFault) (end : ScriptEnd) → IsReady words now wave → Ends whole bytes (so.answered ++ bodies_of wave) fault count_read
         → EndsAt fault mid after end → Wrote changed words index columns start (whole (lines bytes)) (whole (whole_lines (take count_read bytes))) end before after
     so-ended after count_read (fault.Refused r) end ready is ends = so-refused after (whole (whole_lines (take count_read bytes))) (refusal_of r) end ready is ends
     so-ended after count_read fault.Read end ready is ends = so-unread after (whole (whole_lines (take count_read bytes))) end ready is ends

@@ -1,5 +1,5 @@
 -- The lines of a wave.
-use Rattle.std.specs.Prelude.{◌≡◌, ◌≤◌, ◌↔◌, ℕ, Bool, false, IsTrue, List, [], ◌∷◌, ◌++◌, length, map, flat_map, Option, Result, Ok, Err, OnOk, ⊤}
+use Rattle.std.specs.Prelude.{◌≡◌, ◌≤◌, ◌↔◌, ℕ, Bool, false, IsTrue, List, [], ◌∷◌, ◌++◌, length, map, flat_map, Result, Ok, Err, OnOk, ⊤}
 use Rattle.std.proofs.Common.{◌∙◌, refl, sym, ap, subst, append-nil, arith}
 use Rattle.list_laws.proofs.Lists.{map-append}
 use Rattle.agg_model.specs.declared.outcome.Answered.{Answered}
@@ -10,6 +10,7 @@ use Rattle.agg_spec.specs.Answers.{Recent, IsAllowed, with_rounds}
 use Rattle.agg_spec.specs.Written.{answer, round_lines}
 use Rattle.agg_model.specs.declared.settings.Settings.{Settings}
 use Rattle.script_answers.specs.Answering.{AnswersRound, MayBe}
+use Rattle.script_answers.specs.Outputs.{Output}
 use Rattle.script_answers.specs.Puts.{Puts}
 use Rattle.script_answers.specs.Waves.{PutsWave}
 use Rattle.script_answers.specs.declared.stop.Stop.{Stop}
@@ -35,7 +36,7 @@ ok-holds (Err e) p = tt
 
 module _ (index : Index) (columns : ℕ) (recent : Recent) where
   -- no search came
-  pub wave-none : (before : Option (List ℕ)) → 1 ≤ recent.settings.width → PutsWave {X = ⊤} index columns recent [] before before recent (Ok tt)
+  pub wave-none : (before : Output) → 1 ≤ recent.settings.width → PutsWave {X = ⊤} index columns recent [] before before recent (Ok tt)
   wave-none before some = record {
     rounds = [];
     are = no-rounds index columns (IsAllowed index columns) recent.settings some;
@@ -44,7 +45,7 @@ module _ (index : Index) (columns : ℕ) (recent : Recent) where
   }
 
   -- the answers were written, as far as they were
-  pub wave-wrote : {X : Type 0} (requests : List Request) (answered : List Round → Type 0) (answers : List Answered) (before after : Option (List ℕ)) (result : Result X Stop)
+  pub wave-wrote : {X : Type 0} (requests : List Request) (answered : List Round → Type 0) (answers : List Answered) (before after : Output) (result : Result X Stop)
       (round : AnswersRound index columns recent requests answered answers) → Puts before after (map answer answers) result
       → PutsWave index columns recent requests before after (with_rounds round.rounds recent) result
   wave-wrote requests answered answers before after result round puts = record {
@@ -55,7 +56,7 @@ module _ (index : Index) (columns : ℕ) (recent : Recent) where
   }
 
   -- there was no memory for the answers
-  pub wave-wants : {X : Type 0} (requests : List Request) (now : Recent) (before : Option (List ℕ)) (result : Result X Stop) → 1 ≤ length requests → length requests ≤ recent.settings.width
+  pub wave-wants : {X : Type 0} (requests : List Request) (now : Recent) (before : Output) (result : Result X Stop) → 1 ≤ length requests → length requests ≤ recent.settings.width
       → result ≡ Err Memory → PutsWave {X = X} index columns recent requests before before now result
   wave-wants requests now before result some few is =
       let wants = wants-first index columns recent.settings requests some few in
@@ -68,7 +69,7 @@ module _ (index : Index) (columns : ℕ) (recent : Recent) where
       })
 
   -- the same, with what may have been answered then
-  pub wave-answered : {X : Type 0} (requests : List Request) (old new : Settings) (answered : List Round → Type 0) (answers : List Answered) (before after : Option (List ℕ)) (result : Result X Stop)
+  pub wave-answered : {X : Type 0} (requests : List Request) (old new : Settings) (answered : List Round → Type 0) (answers : List Answered) (before after : Output) (result : Result X Stop)
       → AnswersRound index columns recent requests answered answers → Puts before after (map answer answers) result → new ≡ old → recent.settings ≡ old
       → (now : Recent) × PutsWave index columns recent requests before after now result × OnOk result (MayBe new answered now)
   wave-answered requests old new answered answers before after result round puts same here = (

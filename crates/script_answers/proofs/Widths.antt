@@ -1,5 +1,5 @@
 -- A settings line keeps the width of the waves.
-use Rattle.std.specs.Prelude.{◌≡◌, ◌≤◌, ◌<◌, ℕ, List, [], Option, Some, None, Result, Ok, Err, OnOk, IfErr}
+use Rattle.std.specs.Prelude.{◌≡◌, ℕ, List, [], Option, Some, None, Result, Ok, Err, OnOk, IfErr}
 use Rattle.std.proofs.Common.{◌∙◌, refl, sym, ap, subst, arith}
 use Rattle.serde_json.specs.Data.{Data}
 use Rattle.agg_model.specs.declared.breaker.Tripped.{Tripped}

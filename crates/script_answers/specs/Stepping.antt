@@ -1,11 +1,12 @@
 -- An output in the middle: entries were read, some of them answered, and the searches behind them wait for their wave to be full.
-use Rattle.std.specs.Prelude.{◌≡◌, ◌≤◌, ◌<◌, ℕ, List, [], ◌∷◌, ◌++◌, map, length, Option}
+use Rattle.std.specs.Prelude.{◌≡◌, ◌≤◌, ◌<◌, ℕ, List, [], ◌∷◌, ◌++◌, map, length}
 use Rattle.agg_model.specs.declared.settings.Settings.{Settings}
 use Rattle.agg_reading.specs.Entries.{Entry, Entries, body}
 use Rattle.agg_settings.specs.Changes.{changed}
 use Rattle.agg_spec.specs.Index.{Index}
 use Rattle.agg_spec.specs.Answers.{Recent}
 use Rattle.agg_spec.specs.Written.{Line}
+use Rattle.script_answers.specs.Outputs.{Output}
 use Rattle.script_answers.specs.Rest.{IsCut, EndsWell}
 use Rattle.script_answers.specs.Steps.{Leads, WroteLines, WroteFront}
 use Rattle.script_answers.specs.declared.stop.Stop.{Stop}
@@ -23,7 +24,7 @@ pub record IsReady (words : Settings) (recent : Recent) (wave : List (List ℕ))
 
 module _ (words : Settings) (index : Index) (columns : ℕ) where
   -- one more entry was read: the answered ones lead on to those that wait
-  pub record TakesEntry (recent : Recent) (wave : List (List ℕ)) (e : Entry) (before after : Option (List ℕ)) (now : Recent) (still : List (List ℕ)) : Type 0 where
+  pub record TakesEntry (recent : Recent) (wave : List (List ℕ)) (e : Entry) (before after : Output) (now : Recent) (still : List (List ℕ)) : Type 0 where
     pub answered : List Entry
     pub written : List Line
     pub entries : bodies_of wave ++ e ∷ [] ≡ answered ++ bodies_of still
@@ -31,10 +32,10 @@ module _ (words : Settings) (index : Index) (columns : ℕ) where
     pub wrote : WroteLines before after written
 
   -- what was written where a step stops, with these entries from its place on
-  abbrev pub StopsAt : Recent → Entries → Option (List ℕ) → Option (List ℕ) → Stop → Type 0
+  abbrev pub StopsAt : Recent → Entries → Output → Output → Stop → Type 0
   StopsAt recent left before after Write = (written : List Line) × (next : Line) × WroteFront before after written next × IsCut changed words index columns recent left written next
   StopsAt recent left before after Memory = (written : List Line) × (next : Line) × WroteLines before after written × IsCut changed words index columns recent left written next
 
   -- all is written, with the statistics
-  abbrev pub Finishes : Recent → Entries → Option (List ℕ) → Option (List ℕ) → Type 0
+  abbrev pub Finishes : Recent → Entries → Output → Output → Type 0
   Finishes recent left before after = (written : List Line) × WroteLines before after written × EndsWell changed words index columns recent left written

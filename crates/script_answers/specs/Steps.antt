@@ -1,5 +1,5 @@
 -- What is written of the output of a script, step by step, and where it ends.
-use Rattle.std.specs.Prelude.{◌≡◌, ◌≢◌, ℕ, List, [], ◌++◌, Option, IsTrue}
+use Rattle.std.specs.Prelude.{◌≡◌, ◌≢◌, ℕ, List, [], ◌++◌, IsTrue}
 use Rattle.std.specs.Io.KnownBytes.{append_known}
 use Rattle.agg_model.specs.declared.settings.Settings.{Settings}
 use Rattle.agg_reading.specs.Entries.{Entry, Entries}
@@ -7,29 +7,32 @@ use Rattle.agg_spec.specs.Index.{Index}
 use Rattle.agg_spec.specs.Answers.{Change, Recent}
 use Rattle.agg_spec.specs.Written.{Line, line_text, ended_line, is_printed, all_printed, text_of}
 use Rattle.script_entries.specs.Reading.{behind}
+use Rattle.script_answers.specs.Outputs.{Output, after_all}
 use Rattle.script_answers.specs.Rest.{EndsWell, EndsEarly, EndsRefused, IsCut}
 use Rattle.script_answers.specs.declared.end.ScriptEnd.{ScriptEnd}
 use Rattle.script_answers.specs.declared.end.ScriptEnd.TheVariants.{Finished, Refused, Read, Write, Memory}
 
--- these whole lines were written
-pub record WroteLines (before after : Option (List ℕ)) (written : List Line) : Type 0 where
+-- these whole lines were written, and listeners heard of the answers among them
+pub record WroteLines (before after : Output) (written : List Line) : Type 0 where
   pub printed : IsTrue (all_printed written)
-  pub text : after ≡ append_known before (text_of written)
+  pub text : after.bytes ≡ append_known before.bytes (text_of written)
+  pub heard : after.hearing ≡ after_all written before.hearing
 
 -- these whole lines, and a front of the next one that is not all of it
-pub record WroteFront (before after : Option (List ℕ)) (written : List Line) (next : Line) : Type 0 where
+pub record WroteFront (before after : Output) (written : List Line) (next : Line) : Type 0 where
   pub printed : IsTrue (all_printed written)
   pub next_printed : IsTrue (is_printed next)
   pub piece : List ℕ
   pub left : List ℕ
   pub some_left : left ≢ []
   pub front : ended_line (line_text next) ≡ piece ++ left
-  pub text : after ≡ append_known before (text_of written ++ piece)
+  pub text : after.bytes ≡ append_known before.bytes (text_of written ++ piece)
+  pub heard : after.hearing ≡ after_all written before.hearing
 
 module _ (change : Change) (words : Settings) (index : Index) (columns : ℕ) where
   -- What was written of the output from some place on, by how it ended. `left` are the entries from there on, and `read` those of
   -- the whole lines that were read.
-  abbrev pub Wrote : Recent → Entries → Entries → ScriptEnd → Option (List ℕ) → Option (List ℕ) → Type 0
+  abbrev pub Wrote : Recent → Entries → Entries → ScriptEnd → Output → Output → Type 0
   Wrote recent left read Finished before after =
       (written : List Line) × WroteLines before after written × EndsWell change words index columns recent left written
   Wrote recent left read Refused before after =

@@ -8,12 +8,14 @@ ghost use Rattle.agg_settings.specs.Ranges.{AreInRange};
 ghost use Rattle.agg_spec.specs.Answers.{Recent, after_line, changed_by};
 ghost use Rattle.agg_spec.specs.Written.{settings_text};
 ghost use Rattle.script_answers.specs.Answering.{MayBe, fresh_with};
+ghost use Rattle.script_answers.specs.Outputs.{so_far};
 ghost use Rattle.script_answers.specs.Waves.{PutsChange};
 
 use crate::answerer::{Answerer, Reopening};
 use crate::stop::Stop;
 use crate::writing::write_line;
 use agg_base::Sink;
+use agg_listen::{Audience, Listener};
 use agg_model::{List, Settings, Text};
 use agg_response::{exception, settings_line};
 use agg_settings::{ChangeFault, change};
@@ -58,9 +60,10 @@ fn apply_change<A: Answerer>(
 
 /// Brings the settings of a settings line into force where they may be, and writes the line that answers it. `words` are the
 /// settings of the program's words.
-pub(crate) fn change_settings<K: Sink, A: Answerer>(
+pub(crate) fn change_settings<K: Sink, L: Listener, A: Answerer>(
     alloc: Global,
     sink: &mut K,
+    audience: &mut Audience<L>,
     answerer: A,
     words: &Settings,
     line: &Value,
@@ -68,7 +71,7 @@ pub(crate) fn change_settings<K: Sink, A: Answerer>(
     requires line { is_settings_line (view line.now) ≡ true }
     requires in_range { AreInRange words.now }
     ensures puts { PutsChange words.now (A.index answerer) (A.columns answerer) (fresh_with (A.in_force answerer)) (view line.now)
-        (K.written sink.old) (K.written sink.new) result }
+        (so_far (K.written sink.old) audience.old) (so_far (K.written sink.new) audience.new) result }
     ensures recent { IfOk result (λ next. (recent : Recent) → MayBe (A.in_force answerer) (A.answered answerer) recent →
         MayBe (A.in_force next) (A.answered next)
         (after_line changed words.now (A.index answerer) (A.columns answerer) (Some (view line.now)) recent)) }
@@ -79,6 +82,6 @@ pub(crate) fn change_settings<K: Sink, A: Answerer>(
     ensures never_falls { K.faults sink.old ≤ K.faults sink.new }
 {
     let (next, answer) = apply_change(alloc, answerer, words, line)?;
-    write_line(sink, &answer)?;
+    write_line(sink, audience, &answer)?;
     Ok(next)
 }

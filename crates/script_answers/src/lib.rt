@@ -7,6 +7,7 @@
 mod answerer;
 mod changing;
 mod end;
+pub mod laws;
 mod running;
 mod step;
 mod stop;

@@ -13,6 +13,7 @@ ghost use Rattle.script_entries.specs.Reading.{HasRead};
 ghost use Rattle.script_lines.specs.declared.fault.ScriptFault.TheVariants as script_fault;
 ghost use Rattle.script_answers.specs.Ends.{end_of, EndsAt};
 ghost use Rattle.script_answers.specs.Answering.{MayBe};
+ghost use Rattle.script_answers.specs.Outputs.{so_far};
 ghost use Rattle.script_answers.specs.Steps.{Wrote};
 ghost use Rattle.script_answers.specs.declared.end.ScriptEnd.TheVariants as ended;
 
@@ -22,6 +23,7 @@ use crate::step::{Waiting, finish, take_entry};
 use crate::stop::Stop;
 use crate::writing::write_refusal;
 use agg_base::{Lines, Sink, Source};
+use agg_listen::{Audience, Listener};
 use agg_model::{List, Settings};
 use script_entries::next_entry;
 use script_lines::ScriptFault;
@@ -38,8 +40,13 @@ fn stopped(stop: Stop) -> ScriptEnd
 }
 
 /// How a script ends where there is no further entry, with the line of its refusal.
-fn end_at<K: Sink>(alloc: Global, sink: &mut K, fault: &ScriptFault) -> ScriptEnd
-    ensures ends { EndsAt fault.now (K.written sink.old) (K.written sink.new) result }
+fn end_at<K: Sink, L: Listener>(
+    alloc: Global,
+    sink: &mut K,
+    audience: &mut Audience<L>,
+    fault: &ScriptFault,
+) -> ScriptEnd
+    ensures ends { EndsAt fault.now (so_far (K.written sink.old) audience.old) (so_far (K.written sink.new) audience.new) result }
     ensures read { result ≡ ended.Read → fault.now ≡ script_fault.Read }
     ensures fault { result ≡ ended.Write → Rose (K.faults sink.old) (K.faults sink.new) }
     ensures never_falls { K.faults sink.old ≤ K.faults sink.new }
@@ -47,7 +54,7 @@ fn end_at<K: Sink>(alloc: Global, sink: &mut K, fault: &ScriptFault) -> ScriptEn
     match fault {
         ScriptFault::Read => ScriptEnd::Read,
         ScriptFault::Memory => ScriptEnd::Memory,
-        ScriptFault::Refused(refusal) => match write_refusal(alloc, sink, refusal) {
+        ScriptFault::Refused(refusal) => match write_refusal(alloc, sink, audience, refusal) {
             Ok(()) => ScriptEnd::Refused,
             Err(stop) => stopped(stop),
         },
@@ -63,10 +70,11 @@ fn end_at<K: Sink>(alloc: Global, sink: &mut K, fault: &ScriptFault) -> ScriptEn
 /// also in a search, whole lines.
 ///
 /// Beside what the searches take, it holds the bodies of one wave.
-pub fn answer_script<S: Source, K: Sink, A: Answerer>(
+pub fn answer_script<S: Source, K: Sink, L: Listener, A: Answerer>(
     alloc: Global,
     lines: &mut Lines<'_, S>,
     sink: &mut K,
+    audience: &mut Audience<L>,
     answerer: A,
     words: &Settings,
 ) -> ScriptEnd
@@ -78,7 +86,7 @@ pub fn answer_script<S: Source, K: Sink, A: Answerer>(
     ensures output { (recent : Recent) → MayBe (A.in_force answerer) (A.answered answerer) recent →
         (bytes : Items ℕ) (whole : Items Line → Entries) → HasRead whole bytes [] lines.old →
         Wrote changed words.now (A.index answerer) (A.columns answerer) recent (whole (lines_of bytes))
-        (whole (whole_lines (take (bytes_read lines.new) bytes))) result (K.written sink.old) (K.written sink.new) }
+        (whole (whole_lines (take (bytes_read lines.new) bytes))) result (so_far (K.written sink.old) audience.old) (so_far (K.written sink.new) audience.new) }
 
     // Why each end comes.
     ensures finished { result ≡ ended.Finished → IsAtEnd (S.left (source_of lines.new)) }
@@ -94,17 +102,17 @@ pub fn answer_script<S: Source, K: Sink, A: Answerer>(
     };
     loop {
         match next_entry(alloc, lines) {
-            Ok(Some(entry)) => match take_entry(alloc, sink, waiting, words, entry) {
+            Ok(Some(entry)) => match take_entry(alloc, sink, audience, waiting, words, entry) {
                 Ok(now) => waiting = now,
                 Err(stop) => return stopped(stop),
             },
             Ok(None) => {
-                return match finish(alloc, sink, waiting, words) {
+                return match finish(alloc, sink, audience, waiting, words) {
                     Ok(()) => ScriptEnd::Finished,
                     Err(stop) => stopped(stop),
                 };
             }
-            Err(fault) => return end_at(alloc, sink, &fault),
+            Err(fault) => return end_at(alloc, sink, audience, &fault),
         }
     }
 }

@@ -9,6 +9,7 @@ ghost use Rattle.agg_spec.specs.Answers.{Recent};
 ghost use Rattle.script_answers.specs.Answering.{MayBe, fresh_with};
 ghost use Rattle.agg_settings.specs.Ranges.{AreInRange};
 ghost use Rattle.script_entries.specs.Reading.{IsFormed, behind, entry_of};
+ghost use Rattle.script_answers.specs.Outputs.{so_far};
 ghost use Rattle.script_answers.specs.Stepping.{bodies_of, IsReady, TakesEntry, StopsAt, Finishes};
 
 use crate::answerer::Answerer;
@@ -16,6 +17,7 @@ use crate::changing::change_settings;
 use crate::stop::Stop;
 use crate::wave::{answer_wave, close};
 use agg_base::Sink;
+use agg_listen::{Audience, Listener};
 use agg_model::{Bytes, List, Settings};
 use script_entries::Entry;
 use serde_json::Value;
@@ -29,9 +31,10 @@ pub(crate) struct Waiting<A: Answerer> {
 }
 
 /// One more search: the wave is answered where it is full now.
-fn take_body<K: Sink, A: Answerer>(
+fn take_body<K: Sink, L: Listener, A: Answerer>(
     alloc: Global,
     sink: &mut K,
+    audience: &mut Audience<L>,
     waiting: Waiting<A>,
     words: &Settings,
     body: Bytes,
@@ -40,13 +43,14 @@ fn take_body<K: Sink, A: Answerer>(
     ensures takes { IfOk result (λ now. (recent : Recent) →
         MayBe (A.in_force waiting.answerer) (A.answered waiting.answerer) recent → (next : Recent)
         × TakesEntry words.now (A.index waiting.answerer) (A.columns waiting.answerer) recent waiting.wave
-        (entry.body body) (K.written sink.old) (K.written sink.new) next now.wave
+        (entry.body body) (so_far (K.written sink.old) audience.old) (so_far (K.written sink.new) audience.new) next now.wave
         × MayBe (A.in_force now.answerer) (A.answered now.answerer) next) }
     ensures ready { IfOk result (λ now. IsReady words.now (fresh_with (A.in_force now.answerer)) now.wave) }
     ensures stops { IfErr result (λ stop. (recent : Recent) →
         MayBe (A.in_force waiting.answerer) (A.answered waiting.answerer) recent → (left : Entries) →
         StopsAt words.now (A.index waiting.answerer) (A.columns waiting.answerer) recent
-        (behind (bodies_of waiting.wave ++ entry.body body ∷ []) left) (K.written sink.old) (K.written sink.new) stop) }
+        (behind (bodies_of waiting.wave ++ entry.body body ∷ []) left)
+        (so_far (K.written sink.old) audience.old) (so_far (K.written sink.new) audience.new) stop) }
     ensures same_index { IfOk result (λ now. A.index now.answerer ≡ A.index waiting.answerer) }
     ensures same_columns { IfOk result (λ now. A.columns now.answerer ≡ A.columns waiting.answerer) }
     ensures fault { result ≡ Err Stop.Write → Rose (K.faults sink.old) (K.faults sink.new) }
@@ -60,7 +64,7 @@ fn take_body<K: Sink, A: Answerer>(
     if wave.len() < words.width as usize {
         return Ok(Waiting { answerer, wave });
     }
-    answer_wave(alloc, sink, &mut answerer, &wave)?;
+    answer_wave(alloc, sink, audience, &mut answerer, &wave)?;
     Ok(Waiting {
         answerer,
         wave: List::new(alloc),
@@ -68,9 +72,10 @@ fn take_body<K: Sink, A: Answerer>(
 }
 
 /// A settings line, behind the searches of the wave before it.
-fn take_settings<K: Sink, A: Answerer>(
+fn take_settings<K: Sink, L: Listener, A: Answerer>(
     alloc: Global,
     sink: &mut K,
+    audience: &mut Audience<L>,
     waiting: Waiting<A>,
     words: &Settings,
     line: &Value,
@@ -81,21 +86,22 @@ fn take_settings<K: Sink, A: Answerer>(
     ensures takes { IfOk result (λ now. (recent : Recent) →
         MayBe (A.in_force waiting.answerer) (A.answered waiting.answerer) recent → (next : Recent)
         × TakesEntry words.now (A.index waiting.answerer) (A.columns waiting.answerer) recent waiting.wave
-        (entry.change (view line.now)) (K.written sink.old) (K.written sink.new) next now.wave
+        (entry.change (view line.now)) (so_far (K.written sink.old) audience.old) (so_far (K.written sink.new) audience.new) next now.wave
         × MayBe (A.in_force now.answerer) (A.answered now.answerer) next) }
     ensures ready { IfOk result (λ now. IsReady words.now (fresh_with (A.in_force now.answerer)) now.wave) }
     ensures stops { IfErr result (λ stop. (recent : Recent) →
         MayBe (A.in_force waiting.answerer) (A.answered waiting.answerer) recent → (left : Entries) →
         StopsAt words.now (A.index waiting.answerer) (A.columns waiting.answerer) recent
-        (behind (bodies_of waiting.wave ++ entry.change (view line.now) ∷ []) left) (K.written sink.old) (K.written sink.new) stop) }
+        (behind (bodies_of waiting.wave ++ entry.change (view line.now) ∷ []) left)
+        (so_far (K.written sink.old) audience.old) (so_far (K.written sink.new) audience.new) stop) }
     ensures same_index { IfOk result (λ now. A.index now.answerer ≡ A.index waiting.answerer) }
     ensures same_columns { IfOk result (λ now. A.columns now.answerer ≡ A.columns waiting.answerer) }
     ensures fault { result ≡ Err Stop.Write → Rose (K.faults sink.old) (K.faults sink.new) }
     ensures never_falls { K.faults sink.old ≤ K.faults sink.new }
 {
     let Waiting { mut answerer, wave } = waiting;
-    answer_wave(alloc, sink, &mut answerer, &wave)?;
-    let answerer = change_settings(alloc, sink, answerer, words, line)?;
+    answer_wave(alloc, sink, audience, &mut answerer, &wave)?;
+    let answerer = change_settings(alloc, sink, audience, answerer, words, line)?;
     Ok(Waiting {
         answerer,
         wave: List::new(alloc),
@@ -103,9 +109,10 @@ fn take_settings<K: Sink, A: Answerer>(
 }
 
 /// One more entry.
-pub(crate) fn take_entry<K: Sink, A: Answerer>(
+pub(crate) fn take_entry<K: Sink, L: Listener, A: Answerer>(
     alloc: Global,
     sink: &mut K,
+    audience: &mut Audience<L>,
     waiting: Waiting<A>,
     words: &Settings,
     entry: Entry,
@@ -116,28 +123,30 @@ pub(crate) fn take_entry<K: Sink, A: Answerer>(
     ensures takes { IfOk result (λ now. (recent : Recent) →
         MayBe (A.in_force waiting.answerer) (A.answered waiting.answerer) recent → (next : Recent)
         × TakesEntry words.now (A.index waiting.answerer) (A.columns waiting.answerer) recent waiting.wave
-        (entry_of entry) (K.written sink.old) (K.written sink.new) next now.wave
+        (entry_of entry) (so_far (K.written sink.old) audience.old) (so_far (K.written sink.new) audience.new) next now.wave
         × MayBe (A.in_force now.answerer) (A.answered now.answerer) next) }
     ensures ready { IfOk result (λ now. IsReady words.now (fresh_with (A.in_force now.answerer)) now.wave) }
     ensures stops { IfErr result (λ stop. (recent : Recent) →
         MayBe (A.in_force waiting.answerer) (A.answered waiting.answerer) recent → (left : Entries) →
         StopsAt words.now (A.index waiting.answerer) (A.columns waiting.answerer) recent
-        (behind (bodies_of waiting.wave ++ entry_of entry ∷ []) left) (K.written sink.old) (K.written sink.new) stop) }
+        (behind (bodies_of waiting.wave ++ entry_of entry ∷ []) left)
+        (so_far (K.written sink.old) audience.old) (so_far (K.written sink.new) audience.new) stop) }
     ensures same_index { IfOk result (λ now. A.index now.answerer ≡ A.index waiting.answerer) }
     ensures same_columns { IfOk result (λ now. A.columns now.answerer ≡ A.columns waiting.answerer) }
     ensures fault { result ≡ Err Stop.Write → Rose (K.faults sink.old) (K.faults sink.new) }
     ensures never_falls { K.faults sink.old ≤ K.faults sink.new }
 {
     match entry {
-        Entry::Body(body) => take_body(alloc, sink, waiting, words, body),
-        Entry::Settings(line) => take_settings(alloc, sink, waiting, words, &line),
+        Entry::Body(body) => take_body(alloc, sink, audience, waiting, words, body),
+        Entry::Settings(line) => take_settings(alloc, sink, audience, waiting, words, &line),
     }
 }
 
 /// The end of the script: the last wave, which may be short, and the statistics.
-pub(crate) fn finish<K: Sink, A: Answerer>(
+pub(crate) fn finish<K: Sink, L: Listener, A: Answerer>(
     alloc: Global,
     sink: &mut K,
+    audience: &mut Audience<L>,
     waiting: Waiting<A>,
     words: &Settings,
 ) -> Result<(), Stop>
@@ -145,15 +154,15 @@ pub(crate) fn finish<K: Sink, A: Answerer>(
     ensures finishes { OnOk result ((recent : Recent) →
         MayBe (A.in_force waiting.answerer) (A.answered waiting.answerer) recent →
         Finishes words.now (A.index waiting.answerer) (A.columns waiting.answerer) recent
-        (behind (bodies_of waiting.wave) no_more) (K.written sink.old) (K.written sink.new)) }
+        (behind (bodies_of waiting.wave) no_more) (so_far (K.written sink.old) audience.old) (so_far (K.written sink.new) audience.new)) }
     ensures stops { IfErr result (λ stop. (recent : Recent) →
         MayBe (A.in_force waiting.answerer) (A.answered waiting.answerer) recent →
         StopsAt words.now (A.index waiting.answerer) (A.columns waiting.answerer) recent
-        (behind (bodies_of waiting.wave) no_more) (K.written sink.old) (K.written sink.new) stop) }
+        (behind (bodies_of waiting.wave) no_more) (so_far (K.written sink.old) audience.old) (so_far (K.written sink.new) audience.new) stop) }
     ensures fault { result ≡ Err Stop.Write → Rose (K.faults sink.old) (K.faults sink.new) }
     ensures never_falls { K.faults sink.old ≤ K.faults sink.new }
 {
     let Waiting { mut answerer, wave } = waiting;
-    answer_wave(alloc, sink, &mut answerer, &wave)?;
-    close(alloc, sink, answerer)
+    answer_wave(alloc, sink, audience, &mut answerer, &wave)?;
+    close(alloc, sink, audience, answerer)
 }

@@ -1,13 +1,13 @@
 -- What was written of a script that was loaded, by how its third section ended.
-use Rattle.std.specs.Prelude.{◌≡◌, ◌≤◌, ℕ, Bool, List, [], ◌∷◌, ◌++◌, take, Option, Some, None, is_some, option_map, Result, Ok, Err, ⊤}
-use Rattle.std.specs.Io.KnownBytes.{append_known}
+use Rattle.std.specs.Prelude.{◌≡◌, ◌≤◌, ℕ, Bool, List, [], ◌∷◌, ◌++◌, take, Option, Some, None, is_some, option_map, Ok, Err}
 use Rattle.std.proofs.Common.{inl, inr, refl, ◌∙◌, sym, ap, subst}
 use Rattle.agg_bulk.specs.Indexing.{IsLoaded, index_of}
 use Rattle.agg_bulk.specs.declared.index.LoadedIndex.{LoadedIndex}
+use Rattle.agg_listen.specs.Hearing.{Hearing}
 use Rattle.agg_model.specs.Lines.{Line as InputLine, lines}
 use Rattle.agg_model.specs.declared.settings.Settings.{Settings}
 use Rattle.agg_reading.specs.Entries.{Entries, entries, no_more}
-use Rattle.agg_reading.specs.Lines.{Place, ScriptRefusal}
+use Rattle.agg_reading.specs.Lines.{Place}
 use Rattle.agg_reading.specs.Script.{Loaded, loaded}
 use Rattle.agg_settings.specs.Changes.{changed}
 use Rattle.agg_spec.specs.Answers.{Recent}
@@ -18,9 +18,9 @@ use Rattle.agg_spec.specs.Requests.{LoadedScript, loaded_script, loaded_index}
 use Rattle.agg_model.specs.declared.bulk.Item.{Item}
 use Rattle.agg_spec.specs.BulkLine.{bulk_line}
 use Rattle.agg_spec.specs.Written.{Line, bulk, text_of}
+use Rattle.script_answers.specs.Outputs.{Output, so_far}
 use Rattle.script_answers.specs.Puts.{Stops}
-use Rattle.script_answers.specs.Rest as rest
-use Rattle.script_answers.specs.Steps.{WroteLines, WroteFront, Wrote}
+use Rattle.script_answers.specs.Steps.{WroteLines, Wrote}
 use Rattle.script_answers.specs.declared.end.ScriptEnd.{ScriptEnd}
 use Rattle.script_answers.specs.declared.end.ScriptEnd.TheVariants as ended
 use Rattle.script_answers.specs.declared.stop.Stop.{Stop}
@@ -38,7 +38,7 @@ use Rattle.script_run.proofs.Unread.{seen-behind}
 light-script : (words : Settings) (l : Loaded) → columns_refusal words.limits (columns_charge (loaded_index l)) ≡ None → script_from words (Ok l) ≡ answered (loaded_script l)
 light-script words l light = ap (if_light (loaded_script l)) light
 
-module _ (words : Settings) (l : Loaded) (bytes : List ℕ) (read : ℕ) (before mid after : Option (List ℕ)) (script : script_of words bytes ≡ answered (loaded_script l))
+module _ (words : Settings) (l : Loaded) (bytes : List ℕ) (read : ℕ) (before mid after : Output) (script : script_of words bytes ≡ answered (loaded_script l))
     (wrote : WroteLines before mid (first_line words (loaded_script l) ∷ [])) where
   abbrev s : LoadedScript
   s = loaded_script l
@@ -90,15 +90,18 @@ module _ (words : Settings) (l : Loaded) (bytes : List ℕ) (read : ℕ) (before
       )
 
 -- what was answered of a script by who sees its index so
-pub record Answers (words : Settings) (bytes : List ℕ) (read : ℕ) (place : Place) (left : Option (List ℕ)) (count : ℕ) (is_ended : Bool) (end : ScriptEnd) (mid after : Option (List ℕ)) : Type 0 where
+pub record Answers (words : Settings) (bytes : List ℕ) (read : ℕ) (place : Place) (left : Option (List ℕ)) (count : ℕ) (is_ended : Bool) (end : ScriptEnd) (mid after : Output) : Type 0 where
   pub index : Index
   pub columns : ℕ
   pub recent : Recent
   pub output : (whole : List InputLine → Entries) → GoesOnAt whole bytes (then_entries [] place) left count is_ended
       → Wrote changed words index columns recent (whole (lines bytes)) (whole (whole_lines (take read bytes))) end mid after
 
-module _ (words : Settings) (bytes known : List ℕ) (read : ℕ) (built : LoadedIndex) (place : Place) (left : Option (List ℕ)) (count : ℕ) (is_ended : Bool)
+module _ (words : Settings) (bytes known : List ℕ) (heard : Hearing) (read : ℕ) (built : LoadedIndex) (place : Place) (left : Option (List ℕ)) (count : ℕ) (is_ended : Bool)
     (is : IsLoaded bytes built place left count is_ended) (light : columns_refusal words.limits (columns_charge (index_of built.index)) ≡ None) where
+  abbrev begun : Output
+  begun = so_far (Some known) heard
+
   abbrev l : Loaded
   l = is.defined
 
@@ -139,11 +142,11 @@ module _ (words : Settings) (bytes known : List ℕ) (read : ℕ) (built : Loade
       ∙ ap (λ (i : Index). bulk (bulk_line i.name built.items (is_some words.generate))) is.index
       ∙ ap (λ (items : List Item). bulk (bulk_line (loaded_index l).name items (is_some words.generate))) is.items
 
-  pub wrote-first : (mid : Option (List ℕ)) (is_generated : Bool) → is_generated ≡ is_some words.generate
-      → WroteLines (Some known) mid (bulk (bulk_line built.index.name built.items is_generated) ∷ []) → WroteLines (Some known) mid (first ∷ [])
-  wrote-first mid is_generated same wrote = subst (λ (line : Line). WroteLines (Some known) mid (line ∷ [])) (written-first is_generated same) wrote
+  pub wrote-first : (mid : Output) (is_generated : Bool) → is_generated ≡ is_some words.generate
+      → WroteLines begun mid (bulk (bulk_line built.index.name built.items is_generated) ∷ []) → WroteLines begun mid (first ∷ [])
+  wrote-first mid is_generated same wrote = subst (λ (line : Line). WroteLines begun mid (line ∷ [])) (written-first is_generated same) wrote
 
-  module _ (mid after : Option (List ℕ)) (wrote : WroteLines (Some known) mid (first_line words (loaded_script l) ∷ [])) (end : ScriptEnd)
+  module _ (mid after : Output) (wrote : WroteLines begun mid (first_line words (loaded_script l) ∷ [])) (end : ScriptEnd)
       (answers : Answers words bytes read place left count is_ended end mid after) (index_is : answers.index ≡ index_of built.index)
       (columns_is : answers.columns ≡ columns_charge (index_of built.index)) (recent_is : answers.recent ≡ fresh words (loaded_script l)) (some : 1 ≤ words.width) where
     index-here : answers.index ≡ loaded_index l
@@ -165,31 +168,31 @@ module _ (words : Settings) (bytes known : List ℕ) (read : ℕ) (built : Loade
     abbrev OutBy : Entries → ScriptEnd → Type 0
     OutBy others e = Wrote changed words (loaded_index l) (columns_charge (loaded_index l)) (fresh words (loaded_script l)) (left_of l) (whole_by others (whole_lines (take read bytes))) e mid after
 
-    unread-at : (later : (ls : List InputLine) × (whole_lines (take read bytes) ≡ is.goes_on.front ++ ls)) → OutBy no_more ended.Read → WroteOf words bytes read (status_of ended.Read) (Some known) after
+    unread-at : (later : (ls : List InputLine) × (whole_lines (take read bytes) ≡ is.goes_on.front ++ ls)) → OutBy no_more ended.Read → WroteOf words bytes read (status_of ended.Read) begun after
     unread-at later out =
-        section-unread words l bytes read (Some known) mid after script-here wrote later.0
+        section-unread words l bytes read begun mid after script-here wrote later.0
         (ap loaded later.1 ∙ is.goes_on.same later.0) light-here (left_of l)
         (subst (λ (e : Entries). Wrote changed words (loaded_index l) (columns_charge (loaded_index l)) (fresh words (loaded_script l)) (left_of l) e ended.Read mid after)
         (ap (whole_by no_more) later.1 ∙ behind-front is.goes_on.front later.0 l.place no_more) out)
 
-    mid-is : mid ≡ Some (known ++ text_of (first_line words (loaded_script l) ∷ []))
-    mid-is = wrote.text
+    mid-is : mid ≡ so_far (Some (known ++ text_of (first_line words (loaded_script l) ∷ []))) mid.hearing
+    mid-is = ap (λ (o : Option (List ℕ)). so_far o mid.hearing) wrote.text
 
-    unread : ((others : Entries) → OutBy others ended.Read) → WroteOf words bytes read (status_of ended.Read) (Some known) after
+    unread : ((others : Entries) → OutBy others ended.Read) → WroteOf words bytes read (status_of ended.Read) begun after
     unread outs = unread-at
-        (seen-behind words (loaded_index l) (columns_charge (loaded_index l)) (fresh words (loaded_script l)) (known ++ text_of (first_line words (loaded_script l) ∷ [])) after
+        (seen-behind words (loaded_index l) (columns_charge (loaded_index l)) (fresh words (loaded_script l)) (known ++ text_of (first_line words (loaded_script l) ∷ [])) mid.hearing after
         is.goes_on.front (whole_lines (take read bytes)) l.place some
-        (λ others. let out = outs others in (out.0, subst (λ (o : Option (List ℕ)). WroteLines o after out.0) mid-is out.1, out.2))) (outs no_more)
+        (λ others. let out = outs others in (out.0, subst (λ (o : Output). WroteLines o after out.0) mid-is out.1, out.2))) (outs no_more)
 
-    by-end : (e : ScriptEnd) → ((others : Entries) → OutBy others e) → WroteOf words bytes read (status_of e) (Some known) after
-    by-end ended.Finished outs = section-ended words l bytes read (Some known) mid after script-here wrote no_more ended.Finished (outs no_more) (λ h. cc)
-    by-end ended.Refused outs = section-ended words l bytes read (Some known) mid after script-here wrote no_more ended.Refused (outs no_more) (λ h. cc)
-    by-end ended.Write outs = section-ended words l bytes read (Some known) mid after script-here wrote no_more ended.Write (outs no_more) (λ h. cc)
-    by-end ended.Memory outs = section-ended words l bytes read (Some known) mid after script-here wrote no_more ended.Memory (outs no_more) (λ h. cc)
+    by-end : (e : ScriptEnd) → ((others : Entries) → OutBy others e) → WroteOf words bytes read (status_of e) begun after
+    by-end ended.Finished outs = section-ended words l bytes read begun mid after script-here wrote no_more ended.Finished (outs no_more) (λ h. cc)
+    by-end ended.Refused outs = section-ended words l bytes read begun mid after script-here wrote no_more ended.Refused (outs no_more) (λ h. cc)
+    by-end ended.Write outs = section-ended words l bytes read begun mid after script-here wrote no_more ended.Write (outs no_more) (λ h. cc)
+    by-end ended.Memory outs = section-ended words l bytes read begun mid after script-here wrote no_more ended.Memory (outs no_more) (λ h. cc)
     by-end ended.Read outs = unread outs
 
     -- the third section was answered behind the line of the bulk actions
-    pub answered-behind : WroteOf words bytes read (status_of end) (Some known) after
+    pub answered-behind : WroteOf words bytes read (status_of end) begun after
     answered-behind = by-end end out-by
 
   -- of one line that was not written whole the next line is that line
@@ -204,12 +207,12 @@ module _ (words : Settings) (bytes known : List ℕ) (read : ℕ) (built : Loade
       (subst (λ (ls : List Line). IsCutOf words (answered (loaded_script l)) ls next) (sym none)
       (subst (λ (line : Line). IsCutOf words (answered (loaded_script l)) [] line) (sym same) (cut-first words (loaded_script l) (left_of l) refl refl)))
 
-  stops-here : (after : Option (List ℕ)) (stop : Stop) (status : Status) → Stops (Some known) after (first ∷ []) stop → WroteOf words bytes read (ended_by (Err stop) status) (Some known) after
+  stops-here : (after : Output) (stop : Stop) (status : Status) → Stops begun after (first ∷ []) stop → WroteOf words bytes read (ended_by (Err stop) status) begun after
   stops-here after Write status stops = (stops.done, stops.next, stops.wrote, cut-here stops.done stops.next (single stops.done stops.others first stops.next stops.are))
   stops-here after Memory status stops = (stops.done, stops.next, stops.wrote, cut-here stops.done stops.next (single stops.done stops.others first stops.next stops.are))
 
   -- the line of the bulk actions was not written
-  pub first-stops : (after : Option (List ℕ)) (stop : Stop) (status : Status) (is_generated : Bool) → is_generated ≡ is_some words.generate
-      → Stops (Some known) after (bulk (bulk_line built.index.name built.items is_generated) ∷ []) stop → WroteOf words bytes read (ended_by (Err stop) status) (Some known) after
+  pub first-stops : (after : Output) (stop : Stop) (status : Status) (is_generated : Bool) → is_generated ≡ is_some words.generate
+      → Stops begun after (bulk (bulk_line built.index.name built.items is_generated) ∷ []) stop → WroteOf words bytes read (ended_by (Err stop) status) begun after
   first-stops after stop status is_generated same stops =
-      stops-here after stop status (subst (λ (line : Line). Stops (Some known) after (line ∷ []) stop) (written-first is_generated same) stops)
+      stops-here after stop status (subst (λ (line : Line). Stops begun after (line ∷ []) stop) (written-first is_generated same) stops)

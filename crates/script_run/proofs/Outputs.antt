@@ -7,12 +7,12 @@ use Rattle.agg_reading.specs.Entries.{Entries, entries}
 use Rattle.agg_reading.specs.Lines.{ScriptRefusal}
 use Rattle.agg_reading.specs.Script.{Loaded}
 use Rattle.agg_settings.specs.Changes.{changed}
-use Rattle.agg_spec.specs.Answers.{Recent, IsAllowed, AreAnswered, latest}
+use Rattle.agg_spec.specs.Answers.{Recent}
 use Rattle.agg_spec.specs.BulkLine.{bulk_line}
 use Rattle.agg_spec.specs.Columns.{columns_refusal}
-use Rattle.agg_spec.specs.Output.{Script, refused, too_heavy, answered, if_light, script_from, refusal_line, EndsWell, EndsEarly, EndsRefused, HasAnswers, IsWholeOf, At3}
+use Rattle.agg_spec.specs.Output.{answered, if_light, script_from, refusal_line, EndsWell, EndsEarly, EndsRefused, HasAnswers, IsWholeOf}
 use Rattle.agg_spec.specs.Requests.{LoadedScript, Segment, segments, cut_short, loaded_script}
-use Rattle.agg_spec.specs.Written.{Line, bulk, error, answer_lines}
+use Rattle.agg_spec.specs.Written.{Line, bulk, error}
 use Rattle.agg_spec.specs.ErrorLines.{exception_line}
 use Rattle.script_answers.specs.Rest as rest
 use Rattle.script_answers.proofs.Completing.{some-rest}

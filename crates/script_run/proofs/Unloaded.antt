@@ -1,10 +1,7 @@
 -- What was written where a script is not loaded.
-use Rattle.std.specs.Prelude.{◌≡◌, ℕ, List, [], ◌∷◌, ◌++◌, take, Option, Some, codes, Result, Ok, Err, ⊤}
+use Rattle.std.specs.Prelude.{◌≡◌, ℕ, List, [], ◌∷◌, ◌++◌, take, Some, codes, Result, Ok, Err, ⊤}
 use Rattle.std.proofs.Common.{inl, inr, refl, ◌∙◌, sym, ap, subst}
-use Rattle.agg_bulk.specs.Loading.{Ends, IsRefused}
-use Rattle.agg_bulk.specs.Loads.{EndsLoading}
-use Rattle.agg_bulk.specs.declared.end.LoadEnd.{LoadEnd}
-use Rattle.agg_bulk.specs.declared.end.LoadEnd.TheVariants as load_end
+use Rattle.agg_bulk.specs.Loading.{IsRefused}
 use Rattle.agg_model.specs.Lines.{lines}
 use Rattle.agg_model.specs.declared.breaker.Tripped.{Tripped}
 use Rattle.agg_model.specs.declared.settings.Settings.{Settings}
@@ -13,18 +10,17 @@ use Rattle.agg_reading.specs.Script.{Loaded, loaded}
 use Rattle.agg_settings.specs.Changes.{changed}
 use Rattle.agg_spec.specs.Columns.{columns_charge, columns_refusal}
 use Rattle.agg_spec.specs.ErrorLines.{exception_line}
-use Rattle.agg_spec.specs.Output.{Script, refused, too_heavy, answered, if_light, script_from, refusal_line, whole_lines, IsWholeOf, At3}
+use Rattle.agg_spec.specs.Output.{Script, refused, too_heavy, if_light, script_from, refusal_line, whole_lines, IsWholeOf, At3}
 use Rattle.agg_spec.specs.Requests.{loaded_script, loaded_index}
 use Rattle.agg_spec.specs.Written.{Line, error}
+use Rattle.script_answers.specs.Outputs.{Output}
 use Rattle.script_answers.specs.Puts.{Puts}
 use Rattle.script_answers.specs.Steps.{WroteLines}
 use Rattle.script_answers.specs.declared.stop.Stop.{Stop}
 use Rattle.script_answers.specs.declared.stop.Stop.TheVariants.{Write, Memory}
 use Rattle.script_answers.proofs.Putting.{wrote-nothing}
-use Rattle.script_lines.specs.Faults.{refusal_of}
 use Rattle.script_run.specs.Ends.{ended_by}
-use Rattle.script_run.specs.Runs.{WroteBy, WroteOf, WroteAll, script_of, IsCutOf}
-use Rattle.script_run.specs.Statuses.{code_of}
+use Rattle.script_run.specs.Runs.{WroteBy, WroteOf, script_of, IsCutOf}
 use Rattle.script_run.specs.declared.status.Status.{Status}
 use Rattle.script_run.specs.declared.status.Status.TheVariants as status
 use Rattle.script_run.proofs.Outputs.{some-output}
@@ -38,7 +34,7 @@ single [] others line next is_one = (refl, cc)
 single (d ∷ []) others line next is_one = absurd (let no : ⊥ = cc in no)
 single (d ∷ e ∷ ds) others line next is_one = absurd (let no : ⊥ = cc in no)
 
-module _ (words : Settings) (script read : Script) (before after : Option (List ℕ)) (line : Line) (code : ℕ) (whole : IsWholeOf changed words script code (line ∷ [])) where
+module _ (words : Settings) (script read : Script) (before after : Output) (line : Line) (code : ℕ) (whole : IsWholeOf changed words script code (line ∷ [])) where
   cut-line : (done : List Line) (next : Line) → (done ≡ []) × (next ≡ line) → IsCutOf words script done next
   cut-line done next (none, same) =
       subst (λ (ls : List Line). IsCutOf words script ls next) (sym none)
@@ -51,7 +47,7 @@ module _ (words : Settings) (script read : Script) (before after : Option (List 
   line-ends end (Err Write) all puts = (puts.done, puts.next, puts.wrote, cut-line puts.done puts.next (single puts.done puts.others line puts.next puts.are))
   line-ends end (Err Memory) all puts = (puts.done, puts.next, puts.wrote, cut-line puts.done puts.next (single puts.done puts.others line puts.next puts.are))
 
-module _ (words : Settings) (bytes : List ℕ) (read : ℕ) (before after : Option (List ℕ)) where
+module _ (words : Settings) (bytes : List ℕ) (read : ℕ) (before after : Output) where
   abbrev seen : Script
   seen = script_from words (loaded (whole_lines (take read bytes)))
 
@@ -77,10 +73,10 @@ module _ (words : Settings) (bytes : List ℕ) (read : ℕ) (before after : Opti
 
   -- the source failed
   pub unread-ends : IsRefused (loaded (whole_lines (take read bytes))) → after ≡ before → WroteOf words bytes read status.ReadFault before after
-  unread-ends is same = ([], subst (λ (o : Option (List ℕ)). WroteLines before o []) (sym same) (wrote-nothing before), unread-by (loaded (whole_lines (take read bytes))) is)
+  unread-ends is same = ([], subst (λ (o : Output). WroteLines before o []) (sym same) (wrote-nothing before), unread-by (loaded (whole_lines (take read bytes))) is)
 
   -- there was no memory
   pub wanting-ends : after ≡ before → WroteOf words bytes read status.Memory before after
   wanting-ends same =
       let some = some-output words (loaded (lines bytes)) in
-      ([], some.0, subst (λ (o : Option (List ℕ)). WroteLines before o []) (sym same) (wrote-nothing before), some.1)
+      ([], some.0, subst (λ (o : Output). WroteLines before o []) (sym same) (wrote-nothing before), some.1)

@@ -1,24 +1,24 @@
 -- Where the source fails, what was loaded is loaded of the whole lines that were read: no other entries can be told apart by
 -- what was written.
-use Rattle.std.specs.Prelude.{◌≡◌, ◌≤◌, ℕ, suc, ◌+◌, ◌*◌, ◌/◌, Bool, true, false, List, [], ◌∷◌, ◌++◌, map, flat_map, length, take, codes, Option, Some, None}
-use Rattle.std.specs.Io.KnownBytes.{append_known}
+use Rattle.std.specs.Prelude.{◌≡◌, ◌≤◌, ℕ, ◌*◌, ◌/◌, Bool, true, false, List, [], ◌∷◌, ◌++◌, map, length, take, codes, Some, None}
 use Rattle.std.proofs.Common.{inl, inr, refl, ◌∙◌, sym, ap, subst, append-nil, arith}
 use Rattle.std.proofs.Math.Seq.{take-nil}
 use Rattle.std.proofs.lemmas.List.{length-append}
 use Rattle.serde_json.specs.Data.{Data, null}
+use Rattle.agg_listen.specs.Hearing.{Hearing}
 use Rattle.agg_model.specs.Lines.{Line as InputLine}
 use Rattle.agg_model.specs.declared.settings.Settings.{Settings}
-use Rattle.agg_reading.specs.Entries.{Entries, Entry, change, entries, no_more}
+use Rattle.agg_reading.specs.Entries.{Entries, change, no_more}
 use Rattle.agg_reading.specs.Lines.{Place}
 use Rattle.agg_settings.specs.Changes.{changed}
 use Rattle.agg_spec.specs.Index.{Index}
 use Rattle.agg_spec.specs.Outcome.{Request}
-use Rattle.agg_spec.specs.Requests.{Segment, segments, cut_short}
-use Rattle.agg_spec.specs.Reduction.{batches}
+use Rattle.agg_spec.specs.Requests.{Segment}
 use Rattle.agg_spec.specs.Rounds.{Round}
 use Rattle.agg_spec.specs.Answers.{Recent, IsAllowed, AreRounds, ArePages, AreFormed, AreAnswered}
 use Rattle.agg_spec.specs.Written.{Line, line_text, ended_line, text_of, round_lines, answer_lines}
-use Rattle.script_answers.specs.Rest.{EndsEarly, Answers}
+use Rattle.script_answers.specs.Outputs.{Output, so_far}
+use Rattle.script_answers.specs.Rest.{EndsEarly}
 use Rattle.script_answers.specs.Steps.{WroteLines}
 use Rattle.script_answers.proofs.Batches.{none-batched}
 use Rattle.script_answers.proofs.Forming.{Formed}
@@ -102,9 +102,9 @@ some-text before behind line =
     omega (arith, whole, parts, later, own)
 
 -- what was written by no line is not what a line was written by
-pub told-apart : (known : List ℕ) (after : Option (List ℕ)) (none some : List Line) → WroteLines (Some known) after none → WroteLines (Some known) after some
+pub told-apart : (known : List ℕ) (heard : Hearing) (after : Output) (none some : List Line) → WroteLines (so_far (Some known) heard) after none → WroteLines (so_far (Some known) heard) after some
     → none ≡ [] → (before behind : List Line) (line : Line) → some ≡ before ++ line ∷ behind → ⊥
-told-apart known after none some first second is before behind line has =
+told-apart known heard after none some first second is before behind line has =
     let same : Some (known ++ text_of none) ≡ Some (known ++ text_of some) = sym first.text ∙ second.text in
     let texts : known ++ text_of none ≡ known ++ text_of some = cc in
     let l = ap length texts in
@@ -114,9 +114,9 @@ told-apart known after none some first second is before behind line has =
     let s : 1 ≤ length (text_of some) = subst (λ (ls : List Line). 1 ≤ length (text_of ls)) (sym has) (some-text before behind line) in
     omega (arith, l, a, b, e, s)
 
-module _ (words : Settings) (index : Index) (columns : ℕ) (recent : Recent) (known : List ℕ) (after : Option (List ℕ)) (front seen : List InputLine) (place : Place) where
+module _ (words : Settings) (index : Index) (columns : ℕ) (recent : Recent) (known : List ℕ) (heard : Hearing) (after : Output) (front seen : List InputLine) (place : Place) where
   abbrev EndsBy : (List InputLine → Entries) → Type 0
-  EndsBy whole = (written : List Line) × WroteLines (Some known) after written × EndsEarly changed words index columns recent (whole seen) [] written
+  EndsBy whole = (written : List Line) × WroteLines (so_far (Some known) heard) after written × EndsEarly changed words index columns recent (whole seen) [] written
 
   not-none : 1 ≤ recent.settings.width → ((others : Entries) → EndsBy (behind_front front place others)) → strip front seen ≡ None → ⊥
   not-none some ends none =
@@ -125,7 +125,7 @@ module _ (words : Settings) (index : Index) (columns : ℕ) (recent : Recent) (k
       let early = subst (λ (e : Entries). EndsEarly changed words index columns recent e [] first.0) (behind-none front seen place no_more none) first.2 in
       let late = subst (λ (e : Entries). EndsEarly changed words index columns recent e [] second.0) (behind-none front seen place (a_change words index columns) none) second.2 in
       let has = line-written words index columns recent second.0 late in
-      told-apart known after first.0 second.0 first.1 second.1 (nothing-written words index columns recent first.0 some early) has.before has.behind has.line has.is
+      told-apart known heard after first.0 second.0 first.1 second.1 (nothing-written words index columns recent first.0 some early) has.before has.behind has.line has.is
 
   by-tells : (strip front seen ≡ None → ⊥) → Tells front seen → (later : List InputLine) × (seen ≡ front ++ later)
   by-tells not (inl found) = found

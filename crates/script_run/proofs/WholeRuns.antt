@@ -1,5 +1,5 @@
 -- The output of a run, from what was written of its script.
-use Rattle.std.specs.Prelude.{◌≡◌, ℕ, Bool, List, [], ◌∷◌, ◌++◌, take, Option, Some, None, Result, Ok, Err, ⊤}
+use Rattle.std.specs.Prelude.{◌≡◌, ℕ, Bool, List, [], ◌∷◌, ◌++◌, take, Option, None, Result, Ok, Err, ⊤}
 use Rattle.std.specs.Io.KnownBytes.{append_known}
 use Rattle.std.specs.Option.{option_map_or}
 use Rattle.std.proofs.Common.{inl, inr, refl, ◌∙◌, sym, ap, subst, append-nil}
@@ -14,22 +14,23 @@ use Rattle.agg_spec.specs.EndLines.{usage_line}
 use Rattle.agg_spec.specs.Generator.{generated}
 use Rattle.agg_spec.specs.Output.{script_from, whole_lines, text_read, IsWholeOf, IsWhole, IsCut, IsStopped, At3}
 use Rattle.agg_spec.specs.Written.{Line, error, text_of}
+use Rattle.script_answers.specs.Outputs.{Output}
 use Rattle.script_answers.specs.Puts.{Puts}
 use Rattle.script_answers.specs.Steps.{WroteLines, WroteFront}
 use Rattle.script_answers.specs.declared.stop.Stop.{Stop}
 use Rattle.script_answers.specs.declared.stop.Stop.TheVariants.{Write, Memory}
 use Rattle.script_answers.proofs.Putting.{wrote-nothing}
 use Rattle.script_run.specs.Ends.{ended_by}
-use Rattle.script_run.specs.Runs.{WroteBy, WroteOf, WroteAll, script_of, IsCutOf, Runs}
+use Rattle.script_run.specs.Runs.{WroteOf, WroteAll, script_of, IsCutOf, Runs}
 use Rattle.script_run.specs.Statuses.{code_of}
 use Rattle.script_run.specs.declared.status.Status.{Status}
 use Rattle.script_run.specs.declared.status.Status.TheVariants as status
 use Rattle.script_run.proofs.Outputs.{some-output}
 
-all-text : (before after : Option (List ℕ)) (written : List Line) → WroteLines before after written → after ≡ append_known before (text_of written ++ [])
-all-text before after written wrote = wrote.text ∙ ap (append_known before) (sym (append-nil (text_of written)))
+all-text : (before after : Output) (written : List Line) → WroteLines before after written → after.bytes ≡ append_known before.bytes (text_of written ++ [])
+all-text before after written wrote = wrote.text ∙ ap (append_known before.bytes) (sym (append-nil (text_of written)))
 
-module _ (several : Bool) (words : List (List ℕ)) (input : List ℕ) (before after : Option (List ℕ)) (read : ℕ) where
+module _ (several : Bool) (words : List (List ℕ)) (input : List ℕ) (before after : Output) (read : ℕ) where
   -- an output whose whole is this
   pub whole-runs : (status : ℕ) (written : List Line) → WroteLines before after written → IsWhole changed (settings_of several words) input status written → Runs several words input status before after
   whole-runs status written wrote whole = record {
@@ -38,6 +39,7 @@ module _ (several : Bool) (words : List (List ℕ)) (input : List ℕ) (before a
     piece = [];
     output = record { printed = wrote.printed; by_status = inl (whole, refl) };
     text = all-text before after written wrote;
+    heard = wrote.heard;
   }
 
   -- the sink failed
@@ -54,6 +56,7 @@ module _ (several : Bool) (words : List (List ℕ)) (input : List ℕ) (before a
       )));
     };
     text = front.text;
+    heard = front.heard;
   }
 
   -- memory ran out
@@ -64,6 +67,7 @@ module _ (several : Bool) (words : List (List ℕ)) (input : List ℕ) (before a
     piece = [];
     output = record { printed = wrote.printed; by_status = inr (inr (inr (refl, record { next = next; cut = cut }, refl))) };
     text = all-text before after written wrote;
+    heard = wrote.heard;
   }
 
   module _ (settings : Settings) (given : settings_of several words ≡ Ok settings) (bytes : List ℕ) (text : bytes ≡ text_read settings input) where
@@ -100,6 +104,7 @@ module _ (several : Bool) (words : List (List ℕ)) (input : List ℕ) (before a
       piece = [];
       output = record { printed = out.1.printed; by_status = inr (inl (refl, stopped (unread refl) out.0 out.2, refl)) };
       text = all-text before after out.0 out.1;
+      heard = out.1.heard;
     }
 
   -- the words are outside the grammar
@@ -135,4 +140,4 @@ module _ (several : Bool) (words : List (List ℕ)) (input : List ℕ) (before a
   pub nothing-runs : after ≡ before → Runs several words input 7 before after
   nothing-runs same =
       let some = some-whole (settings_of several words) in
-      wanting-runs [] some.0 (subst (λ (o : Option (List ℕ)). WroteLines before o []) (sym same) (wrote-nothing before)) some.1
+      wanting-runs [] some.0 (subst (λ (o : Output). WroteLines before o []) (sym same) (wrote-nothing before)) some.1

@@ -8,6 +8,7 @@ ghost use Rattle.agg_reading.specs.Lines.{start};
 ghost use Rattle.agg_settings.specs.Ranges.{AreInRange};
 ghost use Rattle.script_answers.specs.declared.end.ScriptEnd.TheVariants as script;
 ghost use Rattle.script_lines.specs.Steps.{place_of};
+ghost use Rattle.script_answers.specs.Outputs.{so_far};
 ghost use Rattle.script_run.specs.Charged.{IsCharged};
 ghost use Rattle.script_run.specs.Ends.{status_of as status_at};
 ghost use Rattle.script_run.specs.Runs.{WroteOf};
@@ -19,6 +20,7 @@ use crate::status::Status;
 use crate::writing::write_items;
 use agg_base::{Lines, Sink, Source};
 use agg_bulk::{Loaded, load};
+use agg_listen::{Audience, Listener};
 use agg_model::Settings;
 use script_answers::{ScriptEnd, answer_script};
 use std::alloc::Global;
@@ -37,10 +39,11 @@ fn status_of(end: ScriptEnd) -> Status
 }
 
 /// Answers a script whose first two sections were loaded: the line of the bulk actions, and those of the third section.
-fn answer_loaded<S: Source, K: Sink, A: Opens>(
+fn answer_loaded<S: Source, K: Sink, L: Listener, A: Opens>(
     alloc: Global,
     lines: &mut Lines<'_, S>,
     sink: &mut K,
+    audience: &mut Audience<L>,
     settings: Settings,
     loaded: Loaded,
 ) -> Status
@@ -50,7 +53,8 @@ fn answer_loaded<S: Source, K: Sink, A: Opens>(
     requires charged { IsCharged settings loaded.index loaded.words loaded.pass }
     ensures output { (bytes before : Items ℕ) →
         IsLoaded bytes (record { index = loaded.index; items = loaded.items }) (place_of lines.old) (unread lines.old) (position lines.old) (has_ended lines.old) →
-        K.written sink.old ≡ Some before → WroteOf settings bytes (bytes_read lines.new) result (Some before) (K.written sink.new) }
+        K.written sink.old ≡ Some before → WroteOf settings bytes (bytes_read lines.new) result
+        (so_far (Some before) audience.old) (so_far (K.written sink.new) audience.new) }
     ensures finished { result ≡ status.Finished → IsAtEnd (S.left (source_of lines.new)) }
     ensures read_fault { result ≡ status.ReadFault → Rose (S.faults (source_of lines.old)) (S.faults (source_of lines.new)) }
     ensures write_fault { result ≡ status.WriteFault → Rose (K.faults sink.old) (K.faults sink.new) }
@@ -66,19 +70,20 @@ fn answer_loaded<S: Source, K: Sink, A: Opens>(
         pass,
     } = loaded;
     let is_generated = settings.generate.is_some();
-    if let Err(stop) = write_items(alloc, sink, &index.name, &items, is_generated) {
+    if let Err(stop) = write_items(alloc, sink, audience, &index.name, &items, is_generated) {
         return ended(Err(stop), Status::Memory);
     }
     drop(items);
     let answerer = A::open(index, words, pass, settings);
-    status_of(answer_script(alloc, lines, sink, answerer, &settings))
+    status_of(answer_script(alloc, lines, sink, audience, answerer, &settings))
 }
 
 /// Answers a whole script, from its start.
-pub(crate) fn answer_lines<S: Source, K: Sink, A: Opens>(
+pub(crate) fn answer_lines<S: Source, K: Sink, L: Listener, A: Opens>(
     alloc: Global,
     lines: &mut Lines<'_, S>,
     sink: &mut K,
+    audience: &mut Audience<L>,
     settings: Settings,
 ) -> Status
     requires kept { kept lines.old ≡ None }
@@ -86,7 +91,7 @@ pub(crate) fn answer_lines<S: Source, K: Sink, A: Opens>(
     requires in_range { AreInRange settings }
     requires takes { A.takes settings }
     ensures output { (bytes before : Items ℕ) → unread lines.old ≡ Some bytes → K.written sink.old ≡ Some before →
-        WroteOf settings bytes (bytes_read lines.new) result (Some before) (K.written sink.new) }
+        WroteOf settings bytes (bytes_read lines.new) result (so_far (Some before) audience.old) (so_far (K.written sink.new) audience.new) }
     ensures finished { result ≡ status.Finished → IsAtEnd (S.left (source_of lines.new)) }
     ensures read_fault { result ≡ status.ReadFault → Rose (S.faults (source_of lines.old)) (S.faults (source_of lines.new)) }
     ensures write_fault { result ≡ status.WriteFault → Rose (K.faults sink.old) (K.faults sink.new) }
@@ -95,7 +100,7 @@ pub(crate) fn answer_lines<S: Source, K: Sink, A: Opens>(
     ensures same_source { source_name lines.new ≡ source_name lines.old }
 {
     match load(alloc, lines, &settings) {
-        Ok(loaded) => answer_loaded::<S, K, A>(alloc, lines, sink, settings, loaded),
-        Err(end) => end_loading(alloc, sink, &end),
+        Ok(loaded) => answer_loaded::<S, K, L, A>(alloc, lines, sink, audience, settings, loaded),
+        Err(end) => end_loading(alloc, sink, audience, &end),
     }
 }

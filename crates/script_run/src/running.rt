@@ -6,6 +6,7 @@ ghost use Rattle.agg_model.specs.declared.settings.Settings.{Settings as AnySett
 ghost use Rattle.agg_settings.specs.Ranges.{AreInRange};
 ghost use Rattle.agg_settings.specs.Settings.{settings_of as settings_given};
 ghost use Rattle.agg_spec.specs.Generator.{generated};
+ghost use Rattle.script_answers.specs.Outputs.{so_far};
 ghost use Rattle.script_run.specs.Runs.{Runs, WroteOf};
 ghost use Rattle.script_run.specs.Statuses.{code_of};
 ghost use Rattle.script_run.specs.declared.status.Status.TheVariants as status;
@@ -18,21 +19,23 @@ use crate::status::Status;
 use crate::writing::write_usage;
 use agg_base::{Block, Lines, Sink, Source};
 use agg_generate::make;
+use agg_listen::{Audience, Listener};
 use agg_model::{Generate, Settings, Text};
 use agg_settings::{SettingsFault, settings_of};
 use std::alloc::Global;
 
 /// Answers the script that a source has left.
-fn answer_source<S: Source, K: Sink, A: Opens>(
+fn answer_source<S: Source, K: Sink, L: Listener, A: Opens>(
     alloc: Global,
     source: &mut S,
     sink: &mut K,
+    audience: &mut Audience<L>,
     settings: Settings,
 ) -> Status
     requires in_range { AreInRange settings }
     requires takes { A.takes settings }
     ensures output { (input before : Items ℕ) → S.left source.old ≡ Some input → K.written sink.old ≡ Some before →
-        (read : ℕ) × WroteOf settings input read result (Some before) (K.written sink.new) }
+        (read : ℕ) × WroteOf settings input read result (so_far (Some before) audience.old) (so_far (K.written sink.new) audience.new) }
     ensures finished { result ≡ status.Finished → IsAtEnd (S.left source.new) }
     ensures read_fault { result ≡ status.ReadFault → Rose (S.faults source.old) (S.faults source.new) }
     ensures write_fault { result ≡ status.WriteFault → Rose (K.faults sink.old) (K.faults sink.new) }
@@ -43,22 +46,23 @@ fn answer_source<S: Source, K: Sink, A: Opens>(
         return Status::Memory;
     };
     let mut lines = Lines::new(alloc, source, block);
-    let status = answer_lines::<S, K, A>(alloc, &mut lines, sink, settings);
+    let status = answer_lines::<S, K, L, A>(alloc, &mut lines, sink, audience, settings);
     let _source = lines.into_source();
     status
 }
 
 /// Answers the script that is generated in the place of the input.
-fn answer_generated<K: Sink, A: Opens>(
+fn answer_generated<K: Sink, L: Listener, A: Opens>(
     alloc: Global,
     sink: &mut K,
+    audience: &mut Audience<L>,
     settings: Settings,
     generate: &Generate,
 ) -> Status
     requires in_range { AreInRange settings }
     requires takes { A.takes settings }
     ensures output { (before : Items ℕ) → K.written sink.old ≡ Some before →
-        (read : ℕ) × WroteOf settings (generated generate.now) read result (Some before) (K.written sink.new) }
+        (read : ℕ) × WroteOf settings (generated generate.now) read result (so_far (Some before) audience.old) (so_far (K.written sink.new) audience.new) }
     ensures unread { result ≢ status.ReadFault }
     ensures write_fault { result ≡ status.WriteFault → Rose (K.faults sink.old) (K.faults sink.new) }
     ensures no_usage { result ≢ status.Usage }
@@ -67,44 +71,46 @@ fn answer_generated<K: Sink, A: Opens>(
         return Status::Memory;
     };
     let mut source = Given::new(script);
-    answer_source::<Given, K, A>(alloc, &mut source, sink, settings)
+    answer_source::<Given, K, L, A>(alloc, &mut source, sink, audience, settings)
 }
 
 /// Answers the script that the settings ask for: what the source has left, or a generated script.
-fn answer_settings<S: Source, K: Sink, A: Opens>(
+fn answer_settings<S: Source, K: Sink, L: Listener, A: Opens>(
     alloc: Global,
     source: &mut S,
     sink: &mut K,
+    audience: &mut Audience<L>,
     settings: Settings,
 ) -> Status
     requires in_range { AreInRange settings }
     requires takes { A.takes settings }
     ensures output { (several : Bool) (words : Items (Items ℕ)) (input before : Items ℕ) → settings_given several words ≡ Ok settings →
         S.left source.old ≡ Some input → K.written sink.old ≡ Some before →
-        Runs several words input (code_of result) (Some before) (K.written sink.new) }
+        Runs several words input (code_of result) (so_far (Some before) audience.old) (so_far (K.written sink.new) audience.new) }
     ensures finished { result ≡ status.Finished → settings.generate ≡ None → IsAtEnd (S.left source.new) }
     ensures read_fault { result ≡ status.ReadFault → Rose (S.faults source.old) (S.faults source.new) }
     ensures write_fault { result ≡ status.WriteFault → Rose (K.faults sink.old) (K.faults sink.new) }
     ensures no_usage { result ≢ status.Usage }
 {
     match &settings.generate {
-        Some(generate) => answer_generated::<K, A>(alloc, sink, settings, generate),
-        None => answer_source::<S, K, A>(alloc, source, sink, settings),
+        Some(generate) => answer_generated::<K, L, A>(alloc, sink, audience, settings, generate),
+        None => answer_source::<S, K, L, A>(alloc, source, sink, audience, settings),
     }
 }
 
 /// Runs a script over a source and a sink, and answers how it ended. With `several`, up to 64 workers and searches at a time are
 /// in the grammar of the words.
-fn status_of<S: Source, K: Sink, A: Opens>(
+fn status_of<S: Source, K: Sink, L: Listener, A: Opens>(
     alloc: Global,
     several: bool,
     words: &[Text],
     source: &mut S,
     sink: &mut K,
+    audience: &mut Audience<L>,
 ) -> Status
     requires takes { (settings : AnySettings) → settings_given several words.now ≡ Ok settings → A.takes settings }
     ensures output { (input before : Items ℕ) → S.left source.old ≡ Some input → K.written sink.old ≡ Some before →
-        Runs several words.now input (code_of result) (Some before) (K.written sink.new) }
+        Runs several words.now input (code_of result) (so_far (Some before) audience.old) (so_far (K.written sink.new) audience.new) }
     ensures finished { result ≡ status.Finished → (settings : AnySettings) → settings_given several words.now ≡ Ok settings →
         settings.generate ≡ None → IsAtEnd (S.left source.new) }
     ensures usage { result ≡ status.Usage → IsErr (settings_given several words.now) }
@@ -112,9 +118,9 @@ fn status_of<S: Source, K: Sink, A: Opens>(
     ensures write_fault { result ≡ status.WriteFault → Rose (K.faults sink.old) (K.faults sink.new) }
 {
     match settings_of(alloc, words, several) {
-        Ok(settings) => answer_settings::<S, K, A>(alloc, source, sink, settings),
+        Ok(settings) => answer_settings::<S, K, L, A>(alloc, source, sink, audience, settings),
         Err(SettingsFault::Usage(usage)) => {
-            ended(write_usage(alloc, sink, &usage), Status::Usage)
+            ended(write_usage(alloc, sink, audience, &usage), Status::Usage)
         }
         Err(SettingsFault::Memory) => Status::Memory,
     }
@@ -130,17 +136,18 @@ fn status_of<S: Source, K: Sink, A: Opens>(
 /// - 5: the script was refused; its error line is the last that was written.
 /// - 6: the columns are beyond a limit; that is the one line.
 /// - 7: memory ran out; whole lines of the output were written.
-pub fn run<S: Source, K: Sink, A: Opens>(
+pub fn run<S: Source, K: Sink, L: Listener, A: Opens>(
     alloc: Global,
     several: bool,
     words: &[Text],
     source: &mut S,
     sink: &mut K,
+    audience: &mut Audience<L>,
 ) -> u8
     requires takes { (settings : AnySettings) → settings_given several words.now ≡ Ok settings → A.takes settings }
     // What was written, where the source and the sink tell their bytes.
     ensures output { (input before : Items ℕ) → S.left source.old ≡ Some input → K.written sink.old ≡ Some before →
-        Runs several words.now input result (Some before) (K.written sink.new) }
+        Runs several words.now input result (so_far (Some before) audience.old) (so_far (K.written sink.new) audience.new) }
 
     // Why each status comes.
     ensures finished { result ≡ 0 → (settings : AnySettings) → settings_given several words.now ≡ Ok settings →
@@ -149,5 +156,5 @@ pub fn run<S: Source, K: Sink, A: Opens>(
     ensures read_fault { result ≡ 3 → Rose (S.faults source.old) (S.faults source.new) }
     ensures write_fault { result ≡ 4 → Rose (K.faults sink.old) (K.faults sink.new) }
 {
-    status_of::<S, K, A>(alloc, several, words, source, sink).code()
+    status_of::<S, K, L, A>(alloc, several, words, source, sink, audience).code()
 }

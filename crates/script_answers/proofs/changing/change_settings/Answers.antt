@@ -12,7 +12,7 @@ returns-in_err-next-clause-puts g c =
 pub returns-in_err-write_line-clause-puts : goal.returns-in_err-write_line-clause-puts
 returns-in_err-write_line-clause-puts g c =
     let p = err_from_is_err_and c.from_residual-in_err-write_line.result c.from_residual-in_err-write_line.ensures.1 in
-    rw (p.1, p.2) (c.in_err-write_line.ensures.puts (settings _) refl (sym c.in_ok-next.ensures.text))
+    rw (p.1, p.2) (c.in_err-write_line.ensures.puts (settings _) refl refl (sym c.in_ok-next.ensures.text))
 
 pub returns-clause-puts : goal.returns-clause-puts
-returns-clause-puts g c = c.in_ok-write_line.ensures.puts (settings _) refl (sym c.in_ok-next.ensures.text)
+returns-clause-puts g c = c.in_ok-write_line.ensures.puts (settings _) refl refl (sym c.in_ok-next.ensures.text)

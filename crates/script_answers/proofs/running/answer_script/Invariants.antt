@@ -7,6 +7,7 @@ use Rattle.script_entries.specs.Reading.{HasRead}
 use Rattle.script_lines.specs.Steps.{place_of}
 use Rattle.agg_spec.specs.Answers.{Recent}
 use Rattle.script_answers.specs.Answering.{MayBe, fresh_with}
+use Rattle.script_answers.specs.Outputs.{so_far}
 use Rattle.script_answers.specs.Stepping.{IsReady}
 use Rattle.script_answers.proofs.Sections.{SoFar}
 use Rattle.script_answers.proofs.running.answer_script.Given as goal
@@ -23,7 +24,7 @@ pub record Answering (g : goal.Over) (l : goal.Live-loop-entry g) : Type 0 where
   pub so_far : (start : Recent) → MayBe (g.A.Answerer.in_force l.fn.answerer) (g.A.Answerer.answered l.fn.answerer) start
       → (bytes : List ℕ) (whole : List Line → Entries) → HasRead whole bytes [] l.fn.lines → (now : Recent)
       × SoFar l.words (g.A.Answerer.index l.fn.answerer) (g.A.Answerer.columns l.fn.answerer) whole bytes start now l.waiting.wave
-      (g.K.Sink.written l.fn.sink) (g.K.Sink.written l.sink) (place_of l.lines) (unread l.lines) (position l.lines) (has_ended l.lines)
+      (so_far (g.K.Sink.written l.fn.sink) l.fn.audience) (so_far (g.K.Sink.written l.sink) l.audience) (place_of l.lines) (unread l.lines) (position l.lines) (has_ended l.lines)
       × MayBe (g.A.Answerer.in_force l.waiting.answerer) (g.A.Answerer.answered l.waiting.answerer) now
 
 abbrev pub invariant-loop-entry : goal.invariant-loop-entry

@@ -1,4 +1,5 @@
 use Rattle.std.proofs.lemmas.Result.{err_from_is_err_and}
+use Rattle.script_answers.specs.Outputs.{so_far}
 use Rattle.script_answers.proofs.Ending.{wave-stops-end, end-finishes, end-stops}
 use Rattle.script_answers.proofs.Widths.{on-each, err-each}
 use Rattle.script_answers.proofs.step.finish.Goals as goal
@@ -6,7 +7,7 @@ use Rattle.script_answers.proofs.step.finish.Goals as goal
 pub returns-in_err-answer_wave-clause-stops : goal.returns-in_err-answer_wave-clause-stops
 returns-in_err-answer_wave-clause-stops g c =
     let p = err_from_is_err_and c.from_residual.result c.from_residual.ensures.1 in
-    let before = g.K.Sink.written c.args.sink.now in
+    let before = so_far (g.K.Sink.written c.args.sink.now) c.args.audience.now in
     rw (p.1, p.2) (λ recent may.
     let wave = c.in_err-answer_wave.ensures.puts recent may in
     wave-stops-end _ _ _ _ _ _ _ before _ wave.0 wave.1)

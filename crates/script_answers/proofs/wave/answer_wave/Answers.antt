@@ -1,4 +1,4 @@
-use Rattle.std.proofs.Common.{◌∙◌, ◌≤◌, ap, refl, sym, subst, length, map}
+use Rattle.std.proofs.Common.{◌≤◌, refl, sym, subst, length, map}
 use Rattle.std.proofs.lemmas.List.{length-map}
 use Rattle.std.proofs.lemmas.Result.{err_from_is_err_and}
 use Rattle.agg_model.specs.declared.settings.Settings.{Settings}

@@ -1,4 +1,4 @@
-use Rattle.std.proofs.Common.{List, ap, refl, Some, []}
+use Rattle.std.proofs.Common.{ap, refl, []}
 use Rattle.agg_model.specs.declared.settings.Settings.{Settings}
 use Rattle.agg_spec.specs.Answers.{Recent}
 use Rattle.script_run.specs.declared.status.Status.TheVariants as status
@@ -9,16 +9,16 @@ pub returns-in-Err-clause-output : goal.returns-in-Err-clause-output
 returns-in-Err-clause-output g c = λ bytes before is known.
     let puts = rw known at c.in-Err.ensures.puts in
     rw c.ended.ensures
-    (first-stops c.args.settings bytes before _ _ _ _ _ _ is c.requires.charged.light _ c.in-Err.stop status.Memory c.is_some-is_generated.result c.is_some-is_generated.ensures puts)
+    (first-stops c.args.settings bytes before _ _ _ _ _ _ _ is c.requires.charged.light _ c.in-Err.stop status.Memory c.is_some-is_generated.result c.is_some-is_generated.ensures puts)
 
 pub returns-clause-output : goal.returns-clause-output
 returns-clause-output g c = λ bytes before is known.
     let puts = rw known at c.in_default.ensures.puts in
-    let wrote = wrote-first c.args.settings bytes before 0 _ _ _ _ _ is c.requires.charged.light _ c.is_some-is_generated.result c.is_some-is_generated.ensures puts in
+    let wrote = wrote-first c.args.settings bytes before _ 0 _ _ _ _ _ is c.requires.charged.light _ c.is_some-is_generated.result c.is_some-is_generated.ensures puts in
     let opened = c.open-answerer.ensures in
     let recent : Recent = record { settings = g.A.Answerer.in_force c.open-answerer.result; rounds = [] } in
     rw c.status_of.ensures
-    (answered-behind c.args.settings bytes before _ _ _ _ _ _ is c.requires.charged.light _ _ wrote c.answer_script.result
+    (answered-behind c.args.settings bytes before _ _ _ _ _ _ _ is c.requires.charged.light _ _ wrote c.answer_script.result
     (record {
       index = g.A.Answerer.index c.open-answerer.result;
       columns = g.A.Answerer.columns c.open-answerer.result;

@@ -1,10 +1,11 @@
 use Rattle.std.proofs.Common.{◌∙◌}
 use Rattle.agg_base.specs.Lines.{bytes_read}
+use Rattle.script_answers.proofs.Putting.{same-bytes}
 use Rattle.script_run.proofs.Unloaded.{wanting-ends}
 use Rattle.script_run.proofs.running.answer_source.Goals as goal
 
 pub returns-in_default-clause-output : goal.returns-in_default-clause-output
-returns-in_default-clause-output g c = λ input before left known. (0, wanting-ends c.args.settings input 0 _ _ known)
+returns-in_default-clause-output g c = λ input before left known. (0, wanting-ends c.args.settings input 0 _ _ (same-bytes _ _ _ known))
 
 pub returns-clause-output : goal.returns-clause-output
 returns-clause-output g c = λ input before left known.

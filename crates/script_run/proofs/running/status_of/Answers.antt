@@ -1,3 +1,4 @@
+use Rattle.script_answers.proofs.Putting.{same-bytes}
 use Rattle.script_run.proofs.WholeRuns.{usage-runs, nothing-runs}
 use Rattle.script_run.proofs.running.status_of.Goals as goal
 
@@ -8,4 +9,4 @@ returns-in-Err-Usage-clause-output g c = λ input before left known.
     rw c.ended.ensures (usage-runs c.args.several c.args.words.now input _ _ 0 c.in-Err-Usage.usage fails c.write_usage.result puts)
 
 pub returns-in-Err-Memory-clause-output : goal.returns-in-Err-Memory-clause-output
-returns-in-Err-Memory-clause-output g c = λ input before left known. nothing-runs c.args.several c.args.words.now input _ _ 0 known
+returns-in-Err-Memory-clause-output g c = λ input before left known. nothing-runs c.args.several c.args.words.now input _ _ 0 (same-bytes _ _ _ known)

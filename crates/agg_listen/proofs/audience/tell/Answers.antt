@@ -1,5 +1,5 @@
 use Rattle.agg_listen.proofs.Telling.{all_heard, tells_at}
-use Rattle.agg_listen.proofs.listener.tell.Goals as goal
+use Rattle.agg_listen.proofs.audience.tell.Goals as goal
 
 pub returns : goal.returns
 returns g c =
