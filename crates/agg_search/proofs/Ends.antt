@@ -5,25 +5,27 @@ use Rattle.agg_model.specs.declared.aggregation.Search.{Search}
 use Rattle.agg_model.specs.declared.breaker.Child.TheVariants as child
 use Rattle.agg_model.specs.declared.breaker.Limits.{Limits}
 use Rattle.agg_model.specs.declared.outcome.Failure.{Failure}
-use Rattle.agg_model.specs.declared.outcome.Outcome.{Outcome}
 use Rattle.agg_model.specs.declared.settings.Settings.{Settings}
 use Rattle.agg_spec.specs.Charges.{charge_of}
 use Rattle.agg_spec.specs.Index.{Index}
 use Rattle.agg_spec.specs.Outcome.{Request}
 use Rattle.breaker_words.specs.declared.view.View.{View}
-use Rattle.agg_search.specs.Answering.{Searches, StopsSearching, StopsSolving}
+use Rattle.agg_search.specs.Answering.{StopsSearching, StopsSolving}
 use Rattle.agg_search.specs.Stepping.{StopsRunning}
 use Rattle.agg_search.specs.Stops.{IfRefused}
+use Rattle.agg_search.specs.declared.paging.Found.{Found}
 use Rattle.agg_search.specs.declared.stop.Stop.{Stop}
 use Rattle.agg_search.specs.declared.stop.Stop.TheVariants as stop
 use Rattle.agg_search.proofs.Outcomes.{body-stops}
 
-module _ (settings : Settings) (index : Index) (v u : View) (failures : List Failure) (search : Search) (request : Request) (is : request.search ≡ Ok search) where
-  pub searches-at : (res : Result Outcome Stop) → IfOk res (λ o. (request : Request) → request.search ≡ Ok search → Searches settings index request v u failures o) → IfOk res (Searches settings index request v u failures)
-  searches-at (Ok o) told = told request is
-  searches-at (Err s) told = tt
+-- what is found, whatever it says of a request with this search
+pub found-at : (P : Request → Found → Type 0) (search : Search) (request : Request) → request.search ≡ Ok search → (res : Result Found Stop)
+    → IfOk res (λ found. (r : Request) → r.search ≡ Ok search → P r found) → IfOk res (P request)
+found-at P search request is (Ok found) told = told request is
+found-at P search request is (Err s) told = tt
 
-  pub stops-at : (res : Result Outcome Stop) → IfErr res (λ s. IfRefused s (λ t. (request : Request) → request.search ≡ Ok search → StopsSearching settings index request v u failures t))
+module _ (settings : Settings) (index : Index) (v u : View) (failures : List Failure) (search : Search) (request : Request) (is : request.search ≡ Ok search) where
+  pub stops-at : (res : Result Found Stop) → IfErr res (λ s. IfRefused s (λ t. (request : Request) → request.search ≡ Ok search → StopsSearching settings index request v u failures t))
       → IfErr res (λ s. IfRefused s (StopsSearching settings index request v u failures))
   stops-at (Ok o) told = tt
   stops-at (Err stop.Memory) told = tt

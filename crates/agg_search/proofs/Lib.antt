@@ -9,3 +9,6 @@ pub mod Batching
 pub mod Outcomes
 pub mod AnswerParts
 pub mod Ends
+pub mod LastKeys
+pub mod NextPages
+pub mod Onward

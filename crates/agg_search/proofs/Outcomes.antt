@@ -1,5 +1,5 @@
 -- What the shards that are left come to, and which searches run.
-use Rattle.std.specs.Prelude.{◌≡◌, refl, ℕ, ◌+◌, ◌-◌, ◌≤◌, nat_lt, not, Bool, true, false, List, [], ◌∷◌, ◌*◌, is_some, length, Option, Some, None, Ok}
+use Rattle.std.specs.Prelude.{◌≡◌, refl, ℕ, ◌+◌, ◌-◌, ◌≤◌, nat_lt, not, Bool, true, false, List, [], ◌∷◌, ◌*◌, is_some, length, Option, Some, None, Result, Ok, Err}
 use Rattle.std.proofs.Common.{◌∙◌, sym, ap, subst, arith}
 use Rattle.std.proofs.lemmas.Bool.{le-ltb}
 use Rattle.agg_evaluation.specs.Ceiling.{search_ceiling}
@@ -9,8 +9,12 @@ use Rattle.agg_model.specs.declared.breaker.Tripped.{Tripped}
 use Rattle.agg_model.specs.declared.outcome.Failure.{Failure}
 use Rattle.agg_model.specs.declared.outcome.Outcome.{Outcome}
 use Rattle.agg_model.specs.declared.outcome.Outcome.TheVariants as ended
+use Rattle.agg_model.specs.declared.outcome.Refused.{Refused}
 use Rattle.agg_model.specs.declared.outcome.Refused.TheVariants as refused
 use Rattle.agg_model.specs.declared.partial.Partial.{Partial}
+use Rattle.agg_reading.specs.Reading.{Gives}
+use Rattle.agg_reading.specs.declared.fault.RequestFault.{RequestFault}
+use Rattle.agg_reading.specs.declared.fault.RequestFault.TheVariants as fault
 use Rattle.agg_spec.specs.BucketCount.{total_buckets}
 use Rattle.agg_spec.specs.Failures.{AreAscending, total_failure, unfailed}
 use Rattle.agg_spec.specs.Index.{Index, field_kinds}
@@ -31,6 +35,7 @@ use Rattle.agg_search.specs.Answering.{IsOutcome, StopsSearching, StopsSolving, 
 use Rattle.agg_search.specs.Progressing.{IsStopped}
 use Rattle.agg_search.specs.Reducing.{IsReduced, StopsReducing}
 use Rattle.agg_search.specs.Stops.{IfRefused}
+use Rattle.agg_search.specs.Telling.{IsTold}
 use Rattle.agg_search.specs.declared.stop.Stop.{Stop}
 use Rattle.agg_search.specs.declared.stop.Stop.TheVariants as stop
 use Rattle.agg_search.proofs.Following.{batches-inert, last-inert}
@@ -99,6 +104,24 @@ module _ (index : Index) (max : ℕ) (search : Search) where
 pub from-some : (o : Option ℕ) (b : Bool) → is_some o ≡ not b → b ≡ false → (n : ℕ) × (o ≡ Some n)
 from-some (Some n) b e h = (n, refl)
 from-some None b e h = absurd (let no : false ≡ true = e ∙ ap not h in (let none : ⊥ = cc in none))
+
+-- what reading a body told, unless memory ran out
+pub told-fault : (read : Result Search RequestFault) (f : RequestFault) → Gives (λ (search : Search). search) (Err f) read → IsTold f → read ≡ Err f
+told-fault read fault.NotJson gives told = gives
+told-fault read (fault.Bad code path) gives told = gives
+told-fault read fault.Memory gives told = absurd told
+
+-- a body that is no search
+pub refused-ends : (settings : Settings) (index : Index) (request : Request) (r : Refused) → request.search ≡ Err r → (before : Before) (u : View) (start : Run) (failures : List Failure) (o : Outcome)
+    → failures ≡ [] → o ≡ ended.Refused r → StandsAt before u start
+    → IsOutcome settings index request before u (searched settings index start (running_search index settings.max_buckets request)) failures o
+refused-ends settings index request r is before u start failures o empty e stands =
+    let not_run : running_search index settings.max_buckets request ≡ None = ap (λ s. running s (outcome index settings.max_buckets request [])) is in
+    subst (λ found. IsOutcome settings index request before u (searched settings index start found) failures o) (sym not_run) (record {
+      stands = stands;
+      failures_are = sym empty;
+      outcome_is = e ∙ sym (ap (λ s. request_outcome index settings.max_buckets s []) is);
+    })
 
 module _ (settings : Settings) (index : Index) (search : Search) (request : Request) (is : request.search ≡ Ok search) where
   module _ (n : ℕ) (some : search_ceiling (field_kinds index) search index.shards ≡ Some n) (limits : Limits) (same : limits ≡ settings.limits) where

@@ -23,7 +23,8 @@ whole_unless_none index search [] = None
 whole_unless_none index search (shard ∷ left) = Some (whole_of index search (shard ∷ left))
 
 -- the definitions' search of this request stands where the pass does, and comes to this outcome with these failures
-pub record IsOutcome (settings : Settings) (index : Index) (request : Request) (before : Before) (u : View) (g : Going) (failures : List Failure) (o : Outcome) : Type 0 where
+pub record IsOutcome (settings : Settings) (index : Index) (request : Request) (before : Before) (u : View) (g : Going)
+    (failures : List Failure) (o : Outcome) : Type 0 where
   pub stands : StandsAt before u g.run
   pub failures_are : g.failures ≡ failures
   pub outcome_is : o ≡ outcome_with settings index request g
@@ -46,7 +47,8 @@ module _ (settings : Settings) (index : Index) (request : Request) (v u : View) 
   StopsSolving t = (before : Before) (r : Run) → StandsAt before v r → IsStopped before u (solo_run settings index r request) failures t
 
 -- the answer is the solo run's, and the pass stands where it leaves the breakers
-pub record IsAnswered (settings : Settings) (index : Index) (request : Request) (before : Before) (r : Run) (u : View) (a : Answered) : Type 0 where
+pub record IsAnswered (settings : Settings) (index : Index) (request : Request) (before : Before) (r : Run) (u : View)
+    (a : Answered) : Type 0 where
   pub answer : a ≡ solo_answer settings index r request
   pub stands : StandsAt before u (after_request settings index r request)
 

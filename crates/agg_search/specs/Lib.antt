@@ -8,3 +8,4 @@ pub mod Answering
 pub mod Reducing
 pub mod Stepping
 pub mod Telling
+pub mod Paging

@@ -1,56 +1,67 @@
 //! The outcome of a search whose tasks and merges have ended.
-ghost use Rattle.std.specs.Prelude.{◌≡◌, ◌≤◌, ℕ, [], IfOk, length};
+ghost use Rattle.std.specs.Prelude.{◌≡◌, ◌≤◌, ℕ, [], IfOk, Ok, length};
 ghost use Rattle.agg_model.specs.declared.aggregation.Search.{Search as AnySearch};
+ghost use Rattle.agg_model.specs.declared.outcome.Outcome.TheVariants.{Tripped as AsTripped};
 ghost use Rattle.agg_spec.specs.Failures.{AreFailures, unfailed};
 ghost use Rattle.agg_spec.specs.Index.{Index as AnyIndex};
-ghost use Rattle.agg_spec.specs.Outcome.{outcome_of_shards};
+ghost use Rattle.agg_spec.specs.Outcome.{Request, outcome_of_shards};
 ghost use Rattle.agg_search.specs.Answering.{whole_unless_none};
 ghost use Rattle.agg_search.specs.Defined.{CanRun, index_of};
+ghost use Rattle.agg_search.specs.Paging.{IsBehind};
 
-use agg_model::{Failure, List, Outcome, Partial, Refused, Search};
+use crate::paging::{Found, last_key, search_behind};
+use agg_model::{Failure, List, Outcome, Partial, Refused, Search, Tripped};
 use agg_response::response;
 use final_reduce::{FinalFault, finish};
 use shard_columns::Index;
 use std::alloc::{AllocError, Global};
 
 /// The refusal of the first shard that failed, where no shard is left.
-fn total_failure(failures: &List<Failure>) -> Outcome
+fn total_failure(failures: &List<Failure>) -> Tripped
     requires { 1 ≤ length failures.now }
     ensures { (index : AnyIndex) (max : ℕ) (search : AnySearch) →
-        result ≡ outcome_of_shards index max search failures.now [] }
+        AsTripped result ≡ outcome_of_shards index max search failures.now [] }
 {
-    Outcome::Tripped(failures.as_slice()[0].tripped)
+    failures.as_slice()[0].tripped
 }
 
-/// What the whole of the shards that are left comes to: the response, or why there is none.
+/// What the whole of the shards that are left comes to: the response, with the search of the page behind it, or why there is
+/// none.
 pub(crate) fn outcome_of(
     alloc: Global,
     index: &Index,
-    search: &Search,
+    search: Search,
     max_buckets: u64,
     failures: &List<Failure>,
     whole: Option<Partial>,
-) -> Result<Outcome, AllocError>
-    requires search { CanRun index.now search.now }
+) -> Result<Found, AllocError>
+    requires search { CanRun index.now search }
     requires failures { AreFailures (length index.now.shards) failures.now }
     requires whole { whole
-        ≡ whole_unless_none (index_of index.now) search.now (unfailed (index_of index.now) failures.now) }
-    ensures { IfOk result (λ outcome. outcome ≡ outcome_of_shards (index_of index.now) max_buckets search.now failures.now
-        (unfailed (index_of index.now) failures.now)) }
+        ≡ whole_unless_none (index_of index.now) search (unfailed (index_of index.now) failures.now) }
+    ensures outcome { IfOk result (λ found. found.outcome ≡ outcome_of_shards (index_of index.now) max_buckets search
+        failures.now (unfailed (index_of index.now) failures.now)) }
+    ensures next { IfOk result (λ found. (request : Request) → request.search ≡ Ok search →
+        IsBehind index.now request found.outcome failures.now found.next) }
 {
     let Some(whole) = whole else {
-        return Ok(total_failure(failures));
+        return Ok(Found::without_page(Outcome::Tripped(total_failure(failures))));
     };
-    match finish(alloc, search, max_buckets, whole) {
+    match finish(alloc, &search, max_buckets, whole) {
         Ok(answer) => {
             let shards = index.shards.len() as u32;
-            let line = response(alloc, search, &index.mapping, &answer, shards, failures)?;
-            Ok(Outcome::Response(line))
+            let line = response(alloc, &search, &index.mapping, &answer, shards, failures)?;
+            Ok(Found {
+                outcome: Outcome::Response(line),
+                next: search_behind(search, last_key(answer)),
+            })
         }
-        Err(FinalFault::TooManyBuckets { count, max }) => {
-            Ok(Outcome::Refused(Refused::TooManyBuckets { count, max }))
-        }
-        Err(FinalFault::SumRange { path }) => Ok(Outcome::Refused(Refused::SumRange { path })),
+        Err(FinalFault::TooManyBuckets { count, max }) => Ok(Found::without_page(Outcome::Refused(
+            Refused::TooManyBuckets { count, max },
+        ))),
+        Err(FinalFault::SumRange { path }) => Ok(Found::without_page(Outcome::Refused(
+            Refused::SumRange { path },
+        ))),
         Err(FinalFault::Memory) => Err(AllocError),
     }
 }

@@ -5,10 +5,13 @@
 mod answering;
 mod charging;
 mod merging;
+mod pages;
+mod paging;
 mod progress;
 mod reducing;
 mod solo;
 mod stop;
 mod tasks;
 
+pub use pages::search_pages;
 pub use solo::search_solo;

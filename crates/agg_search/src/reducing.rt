@@ -2,6 +2,7 @@
 ghost use Rattle.std.specs.Prelude.{◌≡◌, ◌++◌, ◌-◌, ◌≤◌, [], IfErr, IfOk, OnOk, length, map, option_to_list};
 ghost use Rattle.std.specs.List.{range_with_len};
 ghost use Rattle.agg_model.specs.declared.breaker.Which.TheVariants as which;
+ghost use Rattle.agg_model.specs.declared.limits.TheConstants.{MAX_BATCH};
 ghost use Rattle.agg_spec.specs.Failures.{AreFailures, unfailed};
 ghost use Rattle.agg_spec.specs.Reduction.{after_batch, after_batches, after_tasks, batches, task_of, tasks_of};
 ghost use Rattle.breaker_words.specs.Views.{hold_of};
@@ -86,7 +87,7 @@ fn run_batches(
     requires alone { IsAlone words.now pass.old }
     requires search { CanRun index.now search.now }
     requires some { 1 ≤ size }
-    requires few { size ≤ 1024 }
+    requires few { size ≤ MAX_BATCH }
     requires reached { HasReached (index_of index.now) search.now 0 progress.old }
     requires merged { progress.old.batch ≡ [] }
     requires held { HoldsCosts progress.old pass.old.view }
@@ -125,7 +126,7 @@ pub(crate) fn reduce_search(
     requires alone { IsAlone words.now pass.old }
     requires search { CanRun index.now search.now }
     requires some { 1 ≤ size }
-    requires few { size ≤ 1024 }
+    requires few { size ≤ MAX_BATCH }
     requires batch { progress.old.batch ≡ [] }
     requires results { progress.old.results ≡ [] }
     requires failures { progress.old.failures ≡ [] }

@@ -1,5 +1,5 @@
 //! One search by one worker, from the charge of its body to its answer.
-ghost use Rattle.std.specs.Prelude.{◌≡◌, ◌≤◌, [], IfErr, IfOk, IsTrue, Ok, OnOk, length};
+ghost use Rattle.std.specs.Prelude.{◌≡◌, ◌≤◌, [], IfErr, IfOk, IfSome, IsTrue, Ok, OnOk, length};
 ghost use Rattle.agg_evaluation.specs.SearchFits.{search_fits};
 ghost use Rattle.agg_model.specs.declared.breaker.Which.{Which as AnyWhich};
 ghost use Rattle.agg_model.specs.declared.breaker.Which.TheVariants as which;
@@ -9,17 +9,19 @@ ghost use Rattle.agg_spec.specs.Requests.{refusal_of_fault, request_of};
 ghost use Rattle.breaker_words.specs.Views.{hold_of};
 ghost use Rattle.solo_charges.specs.Alone.{IsAlone};
 ghost use Rattle.agg_search.specs.Answering.{AnswersAlone, Searches, Solves, StopsSearching, StopsSolving};
-ghost use Rattle.agg_search.specs.Telling.{IsTold, told_as};
+ghost use Rattle.agg_search.specs.Telling.{IsTold, next_as, told_as};
 ghost use Rattle.agg_search.specs.Defined.{index_of};
+ghost use Rattle.agg_search.specs.Paging.{IsBehind, request_at};
 ghost use Rattle.agg_search.specs.Stops.{IfRefused};
 
 use crate::answering::outcome_of;
 use crate::charging::{charge, charge_response};
+use crate::paging::Found;
 use crate::progress::Progress;
 use crate::reducing::reduce_search;
 use crate::stop::Stop;
 use agg_cost::search_ceiling;
-use agg_model::{Answered, Bytes, Child, Outcome, Refused, Search, Settings};
+use agg_model::{Answered, Bytes, Child, Failure, List, Outcome, Refused, Search, Settings};
 use agg_reading::RequestFault;
 use agg_request::search_of;
 use breaker_words::{Pass, Words};
@@ -33,31 +35,33 @@ fn run_search(
     words: &Words,
     pass: &mut Pass,
     index: &Index,
-    search: &Search,
+    search: Search,
     settings: &Settings,
     progress: &mut Progress,
-) -> Result<Outcome, Stop>
+) -> Result<Found, Stop>
     requires alone { IsAlone words.now pass.old }
     requires limits { words.now.limits ≡ settings.now.limits }
     requires some { 1 ≤ settings.now.batch }
     requires few { settings.now.batch ≤ MAX_BATCH }
-    requires made { IsTrue (search_fits index.now.mapping search.now) }
+    requires made { IsTrue (search_fits index.now.mapping search) }
     requires batch { progress.old.batch ≡ [] }
     requires results { progress.old.results ≡ [] }
     requires failures { progress.old.failures ≡ [] }
     requires free { hold_of pass.old.view which.Request ≡ 0 }
     ensures alone { IsAlone words.now pass.new }
     ensures fielddata { hold_of pass.new.view which.Fielddata ≡ hold_of pass.old.view which.Fielddata }
-    ensures searches { IfOk result (λ outcome. (request : Request) → request.search ≡ Ok search.now →
-        Searches settings.now (index_of index.now) request pass.old.view pass.new.view progress.new.failures outcome) }
-    ensures stops { IfErr result (λ stop. IfRefused stop (λ t. (request : Request) → request.search ≡ Ok search.now →
+    ensures searches { IfOk result (λ found. (request : Request) → request.search ≡ Ok search →
+        Searches settings.now (index_of index.now) request pass.old.view pass.new.view progress.new.failures found.outcome) }
+    ensures next { IfOk result (λ found. (request : Request) → request.search ≡ Ok search →
+        IsBehind index.now request found.outcome progress.new.failures found.next) }
+    ensures stops { IfErr result (λ stop. IfRefused stop (λ t. (request : Request) → request.search ≡ Ok search →
         StopsSearching settings.now (index_of index.now) request pass.old.view pass.new.view progress.new.failures t)) }
 {
-    if search_ceiling(alloc, index, search)?.is_none() {
-        return Ok(Outcome::Refused(Refused::TooWide));
+    if search_ceiling(alloc, index, &search)?.is_none() {
+        return Ok(Found::without_page(Outcome::Refused(Refused::TooWide)));
     }
     let size = settings.batch as usize;
-    let whole = reduce_search(alloc, words, pass, index, search, size, progress)?;
+    let whole = reduce_search(alloc, words, pass, index, &search, size, progress)?;
     Ok(outcome_of(
         alloc,
         index,
@@ -90,7 +94,7 @@ fn search_body(
     body: &Bytes,
     settings: &Settings,
     progress: &mut Progress,
-) -> Result<Outcome, Stop>
+) -> Result<Found, Stop>
     requires alone { IsAlone words.now pass.old }
     requires limits { words.now.limits ≡ settings.now.limits }
     requires some { 1 ≤ settings.now.batch }
@@ -101,47 +105,155 @@ fn search_body(
     requires free { hold_of pass.old.view which.Request ≡ 0 }
     ensures alone { IsAlone words.now pass.new }
     ensures fielddata { hold_of pass.new.view which.Fielddata ≡ hold_of pass.old.view which.Fielddata }
-    ensures searches { IfOk result (Searches settings.now (index_of index.now) (request_of (index_of index.now) body.now)
-        pass.old.view pass.new.view progress.new.failures) }
+    ensures searches { IfOk result (λ found. Searches settings.now (index_of index.now)
+        (request_of (index_of index.now) body.now) pass.old.view pass.new.view progress.new.failures found.outcome) }
+    ensures next { IfOk result (λ found. IsBehind index.now (request_of (index_of index.now) body.now) found.outcome
+        progress.new.failures found.next) }
     ensures stops { IfErr result (λ stop. IfRefused stop (StopsSearching settings.now (index_of index.now)
         (request_of (index_of index.now) body.now) pass.old.view pass.new.view progress.new.failures)) }
 {
     match search_of(alloc, body.as_slice(), &index.mapping) {
-        Ok(search) => run_search(alloc, words, pass, index, &search, settings, progress),
-        Err(fault) => Ok(Outcome::Refused(refusal_of(fault)?)),
+        Ok(search) => run_search(alloc, words, pass, index, search, settings, progress),
+        Err(fault) => Ok(Found::without_page(Outcome::Refused(refusal_of(fault)?))),
     }
 }
 
-/// Runs the search of a body, with the charges of the body and of the response.
+/// Runs the search of a page, which is read from the body where it was not read before.
+fn search_page(
+    alloc: Global,
+    words: &Words,
+    pass: &mut Pass,
+    index: &Index,
+    body: &Bytes,
+    search: Option<Search>,
+    settings: &Settings,
+    progress: &mut Progress,
+) -> Result<Found, Stop>
+    requires alone { IsAlone words.now pass.old }
+    requires limits { words.now.limits ≡ settings.now.limits }
+    requires some { 1 ≤ settings.now.batch }
+    requires few { settings.now.batch ≤ MAX_BATCH }
+    requires made { IfSome search (λ search. IsTrue (search_fits index.now.mapping search)) }
+    requires batch { progress.old.batch ≡ [] }
+    requires results { progress.old.results ≡ [] }
+    requires failures { progress.old.failures ≡ [] }
+    requires free { hold_of pass.old.view which.Request ≡ 0 }
+    ensures alone { IsAlone words.now pass.new }
+    ensures fielddata { hold_of pass.new.view which.Fielddata ≡ hold_of pass.old.view which.Fielddata }
+    ensures searches { IfOk result (λ found. Searches settings.now (index_of index.now)
+        (request_at (index_of index.now) body.now search) pass.old.view pass.new.view progress.new.failures found.outcome) }
+    ensures next { IfOk result (λ found. IsBehind index.now (request_at (index_of index.now) body.now search) found.outcome
+        progress.new.failures found.next) }
+    ensures stops { IfErr result (λ stop. IfRefused stop (StopsSearching settings.now (index_of index.now)
+        (request_at (index_of index.now) body.now search) pass.old.view pass.new.view progress.new.failures)) }
+{
+    match search {
+        Some(search) => run_search(alloc, words, pass, index, search, settings, progress),
+        None => search_body(alloc, words, pass, index, body, settings, progress),
+    }
+}
+
+/// Runs the search of a page, with the charges of the body and of the response.
 fn solve(
     alloc: Global,
     words: &Words,
     pass: &mut Pass,
     index: &Index,
     body: &Bytes,
+    search: Option<Search>,
     settings: &Settings,
     progress: &mut Progress,
-) -> Result<Outcome, Stop>
+) -> Result<Found, Stop>
     requires alone { IsAlone words.now pass.old }
     requires limits { words.now.limits ≡ settings.now.limits }
     requires some { 1 ≤ settings.now.batch }
     requires few { settings.now.batch ≤ MAX_BATCH }
     requires line { length body.now ≤ MAX_LINE }
+    requires made { IfSome search (λ search. IsTrue (search_fits index.now.mapping search)) }
     requires batch { progress.old.batch ≡ [] }
     requires results { progress.old.results ≡ [] }
     requires failures { progress.old.failures ≡ [] }
     requires free { hold_of pass.old.view which.Request ≡ 0 }
     ensures alone { IsAlone words.now pass.new }
     ensures fielddata { hold_of pass.new.view which.Fielddata ≡ hold_of pass.old.view which.Fielddata }
-    ensures solves { IfOk result (Solves settings.now (index_of index.now) (request_of (index_of index.now) body.now)
-        pass.old.view pass.new.view progress.new.failures) }
+    ensures solves { IfOk result (λ found. Solves settings.now (index_of index.now)
+        (request_at (index_of index.now) body.now search) pass.old.view pass.new.view progress.new.failures found.outcome) }
+    ensures next { IfOk result (λ found. IsBehind index.now (request_at (index_of index.now) body.now search) found.outcome
+        progress.new.failures found.next) }
     ensures stops { IfErr result (λ stop. IfRefused stop (StopsSolving settings.now (index_of index.now)
-        (request_of (index_of index.now) body.now) pass.old.view pass.new.view progress.new.failures)) }
+        (request_at (index_of index.now) body.now search) pass.old.view pass.new.view progress.new.failures)) }
 {
     charge(words, pass, Child::Inflight, 2 * body.len() as u64)?;
-    let outcome = search_body(alloc, words, pass, index, body, settings, progress)?;
-    charge_response(words, pass, &outcome)?;
-    Ok(outcome)
+    let found = search_page(alloc, words, pass, index, body, search, settings, progress)?;
+    charge_response(words, pass, &found.outcome)?;
+    Ok(found)
+}
+
+/// A page as it was answered, and the search of the page behind it.
+#[derive(Drop)]
+pub struct Page {
+    pub answered: Answered,
+    pub next: Option<Search>,
+}
+
+/// What the end of a search is told as.
+fn page_at(end: Result<Found, Stop>, failures: List<Failure>) -> Page
+    ensures outcome { result.answered.outcome ≡ told_as end }
+    ensures failures { result.answered.failures ≡ failures }
+    ensures next { result.next ≡ next_as end }
+{
+    let Found { outcome, next } = match end {
+        Ok(found) => found,
+        Err(Stop::Refused(tripped)) => Found::without_page(Outcome::Tripped(tripped)),
+        Err(Stop::Memory) => Found::without_page(Outcome::Memory),
+    };
+    Page {
+        answered: Answered { outcome, failures },
+        next,
+    }
+}
+
+/// Answers one page of a search by one worker, with all its charges. Its search is read from the body where it was not read
+/// before; either way the body is charged. At its end all that it holds is given back.
+pub(crate) fn answer_page(
+    alloc: Global,
+    words: &Words,
+    pass: &mut Pass,
+    index: &Index,
+    body: &Bytes,
+    search: Option<Search>,
+    settings: &Settings,
+) -> Page
+    requires alone { IsAlone words.now pass.old }
+    requires limits { words.now.limits ≡ settings.now.limits }
+    requires some { 1 ≤ settings.now.batch }
+    requires few { settings.now.batch ≤ MAX_BATCH }
+    requires line { length body.now ≤ MAX_LINE }
+    requires made { IfSome search (λ search. IsTrue (search_fits index.now.mapping search)) }
+    requires request { hold_of pass.old.view which.Request ≡ 0 }
+    requires inflight { hold_of pass.old.view which.Inflight ≡ 0 }
+    ensures alone { IsAlone words.now pass.new }
+    ensures holds { (x : AnyWhich) → hold_of pass.new.view x ≡ hold_of pass.old.view x }
+    ensures answer { AnswersAlone settings.now (index_of index.now) (request_at (index_of index.now) body.now search)
+        pass.old.view pass.new.view result.answered }
+    ensures next { IsBehind index.now (request_at (index_of index.now) body.now search) result.answered.outcome
+        result.answered.failures result.next }
+{
+    // What it holds at the parent is the sum of what it holds at the children.
+    let _cap = pass.cap();
+    let mut progress = Progress::new(alloc);
+    let end = solve(
+        alloc,
+        words,
+        pass,
+        index,
+        body,
+        search,
+        settings,
+        &mut progress,
+    );
+    give_all_back(words, pass);
+    page_at(end, progress.failures)
 }
 
 /// Answers one search by one worker, with all its charges: those of its body, of its tasks shard by shard with each batch
@@ -169,24 +281,6 @@ pub fn search_solo(
     ensures answer { AnswersAlone settings.now (index_of index.now) (request_of (index_of index.now) body.now)
         pass.old.view pass.new.view result }
 {
-    // What it holds at the parent is the sum of what it holds at the children.
-    let _cap = pass.cap();
-    let mut progress = Progress::new(alloc);
-    let end = solve(alloc, words, pass, index, body, settings, &mut progress);
-    give_all_back(words, pass);
-    Answered {
-        outcome: outcome_at(end),
-        failures: progress.failures,
-    }
-}
-
-/// What the end of a search is told as.
-fn outcome_at(end: Result<Outcome, Stop>) -> Outcome
-    ensures { result ≡ told_as end }
-{
-    match end {
-        Ok(outcome) => outcome,
-        Err(Stop::Refused(tripped)) => Outcome::Tripped(tripped),
-        Err(Stop::Memory) => Outcome::Memory,
-    }
+    let page = answer_page(alloc, words, pass, index, body, None, settings);
+    page.answered
 }

@@ -23,11 +23,11 @@ returns-in_err-whole-clause-stops c =
     let p = err_from_is_err_and c.from_residual-in_err-whole.result c.from_residual-in_err-whole.ensures.1 in
     let found = from-some c.in_ok-search_ceiling.field-0 c.is_none.result c.is_none.ensures c.if-is_none.false in
     rw (p.1, p.2)
-    (stops-search-if c.args.settings.now (index_of c.args.index.now) c.args.search.now found.0 (sym c.in_ok-search_ceiling.ensures ∙ found.1) c.args.words.now.limits c.requires.limits
+    (stops-search-if c.args.settings.now (index_of c.args.index.now) c.args.search found.0 (sym c.in_ok-search_ceiling.ensures ∙ found.1) c.args.words.now.limits c.requires.limits
     c.args.pass.now.view c.reduce_search.new.pass.view c.reduce_search.new.progress.failures c.in_err-whole.field-0.0 c.in_err-whole.ensures.stops)
 
 pub returns-clause-searches : goal.returns-clause-searches
 returns-clause-searches c request is before r stands =
     let found = from-some c.in_ok-search_ceiling.field-0 c.is_none.result c.is_none.ensures c.if-is_none.false in
-    search-ends c.args.settings.now (index_of c.args.index.now) c.args.search.now request is found.0 (sym c.in_ok-search_ceiling.ensures ∙ found.1) c.args.words.now.limits c.requires.limits
-    before c.reduce_search.new.pass.view r c.reduce_search.new.progress.failures c.in_ok-outcome_of.field-0 (c.in_ok-whole.ensures.reduces before r stands) c.in_ok-outcome_of.ensures
+    search-ends c.args.settings.now (index_of c.args.index.now) c.args.search request is found.0 (sym c.in_ok-search_ceiling.ensures ∙ found.1) c.args.words.now.limits c.requires.limits
+    before c.reduce_search.new.pass.view r c.reduce_search.new.progress.failures c.in_ok-outcome_of.field-0.outcome (c.in_ok-whole.ensures.reduces before r stands) c.in_ok-outcome_of.ensures.outcome

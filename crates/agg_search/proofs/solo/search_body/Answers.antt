@@ -1,11 +1,14 @@
 use Rattle.std.proofs.Common.{◌≡◌, ap, sym, subst, ◌∙◌}
-use Rattle.std.specs.Prelude.{IfOk, IsTrue, Ok}
+use Rattle.std.specs.Prelude.{Err, IfOk, IsTrue, Ok}
 use Rattle.agg_evaluation.specs.SearchFits.{search_fits}
 use Rattle.agg_reading.specs.Request.{search_of}
-use Rattle.agg_spec.specs.Requests.{or_refused, request_of}
+use Rattle.agg_spec.specs.Requests.{or_refused, refusal_of_fault, request_of}
 use Rattle.fitting_laws.proofs.Searches.{search_fits_of}
+use Rattle.agg_search.specs.Answering.{Searches}
 use Rattle.agg_search.specs.Defined.{index_of}
-use Rattle.agg_search.proofs.Ends.{searches-at, stops-at}
+use Rattle.agg_search.specs.Paging.{IsBehind}
+use Rattle.agg_search.proofs.Outcomes.{refused-ends, told-fault}
+use Rattle.agg_search.proofs.Ends.{found-at, stops-at}
 use Rattle.agg_search.proofs.solo.search_body.Goals as goal
 
 pub run_search-requires-clause-made : goal.run_search-requires-clause-made
@@ -18,7 +21,17 @@ returns-in-Ok-clause-searches c =
     let index = index_of c.args.index.now in
     let request = request_of index c.args.body.now in
     let is : request.search ≡ Ok c.in-Ok.search = ap or_refused (ap (search_of index.mapping) (sym c.as_slice.ensures) ∙ c.in-Ok.ensures) in
-    searches-at c.args.settings.now index c.args.pass.now.view c.run_search.new.pass.view c.run_search.new.progress.failures c.in-Ok.search request is c.run_search.result c.run_search.ensures.searches
+    let v = c.args.pass.now.view in
+    let u = c.run_search.new.pass.view in
+    let failures = c.run_search.new.progress.failures in
+    found-at (λ r found. Searches c.args.settings.now index r v u failures found.outcome) c.in-Ok.search request is c.run_search.result c.run_search.ensures.searches
+
+pub returns-in-Ok-clause-next : goal.returns-in-Ok-clause-next
+returns-in-Ok-clause-next c =
+    let index = index_of c.args.index.now in
+    let request = request_of index c.args.body.now in
+    let is : request.search ≡ Ok c.in-Ok.search = ap or_refused (ap (search_of index.mapping) (sym c.as_slice.ensures) ∙ c.in-Ok.ensures) in
+    found-at (λ r found. IsBehind c.args.index.now r found.outcome c.run_search.new.progress.failures found.next) c.in-Ok.search request is c.run_search.result c.run_search.ensures.next
 
 pub returns-in-Ok-clause-stops : goal.returns-in-Ok-clause-stops
 returns-in-Ok-clause-stops c =
@@ -26,3 +39,11 @@ returns-in-Ok-clause-stops c =
     let request = request_of index c.args.body.now in
     let is : request.search ≡ Ok c.in-Ok.search = ap or_refused (ap (search_of index.mapping) (sym c.as_slice.ensures) ∙ c.in-Ok.ensures) in
     stops-at c.args.settings.now index c.args.pass.now.view c.run_search.new.pass.view c.run_search.new.progress.failures c.in-Ok.search request is c.run_search.result c.run_search.ensures.stops
+
+pub returns-in_ok-refusal_of-in-Err-clause-searches : goal.returns-in_ok-refusal_of-in-Err-clause-searches
+returns-in_ok-refusal_of-in-Err-clause-searches c before r stands =
+    let index = index_of c.args.index.now in
+    let request = request_of index c.args.body.now in
+    let is : request.search ≡ Err (refusal_of_fault c.in-Err.fault) = ap or_refused (ap (search_of index.mapping) (sym c.as_slice.ensures) ∙ told-fault (search_of index.mapping c.as_slice.result.now) c.in-Err.fault c.in-Err.ensures c.in_ok-refusal_of-in-Err.ensures.told) in
+    refused-ends c.args.settings.now index request c.in_ok-refusal_of-in-Err.field-0 (is ∙ ap Err (sym c.in_ok-refusal_of-in-Err.ensures.refused))
+    before c.args.pass.now.view r c.args.progress.now.failures c.without_page.result.outcome c.requires.failures c.without_page.ensures.outcome stands

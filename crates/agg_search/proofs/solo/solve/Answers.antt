@@ -4,8 +4,8 @@ use Rattle.std.specs.Prelude.{ℕ}
 use Rattle.agg_model.specs.declared.breaker.Child.TheVariants as child
 use Rattle.agg_model.specs.declared.breaker.Which.TheVariants as which
 use Rattle.agg_spec.specs.Charges.{charge_of}
-use Rattle.agg_spec.specs.Requests.{request_of}
 use Rattle.agg_search.specs.Defined.{index_of}
+use Rattle.agg_search.specs.Paging.{request_at}
 use Rattle.agg_search.specs.Stepping.{StopsRunning}
 use Rattle.agg_search.specs.Stops.{IfRefused}
 use Rattle.agg_search.proofs.Ends.{body-stops-if}
@@ -21,19 +21,19 @@ returns-in_err-charge-clause-stops c =
     let v = c.args.pass.now.view in
     let u = c.charge.new.pass.view in
     rw (p.1, p.2)
-    (body-stops-if c.args.settings.now index (request_of index c.args.body.now) c.args.words.now.limits c.requires.limits v u c.args.progress.now.failures c.in_err-charge.field-0.0 c.requires.failures
+    (body-stops-if c.args.settings.now index (request_at index c.args.body.now c.args.search) c.args.words.now.limits c.requires.limits v u c.args.progress.now.failures c.in_err-charge.field-0.0 c.requires.failures
     (subst (λ (n : ℕ). IfRefused c.in_err-charge.field-0.0 (StopsRunning c.args.words.now.limits (charge_of child.Inflight (2 * n)) v u)) c.len.ensures c.in_err-charge.ensures.stops))
 
-pub search_body-requires-clause-free : goal.search_body-requires-clause-free
-search_body-requires-clause-free c = c.charge.ensures.others which.Request (λ e. cc) (λ e. cc) ∙ c.requires.free
+pub search_page-requires-clause-free : goal.search_page-requires-clause-free
+search_page-requires-clause-free c = c.charge.ensures.others which.Request (λ e. cc) (λ e. cc) ∙ c.requires.free
 
-pub returns-in_err-outcome-clause-fielddata : goal.returns-in_err-outcome-clause-fielddata
-returns-in_err-outcome-clause-fielddata c = c.search_body.ensures.fielddata ∙ c.charge.ensures.others which.Fielddata (λ e. cc) (λ e. cc)
+pub returns-in_err-found-clause-fielddata : goal.returns-in_err-found-clause-fielddata
+returns-in_err-found-clause-fielddata c = c.search_page.ensures.fielddata ∙ c.charge.ensures.others which.Fielddata (λ e. cc) (λ e. cc)
 
 pub returns-in_err-charge_response-clause-fielddata : goal.returns-in_err-charge_response-clause-fielddata
 returns-in_err-charge_response-clause-fielddata c =
-    c.charge_response.ensures.fielddata ∙ c.search_body.ensures.fielddata ∙ c.charge.ensures.others which.Fielddata (λ e. cc) (λ e. cc)
+    c.charge_response.ensures.fielddata ∙ c.search_page.ensures.fielddata ∙ c.charge.ensures.others which.Fielddata (λ e. cc) (λ e. cc)
 
 pub returns-clause-fielddata : goal.returns-clause-fielddata
 returns-clause-fielddata c =
-    c.charge_response.ensures.fielddata ∙ c.search_body.ensures.fielddata ∙ c.charge.ensures.others which.Fielddata (λ e. cc) (λ e. cc)
+    c.charge_response.ensures.fielddata ∙ c.search_page.ensures.fielddata ∙ c.charge.ensures.others which.Fielddata (λ e. cc) (λ e. cc)
