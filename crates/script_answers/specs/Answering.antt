@@ -20,7 +20,8 @@ abbrev pub fresh_with : Settings → Recent
 fresh_with settings = record { settings = settings; rounds = [] }
 
 -- these searches were answered in rounds that are allowed, which count from then on
-pub record AnswersRound (index : Index) (columns : ℕ) (recent : Recent) (requests : List Request) (answered_now : List Round → Type 0) (answers : List Answered) : Type 0 where
+pub record AnswersRound (index : Index) (columns : ℕ) (recent : Recent) (requests : List Request) (answered_now : List Round → Type 0)
+    (answers : List Answered) : Type 0 where
   pub rounds : List Round
   pub are : AreRounds index columns (IsAllowed index columns) recent.settings requests rounds
   pub answered : answers ≡ flat_map (λ round. round.answers) rounds

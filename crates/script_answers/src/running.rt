@@ -1,7 +1,7 @@
 //! A whole third section, entry by entry.
 ghost use Rattle.std.specs.Prelude.{◌≡◌, ◌≤◌, ℕ, List as Items, [], None, take};
 ghost use Rattle.std.specs.Io.KnownBytes.{IsAtEnd};
-ghost use Rattle.agg_base.specs.Lines.{source_of, source_name, kept, bytes_read};
+ghost use Rattle.agg_base.specs.Lines.{source_of, source_name, kept, bytes_read, Gave};
 ghost use Rattle.agg_base.specs.Outside.{Rose};
 ghost use Rattle.agg_model.specs.Lines.{Line, lines as lines_of};
 ghost use Rattle.agg_reading.specs.Entries.{Entries};
@@ -93,6 +93,7 @@ pub fn answer_script<S: Source, K: Sink, L: Listener, A: Answerer>(
     ensures read_fault { result ≡ ended.Read → Rose (S.faults (source_of lines.old)) (S.faults (source_of lines.new)) }
     ensures write_fault { result ≡ ended.Write → Rose (K.faults sink.old) (K.faults sink.new) }
     ensures reads_never_fall { S.faults (source_of lines.old) ≤ S.faults (source_of lines.new) }
+    ensures gave { Gave lines.old lines.new }
     ensures writes_never_fall { K.faults sink.old ≤ K.faults sink.new }
     ensures same_source { source_name lines.new ≡ source_name lines.old }
 {

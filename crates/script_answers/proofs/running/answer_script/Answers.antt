@@ -1,4 +1,5 @@
 use Rattle.std.proofs.Common.{rules, arith, ◌∙◌, ◌++◌, refl, ap, length}
+use Rattle.agg_base.proofs.Gave.{gave_nothing, gave_then}
 use Rattle.agg_reading.specs.Entries.{no_more}
 use Rattle.script_answers.specs.Stepping.{bodies_of}
 use Rattle.script_answers.proofs.Sections.{so-started, so-more, so-stopped, so-finished, so-unfinished, so-ended}
@@ -13,6 +14,7 @@ loop-entry-init g c = record {
   same_columns = refl;
   reads_never_fall = search rules;
   writes_never_fall = search rules;
+  gave = gave_nothing;
   same_source = refl;
   so_far = λ start may bytes whole read. rw c.new.ensures (start, so-started _ _ _ whole bytes start _ _ _ _ _ read, may);
 }
@@ -28,6 +30,7 @@ loop-entry-preserved g c =
       same_columns = c.in-Ok.ensures.same_columns ∙ before.same_columns;
       reads_never_fall = omega (arith, before.reads_never_fall, c.next_entry.ensures.never_falls);
       writes_never_fall = omega (arith, before.writes_never_fall, c.take_entry.ensures.never_falls);
+      gave = gave_then before.gave c.next_entry.ensures.gave;
       same_source = c.next_entry.ensures.same_source ∙ before.same_source;
       so_far = λ start may bytes whole read.
           let found = before.so_far start may bytes whole read in
@@ -70,3 +73,15 @@ returns-in-Err-clause-output g c start may bytes whole read =
     let so = found.1 in
     let end = c.in-Err.ensures.script bytes whole (so.answered ++ bodies_of c.loop-entry.waiting.wave) so.read in
     so-ended _ _ _ _ _ _ _ _ _ _ _ _ _ _ so _ _ c.in-Err.fault _ (ready-at _ _ _ _ before.ready found.2.settings_are) end c.end_at.ensures.ends
+
+pub returns-in-Err-take_entry-clause-gave : goal.returns-in-Err-take_entry-clause-gave
+returns-in-Err-take_entry-clause-gave g c = gave_then c.loop-entry.invariant.gave c.next_entry.ensures.gave
+
+pub returns-in-Ok-finish-clause-gave : goal.returns-in-Ok-finish-clause-gave
+returns-in-Ok-finish-clause-gave g c = gave_then c.loop-entry.invariant.gave c.next_entry.ensures.gave
+
+pub returns-in-Err-finish-clause-gave : goal.returns-in-Err-finish-clause-gave
+returns-in-Err-finish-clause-gave g c = gave_then c.loop-entry.invariant.gave c.next_entry.ensures.gave
+
+pub returns-in-Err-clause-gave : goal.returns-in-Err-clause-gave
+returns-in-Err-clause-gave g c = gave_then c.loop-entry.invariant.gave c.next_entry.ensures.gave

@@ -1,5 +1,5 @@
 use Rattle.std.proofs.Common.{◌≡◌, ◌≤◌, ◌-◌, ℕ, List, [], None}
-use Rattle.agg_base.specs.Lines.{source_of, source_name, kept, unread, position, has_ended}
+use Rattle.agg_base.specs.Lines.{source_of, source_name, kept, unread, position, has_ended, Gave}
 use Rattle.agg_model.specs.Lines.{Line}
 use Rattle.agg_model.specs.declared.limits.TheConstants.{MAX_INPUT}
 use Rattle.agg_reading.specs.Entries.{Entries}
@@ -20,6 +20,7 @@ pub record Answering (g : goal.Over) (l : goal.Live-loop-entry g) : Type 0 where
   pub same_columns : g.A.Answerer.columns l.waiting.answerer ≡ g.A.Answerer.columns l.fn.answerer
   pub reads_never_fall : g.S.Source.faults (source_of l.fn.lines) ≤ g.S.Source.faults (source_of l.lines)
   pub writes_never_fall : g.K.Sink.faults l.fn.sink ≤ g.K.Sink.faults l.sink
+  pub gave : Gave l.fn.lines l.lines
   pub same_source : source_name l.lines ≡ source_name l.fn.lines
   pub so_far : (start : Recent) → MayBe (g.A.Answerer.in_force l.fn.answerer) (g.A.Answerer.answered l.fn.answerer) start
       → (bytes : List ℕ) (whole : List Line → Entries) → HasRead whole bytes [] l.fn.lines → (now : Recent)
