@@ -2,6 +2,7 @@
 #![tactic(auto)]
 
 use agg_base::{StdSink, StdSource};
+use agg_listen::{Audience, LargeAnswers};
 use agg_model::{List, Text};
 use agg_program::{Status, run};
 use std::alloc::{AllocError, Global};
@@ -57,5 +58,16 @@ fn main(rt: HostRuntime) -> ExitCode {
     };
     let mut source = StdSource::new(rt.stdin());
     let mut sink = StdSink::new(rt.stdout());
-    ExitCode::from(run(rt.alloc(), words.as_slice(), &mut source, &mut sink))
+    let mut listeners = Vec::new(rt.alloc());
+    let Ok(()) = listeners.push(LargeAnswers::new(rt.stderr())) else {
+        return ExitCode::from(Status::Memory.code());
+    };
+    let mut audience = Audience::new(listeners);
+    ExitCode::from(run(
+        rt.alloc(),
+        words.as_slice(),
+        &mut source,
+        &mut sink,
+        &mut audience,
+    ))
 }

@@ -198,6 +198,6 @@ pub answers-more : (before mid after : Output) (items : List Answered) (n : ℕ)
 answers-more before mid after items n next lt is wrote one =
     let more : n + 1 ≡ suc n = omega arith in
     let parts : take (n + 1) items ≡ take n items ++ next ∷ [] =
-        ap (λ (k : ℕ). take k items) more ∙ take-suc items n next lt ∙ ap (λ (x : Answered). take n items ++ x ∷ []) (sym is) in
+    ap (λ (k : ℕ). take k items) more ∙ take-suc items n next lt ∙ ap (λ (x : Answered). take n items ++ x ∷ []) (sym is) in
     let lines : map answer (take n items) ++ answer next ∷ [] ≡ map answer (take (n + 1) items) = sym (map-append answer (take n items) (next ∷ [])) ∙ ap (map answer) (sym parts) in
     subst (WroteLines before after) lines (wrote-append before mid after (map answer (take n items)) (answer next ∷ []) wrote one)

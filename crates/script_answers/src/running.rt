@@ -69,6 +69,8 @@ fn end_at<K: Sink, L: Listener>(
 /// is the last line. Where the sink fails, whole lines and a front of the next one were written, and where memory runs out,
 /// also in a search, whole lines.
 ///
+/// The listeners are told of each answer once its line was written whole.
+///
 /// Beside what the searches take, it holds the bodies of one wave.
 pub fn answer_script<S: Source, K: Sink, L: Listener, A: Answerer>(
     alloc: Global,

@@ -15,8 +15,8 @@ use agg_listen::{Audience, Listener};
 use agg_model::{Bytes, List};
 use std::alloc::Global;
 
-/// Answers the searches of a wave, and writes their lines in their order. A wave may be empty, and then nothing is answered
-/// nor written.
+/// Answers the searches of a wave, writes their lines in their order, and tells the listeners of each once it is written. A wave
+/// may be empty, and then nothing is answered nor written.
 ///
 /// Where memory runs out or the sink fails, the lines before stand whole, of the next one a front at most that is not all of it,
 /// and nothing is said of the rounds. Takes the time and memory of the answers, and time linear in their lines.

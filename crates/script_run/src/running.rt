@@ -136,6 +136,8 @@ fn status_of<S: Source, K: Sink, L: Listener, A: Opens>(
 /// - 5: the script was refused; its error line is the last that was written.
 /// - 6: the columns are beyond a limit; that is the one line.
 /// - 7: memory ran out; whole lines of the output were written.
+///
+/// Each listener of the audience is told of each answer to a search once its line was written whole.
 pub fn run<S: Source, K: Sink, L: Listener, A: Opens>(
     alloc: Global,
     several: bool,
