@@ -21,9 +21,10 @@ use std::alloc::Global;
 /// - 6: the columns are beyond a limit; that is the one line.
 /// - 7: memory ran out; whole lines of the output were written.
 pub fn run<S: Source, K: Sink>(alloc: Global, words: &[Text], source: &mut S, sink: &mut K) -> u8
-    // What was written, where the source and the sink tell their bytes: an output that is defined for these words and this input.
+    // What was written and read, where the source and the sink tell their bytes: an output that is defined for these words, this
+    // input and what was read of it.
     ensures output { (input before : Items ℕ) → S.left source.old ≡ Some input → K.written sink.old ≡ Some before →
-        Runs false words.now input result (Some before) (K.written sink.new) }
+        Runs false words.now input (S.left source.new) result (Some before) (K.written sink.new) }
 
     // Why each status comes.
     ensures finished { result ≡ 0 → (settings : Settings) → settings_of false words.now ≡ Ok settings →

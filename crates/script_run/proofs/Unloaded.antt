@@ -23,7 +23,7 @@ use Rattle.script_answers.specs.declared.stop.Stop.TheVariants.{Write, Memory}
 use Rattle.script_answers.proofs.Putting.{wrote-nothing}
 use Rattle.script_lines.specs.Faults.{refusal_of}
 use Rattle.script_run.specs.Ends.{ended_by}
-use Rattle.script_run.specs.Runs.{WroteBy, WroteOf, WroteAll, script_of, IsCutOf}
+use Rattle.script_run.specs.Runs.{WroteBy, WroteOf, WroteAll, script_of, script_read, IsCutOf}
 use Rattle.script_run.specs.Statuses.{code_of}
 use Rattle.script_run.specs.declared.status.Status.{Status}
 use Rattle.script_run.specs.declared.status.Status.TheVariants as status
@@ -53,7 +53,7 @@ module _ (words : Settings) (script read : Script) (before after : Option (List 
 
 module _ (words : Settings) (bytes : List ℕ) (read : ℕ) (before after : Option (List ℕ)) where
   abbrev seen : Script
-  seen = script_from words (loaded (whole_lines (take read bytes)))
+  seen = script_read words bytes read
 
   -- the script is refused
   pub refused-ends : (r : ScriptRefusal) (result : Result ⊤ Stop) → loaded (lines bytes) ≡ Err r → Puts before after (refusal_line r ∷ []) result → WroteOf words bytes read (ended_by result status.Refused) before after

@@ -1,5 +1,5 @@
 //! The run of a script over a source and a sink.
-ghost use Rattle.std.specs.Prelude.{◌≡◌, ◌≤◌, ◌≢◌, ℕ, Bool, List as Items, Some, None, IsErr, Ok};
+ghost use Rattle.std.specs.Prelude.{◌≡◌, ◌≤◌, ◌≢◌, ℕ, Bool, List as Items, Some, None, IsErr, Ok, drop};
 ghost use Rattle.std.specs.Io.KnownBytes.{IsAtEnd};
 ghost use Rattle.agg_base.specs.Outside.{Rose};
 ghost use Rattle.agg_model.specs.declared.settings.Settings.{Settings as AnySettings};
@@ -32,7 +32,7 @@ fn answer_source<S: Source, K: Sink, A: Opens>(
     requires in_range { AreInRange settings }
     requires takes { A.takes settings }
     ensures output { (input before : Items ℕ) → S.left source.old ≡ Some input → K.written sink.old ≡ Some before →
-        (read : ℕ) × WroteOf settings input read result (Some before) (K.written sink.new) }
+        (read : ℕ) × (S.left source.new ≡ Some (drop read input)) × WroteOf settings input read result (Some before) (K.written sink.new) }
     ensures finished { result ≡ status.Finished → IsAtEnd (S.left source.new) }
     ensures read_fault { result ≡ status.ReadFault → Rose (S.faults source.old) (S.faults source.new) }
     ensures write_fault { result ≡ status.WriteFault → Rose (K.faults sink.old) (K.faults sink.new) }
@@ -81,7 +81,7 @@ fn answer_settings<S: Source, K: Sink, A: Opens>(
     requires takes { A.takes settings }
     ensures output { (several : Bool) (words : Items (Items ℕ)) (input before : Items ℕ) → settings_given several words ≡ Ok settings →
         S.left source.old ≡ Some input → K.written sink.old ≡ Some before →
-        Runs several words input (code_of result) (Some before) (K.written sink.new) }
+        Runs several words input (S.left source.new) (code_of result) (Some before) (K.written sink.new) }
     ensures finished { result ≡ status.Finished → settings.generate ≡ None → IsAtEnd (S.left source.new) }
     ensures read_fault { result ≡ status.ReadFault → Rose (S.faults source.old) (S.faults source.new) }
     ensures write_fault { result ≡ status.WriteFault → Rose (K.faults sink.old) (K.faults sink.new) }
@@ -104,7 +104,7 @@ fn status_of<S: Source, K: Sink, A: Opens>(
 ) -> Status
     requires takes { (settings : AnySettings) → settings_given several words.now ≡ Ok settings → A.takes settings }
     ensures output { (input before : Items ℕ) → S.left source.old ≡ Some input → K.written sink.old ≡ Some before →
-        Runs several words.now input (code_of result) (Some before) (K.written sink.new) }
+        Runs several words.now input (S.left source.new) (code_of result) (Some before) (K.written sink.new) }
     ensures finished { result ≡ status.Finished → (settings : AnySettings) → settings_given several words.now ≡ Ok settings →
         settings.generate ≡ None → IsAtEnd (S.left source.new) }
     ensures usage { result ≡ status.Usage → IsErr (settings_given several words.now) }
@@ -138,9 +138,9 @@ pub fn run<S: Source, K: Sink, A: Opens>(
     sink: &mut K,
 ) -> u8
     requires takes { (settings : AnySettings) → settings_given several words.now ≡ Ok settings → A.takes settings }
-    // What was written, where the source and the sink tell their bytes.
+    // What was written and read, where the source and the sink tell their bytes.
     ensures output { (input before : Items ℕ) → S.left source.old ≡ Some input → K.written sink.old ≡ Some before →
-        Runs several words.now input result (Some before) (K.written sink.new) }
+        Runs several words.now input (S.left source.new) result (Some before) (K.written sink.new) }
 
     // Why each status comes.
     ensures finished { result ≡ 0 → (settings : AnySettings) → settings_given several words.now ≡ Ok settings →
