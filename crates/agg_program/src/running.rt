@@ -31,9 +31,10 @@ pub fn run<S: Source, K: Sink, L: Listener>(
     sink: &mut K,
     audience: &mut Audience<L>,
 ) -> u8
-    // What was written, where the source and the sink tell their bytes: an output that is defined for these words and this input.
+    // What was written and read, where the source and the sink tell their bytes: an output that is defined for these words, this
+    // input and what was read of it.
     ensures output { (input before : Items ℕ) → S.left source.old ≡ Some input → K.written sink.old ≡ Some before →
-        Runs false words.now input result (so_far (Some before) audience.old) (so_far (K.written sink.new) audience.new) }
+        Runs false words.now input (S.left source.new) result (so_far (Some before) audience.old) (so_far (K.written sink.new) audience.new) }
 
     // Why each status comes.
     ensures finished { result ≡ 0 → (settings : Settings) → settings_of false words.now ≡ Ok settings →

@@ -20,7 +20,7 @@ use Rattle.script_answers.specs.declared.stop.Stop.{Stop}
 use Rattle.script_answers.specs.declared.stop.Stop.TheVariants.{Write, Memory}
 use Rattle.script_answers.proofs.Putting.{wrote-nothing}
 use Rattle.script_run.specs.Ends.{ended_by}
-use Rattle.script_run.specs.Runs.{WroteBy, WroteOf, script_of, IsCutOf}
+use Rattle.script_run.specs.Runs.{WroteBy, WroteOf, script_of, script_read, IsCutOf}
 use Rattle.script_run.specs.declared.status.Status.{Status}
 use Rattle.script_run.specs.declared.status.Status.TheVariants as status
 use Rattle.script_run.proofs.Outputs.{some-output}
@@ -49,7 +49,7 @@ module _ (words : Settings) (script read : Script) (before after : Output) (line
 
 module _ (words : Settings) (bytes : List ℕ) (read : ℕ) (before after : Output) where
   abbrev seen : Script
-  seen = script_from words (loaded (whole_lines (take read bytes)))
+  seen = script_read words bytes read
 
   -- the script is refused
   pub refused-ends : (r : ScriptRefusal) (result : Result ⊤ Stop) → loaded (lines bytes) ≡ Err r → Puts before after (refusal_line r ∷ []) result → WroteOf words bytes read (ended_by result status.Refused) before after

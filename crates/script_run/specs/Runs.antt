@@ -1,6 +1,6 @@
 -- What a run writes, by its status: whole lines of an output of its words and its input, and where the sink fails a front of the
 -- next one.
-use Rattle.std.specs.Prelude.{◌≡◌, ℕ, Bool, List, ◌∷◌, ◌++◌, take}
+use Rattle.std.specs.Prelude.{◌≡◌, ℕ, Bool, List, ◌∷◌, ◌++◌, Option, Some, take, drop}
 use Rattle.std.specs.Io.KnownBytes.{append_known}
 use Rattle.agg_model.specs.declared.settings.Settings.{Settings}
 use Rattle.agg_model.specs.Lines.{lines}
@@ -40,14 +40,19 @@ WroteBy words script read Memory before after =
     (written : List Line) × (next : Line) × WroteLines before after written × IsCutOf words script written next
 WroteBy words script read status before after = WroteAll words script (code_of status) before after
 
--- the same for an input of which so many bytes were read
-abbrev pub WroteOf : Settings → List ℕ → ℕ → Status → Output → Output → Type 0
-WroteOf words bytes read status before after = WroteBy words (script_of words bytes) (script_from words (loaded (whole_lines (take read bytes)))) status before after
+-- the script of the whole lines among the bytes that were read of these
+abbrev pub script_read : Settings → List ℕ → ℕ → Script
+script_read words bytes read = script_from words (loaded (whole_lines (take read bytes)))
 
--- What a run with these words wrote, given this input: an output that its status allows. `several` says whether several workers
--- and searches at a time are in the grammar of the words.
-pub record Runs (several : Bool) (words : List (List ℕ)) (input : List ℕ) (status : ℕ) (before after : Output) : Type 0 where
+-- what was written of the script of an input of which so many bytes were read
+abbrev pub WroteOf : Settings → List ℕ → ℕ → Status → Output → Output → Type 0
+WroteOf words bytes read status before after = WroteBy words (script_of words bytes) (script_read words bytes read) status before after
+
+-- What a run with these words wrote, given this input, of which so much is left: an output that its status allows. `several` says
+-- whether several workers and searches at a time are in the grammar of the words.
+pub record Runs (several : Bool) (words : List (List ℕ)) (input : List ℕ) (left : Option (List ℕ)) (status : ℕ) (before after : Output) : Type 0 where
   pub read : ℕ
+  pub rest : left ≡ Some (drop read input)
   pub written : List Line
   pub piece : List ℕ
   pub output : IsOutput changed (settings_of several words) input read status written piece

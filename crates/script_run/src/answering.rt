@@ -1,7 +1,7 @@
 //! The answer to a script that was loaded, and to a whole input.
 ghost use Rattle.std.specs.Prelude.{◌≡◌, ◌≤◌, ◌≢◌, ℕ, List as Items, Option, Some, None, Ok};
 ghost use Rattle.std.specs.Io.KnownBytes.{IsAtEnd};
-ghost use Rattle.agg_base.specs.Lines.{source_of, source_name, kept, unread, bytes_read, position, has_ended};
+ghost use Rattle.agg_base.specs.Lines.{source_of, source_name, kept, unread, bytes_read, position, has_ended, Gave};
 ghost use Rattle.agg_base.specs.Outside.{Rose};
 ghost use Rattle.agg_bulk.specs.Indexing.{IsLoaded};
 ghost use Rattle.agg_reading.specs.Lines.{start};
@@ -52,7 +52,8 @@ fn answer_loaded<S: Source, K: Sink, L: Listener, A: Opens>(
     requires takes { A.takes settings }
     requires charged { IsCharged settings loaded.index loaded.words loaded.pass }
     ensures output { (bytes before : Items ℕ) →
-        IsLoaded bytes (record { index = loaded.index; items = loaded.items }) (place_of lines.old) (unread lines.old) (position lines.old) (has_ended lines.old) →
+        IsLoaded bytes (record { index = loaded.index; items = loaded.items })
+        (place_of lines.old) (unread lines.old) (position lines.old) (has_ended lines.old) →
         K.written sink.old ≡ Some before → WroteOf settings bytes (bytes_read lines.new) result
         (so_far (Some before) audience.old) (so_far (K.written sink.new) audience.new) }
     ensures finished { result ≡ status.Finished → IsAtEnd (S.left (source_of lines.new)) }
@@ -61,6 +62,7 @@ fn answer_loaded<S: Source, K: Sink, L: Listener, A: Opens>(
     ensures reads_never_fall { S.faults (source_of lines.old) ≤ S.faults (source_of lines.new) }
     ensures writes_never_fall { K.faults sink.old ≤ K.faults sink.new }
     ensures no_usage { result ≢ status.Usage }
+    ensures gave { Gave lines.old lines.new }
     ensures same_source { source_name lines.new ≡ source_name lines.old }
 {
     let Loaded {
@@ -97,6 +99,7 @@ pub(crate) fn answer_lines<S: Source, K: Sink, L: Listener, A: Opens>(
     ensures write_fault { result ≡ status.WriteFault → Rose (K.faults sink.old) (K.faults sink.new) }
     ensures writes_never_fall { K.faults sink.old ≤ K.faults sink.new }
     ensures no_usage { result ≢ status.Usage }
+    ensures gave { Gave lines.old lines.new }
     ensures same_source { source_name lines.new ≡ source_name lines.old }
 {
     match load(alloc, lines, &settings) {

@@ -1,5 +1,5 @@
 //! The run of a script over a source and a sink.
-ghost use Rattle.std.specs.Prelude.{◌≡◌, ◌≤◌, ◌≢◌, ℕ, Bool, List as Items, Some, None, IsErr, Ok};
+ghost use Rattle.std.specs.Prelude.{◌≡◌, ◌≤◌, ◌≢◌, ℕ, Bool, List as Items, Some, None, IsErr, Ok, drop};
 ghost use Rattle.std.specs.Io.KnownBytes.{IsAtEnd};
 ghost use Rattle.agg_base.specs.Outside.{Rose};
 ghost use Rattle.agg_model.specs.declared.settings.Settings.{Settings as AnySettings};
@@ -35,7 +35,8 @@ fn answer_source<S: Source, K: Sink, L: Listener, A: Opens>(
     requires in_range { AreInRange settings }
     requires takes { A.takes settings }
     ensures output { (input before : Items ℕ) → S.left source.old ≡ Some input → K.written sink.old ≡ Some before →
-        (read : ℕ) × WroteOf settings input read result (so_far (Some before) audience.old) (so_far (K.written sink.new) audience.new) }
+        (read : ℕ) × (S.left source.new ≡ Some (drop read input))
+        × WroteOf settings input read result (so_far (Some before) audience.old) (so_far (K.written sink.new) audience.new) }
     ensures finished { result ≡ status.Finished → IsAtEnd (S.left source.new) }
     ensures read_fault { result ≡ status.ReadFault → Rose (S.faults source.old) (S.faults source.new) }
     ensures write_fault { result ≡ status.WriteFault → Rose (K.faults sink.old) (K.faults sink.new) }
@@ -86,7 +87,7 @@ fn answer_settings<S: Source, K: Sink, L: Listener, A: Opens>(
     requires takes { A.takes settings }
     ensures output { (several : Bool) (words : Items (Items ℕ)) (input before : Items ℕ) → settings_given several words ≡ Ok settings →
         S.left source.old ≡ Some input → K.written sink.old ≡ Some before →
-        Runs several words input (code_of result) (so_far (Some before) audience.old) (so_far (K.written sink.new) audience.new) }
+        Runs several words input (S.left source.new) (code_of result) (so_far (Some before) audience.old) (so_far (K.written sink.new) audience.new) }
     ensures finished { result ≡ status.Finished → settings.generate ≡ None → IsAtEnd (S.left source.new) }
     ensures read_fault { result ≡ status.ReadFault → Rose (S.faults source.old) (S.faults source.new) }
     ensures write_fault { result ≡ status.WriteFault → Rose (K.faults sink.old) (K.faults sink.new) }
@@ -110,7 +111,8 @@ fn status_of<S: Source, K: Sink, L: Listener, A: Opens>(
 ) -> Status
     requires takes { (settings : AnySettings) → settings_given several words.now ≡ Ok settings → A.takes settings }
     ensures output { (input before : Items ℕ) → S.left source.old ≡ Some input → K.written sink.old ≡ Some before →
-        Runs several words.now input (code_of result) (so_far (Some before) audience.old) (so_far (K.written sink.new) audience.new) }
+        Runs several words.now input (S.left source.new) (code_of result) (so_far (Some before) audience.old)
+        (so_far (K.written sink.new) audience.new) }
     ensures finished { result ≡ status.Finished → (settings : AnySettings) → settings_given several words.now ≡ Ok settings →
         settings.generate ≡ None → IsAtEnd (S.left source.new) }
     ensures usage { result ≡ status.Usage → IsErr (settings_given several words.now) }
@@ -147,9 +149,9 @@ pub fn run<S: Source, K: Sink, L: Listener, A: Opens>(
     audience: &mut Audience<L>,
 ) -> u8
     requires takes { (settings : AnySettings) → settings_given several words.now ≡ Ok settings → A.takes settings }
-    // What was written, where the source and the sink tell their bytes.
+    // What was written and read, where the source and the sink tell their bytes.
     ensures output { (input before : Items ℕ) → S.left source.old ≡ Some input → K.written sink.old ≡ Some before →
-        Runs several words.now input result (so_far (Some before) audience.old) (so_far (K.written sink.new) audience.new) }
+        Runs several words.now input (S.left source.new) result (so_far (Some before) audience.old) (so_far (K.written sink.new) audience.new) }
 
     // Why each status comes.
     ensures finished { result ≡ 0 → (settings : AnySettings) → settings_given several words.now ≡ Ok settings →

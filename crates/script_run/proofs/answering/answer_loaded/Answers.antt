@@ -1,4 +1,5 @@
-use Rattle.std.proofs.Common.{ap, refl, []}
+use Rattle.std.proofs.Common.{List, ap, refl, Some, []}
+use Rattle.agg_base.proofs.Gave.{gave_nothing}
 use Rattle.agg_model.specs.declared.settings.Settings.{Settings}
 use Rattle.agg_spec.specs.Answers.{Recent}
 use Rattle.script_run.specs.declared.status.Status.TheVariants as status
@@ -25,3 +26,6 @@ returns-clause-output g c = λ bytes before is known.
       recent = recent;
       output = λ whole goes. c.answer_script.ensures.output recent (record { settings_are = refl; rounds_are = opened.answered }) bytes whole goes;
     }) opened.index opened.columns (ap (λ (s : Settings). record { settings = s; rounds = [] }) opened.in_force) c.requires.in_range.some_search)
+
+pub returns-in-Err-clause-gave : goal.returns-in-Err-clause-gave
+returns-in-Err-clause-gave g c = gave_nothing

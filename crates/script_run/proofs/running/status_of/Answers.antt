@@ -6,7 +6,7 @@ pub returns-in-Err-Usage-clause-output : goal.returns-in-Err-Usage-clause-output
 returns-in-Err-Usage-clause-output g c = λ input before left known.
     let fails = rw c.in-Err-Usage.field-0-is at c.in-Err-Usage.ensures.usage in
     let puts = rw known at c.write_usage.ensures.puts in
-    rw c.ended.ensures (usage-runs c.args.several c.args.words.now input _ _ 0 c.in-Err-Usage.usage fails c.write_usage.result puts)
+    rw c.ended.ensures (usage-runs c.args.several c.args.words.now input _ _ _ 0 left c.in-Err-Usage.usage fails c.write_usage.result puts)
 
 pub returns-in-Err-Memory-clause-output : goal.returns-in-Err-Memory-clause-output
-returns-in-Err-Memory-clause-output g c = λ input before left known. nothing-runs c.args.several c.args.words.now input _ _ 0 (same-bytes _ _ _ known)
+returns-in-Err-Memory-clause-output g c = λ input before left known. nothing-runs c.args.several c.args.words.now input _ _ _ 0 left (same-bytes _ _ _ known)
