@@ -1,12 +1,12 @@
 -- One worker and one search at a time, where several are not in the grammar of the words.
-use Rattle.std.specs.Prelude.{◌≡◌, ◌≤◌, ℕ, ◌&&◌, nat_le, Bool, true, false, not, List, [], Option, Some, None, Result, Ok, Err, codes, if◌then◌else◌}
-use Rattle.std.proofs.Common.{refl, ◌∙◌, sym, ap, subst, arith}
+use Rattle.std.specs.Prelude.{◌≡◌, ◌≤◌, ℕ, ◌&&◌, nat_le, Bool, true, false, List, [], Option, Some, None, Ok, Err, codes, if◌then◌else◌}
+use Rattle.std.proofs.Common.{refl, ap, subst, arith}
 use Rattle.std.proofs.lemmas.Bool.{leb-true}
 use Rattle.clap.specs.Walk.{Row, Text, first_of}
 use Rattle.agg_model.specs.declared.limits.TheConstants.{DEFAULT_BATCH, MAX_BATCH, MIN_BATCH}
 use Rattle.agg_model.specs.declared.settings.Settings.{Settings}
 use Rattle.agg_settings.specs.Numbers.{between, number_in, number_of}
-use Rattle.agg_settings.specs.Options.{is_given, number_at, number_or, entries_at, scan_at, generate_at}
+use Rattle.agg_settings.specs.Options.{number_at, number_or, entries_at, scan_at, generate_at}
 use Rattle.agg_settings.specs.Settings.{settings_at, settings_of}
 use Rattle.agg_settings.specs.Usages.{Reading, ◌>>=◌, refuse, or_refuse}
 use Rattle.agg_settings.specs.Words.{is_command, rows_in}
@@ -54,35 +54,26 @@ only-one name rows n is =
     let within = number-within name 1 1 1 n (first_of name rows) (omega arith) (omega arith) is in
     omega (arith, within.0, within.1)
 
-no-scan-by : (given value : Bool) → (if given && not false then refuse (codes "--scan") [] else Ok given) ≡ Ok value → value ≡ false
-no-scan-by true value is = absurd (let no : ⊥ = cc in no)
-no-scan-by false value is = cc
-
-no-scan : (width : ℕ) (rows : List Row) (value : Bool) → scan_at false width rows ≡ Ok value → value ≡ false
-unfolding scan_at
-no-scan width rows value is = no-scan-by (is_given (codes "scan") rows) value is
-
--- one worker and one search at a time, and no pages
+-- one worker and one search at a time
 abbrev pub IsOneAtOnce : Settings → Type 0
-IsOneAtOnce s = (s.workers ≡ 1) × (s.width ≡ 1) × (s.scan ≡ false)
+IsOneAtOnce s = (s.workers ≡ 1) × (s.width ≡ 1)
 
-one-each : (rows : List Row) (s : Settings) → settings_at false 1 rows ≡ Ok s → IsOneAtOnce s
+one-each : (rows : List Row) (s : Settings) → settings_at 1 rows ≡ Ok s → IsOneAtOnce s
 unfolding settings_at
 one-each rows s is =
     let workers = bind-ok (number_at (codes "workers") 1 1 1 rows) _ s is in
     let batch = bind-ok (number_at (codes "batched-reduce-size") MIN_BATCH MAX_BATCH DEFAULT_BATCH rows) _ s workers.later in
     let width = bind-ok (number_at (codes "concurrent-searches") 1 1 1 rows) _ s batch.later in
     let entries = bind-ok (entries_at rows) _ s width.later in
-    let scan = bind-ok (scan_at false width.value rows) _ s entries.later in
+    let scan = bind-ok (scan_at width.value rows) _ s entries.later in
     let generate = bind-ok (generate_at rows) _ s scan.later in
     let workers_is : s.workers ≡ workers.value = let h = generate.later in cc in
     let width_is : s.width ≡ width.value = let h = generate.later in cc in
     let one = only-one (codes "workers") rows workers.value workers.is in
     let single = only-one (codes "concurrent-searches") rows width.value width.is in
-    let scan_is : s.scan ≡ scan.value = let h = generate.later in cc in
-    (omega (arith, workers_is, one), omega (arith, width_is, single), scan_is ∙ no-scan width.value rows scan.value scan.is)
+    (omega (arith, workers_is, one), omega (arith, width_is, single))
 
-by-command : (words : List Text) (s : Settings) (b : Bool) → (if b then settings_at false 1 (rows_in words) else refuse [] []) ≡ Ok s → IsOneAtOnce s
+by-command : (words : List Text) (s : Settings) (b : Bool) → (if b then settings_at 1 (rows_in words) else refuse [] []) ≡ Ok s → IsOneAtOnce s
 by-command words s true is = one-each (rows_in words) s is
 by-command words s false is = absurd (let no : ⊥ = cc in no)
 

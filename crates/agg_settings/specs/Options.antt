@@ -31,11 +31,11 @@ entries_at rows =
 unfoldable pub is_given : Text → List Row → Bool
 is_given name rows = option_map_or (λ value. bytes_eq value (codes "true")) (first_of name rows) false
 
--- `--scan`, only where one search runs at a time; it is refused, too, where pages are not answered yet, as several searches are not
-unfoldable pub scan_at : Bool → ℕ → List Row → Reading Bool
-scan_at several width rows =
+-- `--scan`, only where one search runs at a time
+unfoldable pub scan_at : ℕ → List Row → Reading Bool
+scan_at width rows =
     let scan = is_given (codes "scan") rows in
-    if scan && not (several && (width == 1)) then refuse (codes "--scan") [] else Ok scan
+    if scan && not (width == 1) then refuse (codes "--scan") [] else Ok scan
 
 abbrev pub generate_or : Option Text → Reading (Option Generate)
 generate_or None = Ok None

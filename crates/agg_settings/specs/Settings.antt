@@ -9,14 +9,14 @@ use Rattle.agg_settings.specs.Entries.{heap_in, limits_in, max_buckets_in}
 use Rattle.agg_settings.specs.Options.{number_at, entries_at, scan_at, generate_at}
 use Rattle.agg_settings.specs.Words.{is_command, rows_in}
 
--- `most` is the greatest number of workers, and of searches at a time; `several` says whether pages are answered
-unfoldable pub settings_at : Bool → ℕ → List Row → Reading Settings
-settings_at several most rows =
+-- `most` is the greatest number of workers, and of searches at a time
+unfoldable pub settings_at : ℕ → List Row → Reading Settings
+settings_at most rows =
     number_at (codes "workers") 1 most 1 rows >>= λ workers.
     number_at (codes "batched-reduce-size") MIN_BATCH MAX_BATCH DEFAULT_BATCH rows >>= λ batch.
     number_at (codes "concurrent-searches") 1 most 1 rows >>= λ width.
     entries_at rows >>= λ entries.
-    scan_at several width rows >>= λ scan.
+    scan_at width rows >>= λ scan.
     generate_at rows >>= λ generate.
     Ok (record {
       workers = workers;
@@ -36,4 +36,4 @@ most_at_once several = if several then MAX_AT_ONCE else 1
 -- words that the command does not take are refused with empty texts
 unfoldable pub settings_of : Bool → List Text → Reading Settings
 settings_of several words =
-    if is_command words then settings_at several (most_at_once several) (rows_in words) else refuse [] []
+    if is_command words then settings_at (most_at_once several) (rows_in words) else refuse [] []

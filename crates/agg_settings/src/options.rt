@@ -118,21 +118,18 @@ fn is_given(matches: &ArgMatches<'_>, name: &str) -> bool
     }
 }
 
-/// Whether `--scan` is given, which is refused where `width` searches run at a time and not one, and where pages are not
-/// answered yet, as several searches at a time are not.
+/// Whether `--scan` is given, which is refused where `width` searches run at a time and not one.
 #[tactic(auto, unfolding(crate::specs::Options::scan_at))]
 pub(crate) fn scan_at(
     alloc: Global,
     matches: &ArgMatches<'_>,
     width: u32,
-    several: bool,
 ) -> Result<bool, SettingsFault>
-    ensures value { Gives result (scan_at several width (rows_of (found_of matches.now))) }
+    ensures value { Gives result (scan_at width (rows_of (found_of matches.now))) }
     ensures alone { IfOk result (λ scan. scan ≡ true → width ≡ 1) }
 {
     let scan = is_given(matches, "scan");
-    let are_pages_answered = several && width == 1;
-    if scan && !are_pages_answered {
+    if scan && width != 1 {
         refused(alloc, "--scan", "")
     } else {
         Ok(scan)

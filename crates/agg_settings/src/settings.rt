@@ -30,11 +30,10 @@ fn settings_at(
     alloc: Global,
     matches: &ArgMatches<'_>,
     most: u32,
-    several: bool,
 ) -> Result<Settings, SettingsFault>
     requires low { 1 ≤ most }
     requires high { most ≤ MAX_AT_ONCE }
-    ensures value { Gives result (settings_at several most (rows_of (found_of matches.now))) }
+    ensures value { Gives result (settings_at most (rows_of (found_of matches.now))) }
     ensures in_range { IfOk result AreInRange }
 {
     let workers = number_at(alloc, matches, "workers", 1, most, 1)?;
@@ -48,7 +47,7 @@ fn settings_at(
     )?;
     let width = number_at(alloc, matches, "concurrent-searches", 1, most, 1)?;
     let entries = entries_at(alloc, matches)?;
-    let scan = scan_at(alloc, matches, width, several)?;
+    let scan = scan_at(alloc, matches, width)?;
     let generate = generate_at(alloc, matches)?;
     Ok(Settings {
         workers,
@@ -63,7 +62,7 @@ fn settings_at(
 }
 
 /// The settings that the words after the program's name give. With `several`, up to 64 workers and up to 64 searches at
-/// a time are in the grammar, and `--scan`; without it one alone and no `--scan`, for a program that does not answer more.
+/// a time are in the grammar; without it one alone, for a program that does not answer more.
 ///
 /// Words outside the grammar are refused with the first key that fails and its value: the name of an option, as
 /// `--workers`, or the key of an entry of `-E`. Both are empty where the command line itself is refused, as for an
@@ -77,5 +76,5 @@ pub fn settings_of(alloc: Global, words: &[Text], several: bool) -> Result<Setti
 {
     let words = slices(alloc, words)?;
     let matches = matches(alloc, words.as_slice())?;
-    settings_at(alloc, &matches, most_at_once(several), several)
+    settings_at(alloc, &matches, most_at_once(several))
 }

@@ -209,7 +209,11 @@ fn one_worker_and_one_search_where_no_more_are_answered(rt: HostRuntime) -> Resu
     for (line, key, value) in [
         ("--workers 2", "--workers", "2"),
         ("--concurrent-searches 2", "--concurrent-searches", "2"),
-        ("--scan", "--scan", ""),
+        (
+            "--scan --concurrent-searches 2",
+            "--concurrent-searches",
+            "2",
+        ),
     ] {
         let words = words(rt.alloc(), line)?;
         let read = settings_of(rt.alloc(), words.as_slice(), false);

@@ -29,6 +29,6 @@ opened-idle settings index words pass held holds range same = record {
   inflight = holds.holds Inflight;
 }
 
--- settings that keep the number of workers and of searches, and ask for no pages, are for one worker
-pub still-for-one : (old new : Settings) → IsForOne old → new.workers ≡ old.workers → new.width ≡ old.width → new.scan ≡ old.scan → IsForOne new
-still-for-one old new one workers width scan = record { worker = workers ∙ one.worker; search = width ∙ one.search; no_scan = scan ∙ one.no_scan }
+-- settings that keep the number of workers and of searches are for one worker
+pub still-for-one : (old new : Settings) → IsForOne old → new.workers ≡ old.workers → new.width ≡ old.width → IsForOne new
+still-for-one old new one workers width = record { worker = workers ∙ one.worker; search = width ∙ one.search }

@@ -5,3 +5,4 @@ mod Totals
 mod Refusals
 mod Idle
 mod Bodies
+mod Scans

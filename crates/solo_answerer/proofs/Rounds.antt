@@ -28,11 +28,11 @@ both-true a b first second = ap (λ (x : Bool). x && b) first ∙ second
 pub is-solo : (settings : Settings) → IsForOne settings → is_solo settings ≡ true
 is-solo settings one = both-true (settings.workers == 1) (settings.width == 1) (eq-eqb settings.workers 1 one.worker) (eq-eqb settings.width 1 one.search)
 
-abbrev requests_of : List Round → List Request
+abbrev pub requests_of : List Round → List Request
 requests_of rounds = flat_map (λ (round : Round). round.requests) rounds
 
 module _ (settings : Settings) (index : Index) (columns : ℕ) (request : Request) (a : Answered) where
-  abbrev one_round : Round
+  abbrev pub one_round : Round
   one_round = record { settings = settings; requests = request ∷ []; answers = a ∷ [] }
 
   abbrev AllowedIf : Bool → Type 0
@@ -46,16 +46,17 @@ module _ (settings : Settings) (index : Index) (columns : ℕ) (request : Reques
       subst (λ (b : Bool). Formed index columns settings b (request ∷ []) (one_round ∷ [])) (sym none)
       (sym (one-batched settings.width (request ∷ []) (omega arith) (omega (arith, width))))
 
-  one-allowed : IsForOne settings → a ≡ solo_answer settings index (idle columns) request → IsAllowed index columns one_round
+  pub one-allowed : IsForOne settings → a ≡ solo_answer settings index (idle columns) request → IsAllowed index columns one_round
   one-allowed one answer = subst AllowedIf (sym (is-solo settings one)) (inl answer)
 
-  are-one : IsForOne settings → a ≡ solo_answer settings index (idle columns) request → AreRounds index columns (IsAllowed index columns) settings (request ∷ []) (one_round ∷ [])
-  are-one one answer = record { form = one-formed settings.scan one.no_scan one.search; each = ((refl, one-allowed one answer), tt) }
+  are-one : IsForOne settings → settings.scan ≡ false → a ≡ solo_answer settings index (idle columns) request
+      → AreRounds index columns (IsAllowed index columns) settings (request ∷ []) (one_round ∷ [])
+  are-one one no_scan answer = record { form = one-formed settings.scan no_scan one.search; each = ((refl, one-allowed one answer), tt) }
 
   more-requests : (rounds : List Round) → requests_of (rounds ++ one_round ∷ []) ≡ requests_of rounds ++ request ∷ []
   more-requests rounds = flat_map-append (λ (round : Round). round.requests) rounds (one_round ∷ [])
 
-  module _ (v u : View) (recent : Recent) (one : IsForOne settings) (same : recent.settings ≡ settings) (has : HasAnswered settings index columns v recent.rounds) where
+  module _ (v u : View) (recent : Recent) (one : IsForOne settings) (no_scan : settings.scan ≡ false) (same : recent.settings ≡ settings) (has : HasAnswered settings index columns v recent.rounds) where
     abbrev at : Run
     at = after_requests settings index (idle columns) (requests_of recent.rounds)
 
@@ -64,7 +65,7 @@ module _ (settings : Settings) (index : Index) (columns : ℕ) (request : Reques
     round-of answer stands = record {
       rounds = one_round ∷ [];
       are = subst (λ (s : Settings). AreRounds index columns (IsAllowed index columns) s (request ∷ []) (one_round ∷ [])) (sym same)
-          (are-one one (answer ∙ same-answer settings index at (idle columns) request (after-all-like settings index (idle columns) (idle columns) (requests_of recent.rounds) (record { holds = refl; refused = refl }) refl)));
+          (are-one one no_scan (answer ∙ same-answer settings index at (idle columns) request (after-all-like settings index (idle columns) (idle columns) (requests_of recent.rounds) (record { holds = refl; refused = refl }) refl)));
       answered = refl;
       count = subst (λ (rs : List Request). StandsAt (before_searches columns) u (after_requests settings index (idle columns) rs)) (sym (more-requests recent.rounds))
           (subst (StandsAt (before_searches columns) u) (sym (after-more settings index (idle columns) (requests_of recent.rounds) request)) stands);

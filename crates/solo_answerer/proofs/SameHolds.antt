@@ -160,7 +160,7 @@ module _ (settings : Settings) (index : Index) where
       ∙ ap (answer-of request (solo_run settings index b request).run.refused) same.failures_are
 
   -- after a request the worker holds what it held before it
-  after-like : (start r : Run) (request : Request) → IsLike start r → start.refused ≡ None → IsLike (after_request settings index start request) r
+  pub after-like : (start r : Run) (request : Request) → IsLike start r → start.refused ≡ None → IsLike (after_request settings index start request) r
   after-like start r request like none = record { holds = like.holds; refused = sym none ∙ like.refused }
 
   pub after-all-like : (start r : Run) (requests : List Request) → IsLike start r → start.refused ≡ None → IsLike (after_requests settings index start requests) r
@@ -173,3 +173,9 @@ module _ (settings : Settings) (index : Index) where
       → after_requests settings index start (requests ++ request ∷ []) ≡ after_request settings index (after_requests settings index start requests) request
   after-more start [] request = refl
   after-more start (r ∷ rest) request = after-more (after_request settings index start r) rest request
+
+  -- requests behind others
+  pub after-append : (start : Run) (requests more : List Request)
+      → after_requests settings index start (requests ++ more) ≡ after_requests settings index (after_requests settings index start requests) more
+  after-append start [] more = refl
+  after-append start (r ∷ rest) more = after-append (after_request settings index start r) rest more

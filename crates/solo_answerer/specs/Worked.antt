@@ -1,5 +1,5 @@
 -- What the pass of one worker tells of the rounds that it answered (Elasticsearch Reference 8, 'Nodes stats API', breakers).
-use Rattle.std.specs.Prelude.{◌≡◌, ℕ, false, List, flat_map}
+use Rattle.std.specs.Prelude.{◌≡◌, ℕ, List, flat_map}
 use Rattle.agg_bulk.specs.Indexing.{index_of}
 use Rattle.agg_model.specs.declared.breaker.Which.TheVariants.{Request, Fielddata, Inflight}
 use Rattle.agg_model.specs.declared.settings.Settings.{Settings}
@@ -24,11 +24,14 @@ abbrev pub HasAnswered : Settings → Index → ℕ → View → List Round → 
 HasAnswered settings index columns v rounds =
     StandsAt (before_searches columns) v (after_requests settings index (idle columns) (flat_map (λ round. round.requests) rounds))
 
--- settings of one worker that runs one search at a time, and asks for no pages
+-- the same over the index that the worker has
+abbrev pub WorkerAnswered : Settings → Built → View → List Round → Type 0
+WorkerAnswered settings index v = HasAnswered settings (index_of index) (columns_charge (index_of index)) v
+
+-- settings of one worker that runs one search at a time
 pub record IsForOne (settings : Settings) : Type 0 where
   pub worker : settings.workers ≡ 1
   pub search : settings.width ≡ 1
-  pub no_scan : settings.scan ≡ false
 
 -- between two searches the worker is alone at the breakers, whose limits are those of the settings, and holds the columns alone
 pub record IsIdle (settings : Settings) (index : Built) (words : WordsModel) (pass : PassModel) : Type 0 where

@@ -11,11 +11,11 @@ ghost use Rattle.agg_spec.specs.Rounds.{Round};
 ghost use Rattle.agg_spec.specs.Statistics.{AreTotals};
 ghost use Rattle.script_answers.specs.Answering.{AnswersRound, MayBe, Reopens};
 ghost use Rattle.script_run.specs.Charged.{IsCharged};
-ghost use Rattle.solo_answerer.specs.Worked.{HasAnswered, IsForOne, IsIdle};
+ghost use Rattle.solo_answerer.specs.Worked.{IsForOne, IsIdle, WorkerAnswered};
 
 use agg_model::limits::MAX_LINE;
 use agg_model::{Answered, Bytes, List, Outcome, Settings, Totals};
-use agg_search::search_solo;
+use agg_search::{search_pages, search_solo};
 use breaker_tree::{Reopened, close, reopen};
 use breaker_words::{Pass, Words};
 use script_answers::{Answerer, Reopening};
@@ -42,7 +42,7 @@ impl Answerer for Worker {
 
     ghost in_force = { λ w. w.settings };
 
-    ghost answered = { λ w rounds. HasAnswered w.settings (index_of w.index) (columns_charge (index_of w.index)) w.pass.view rounds };
+    ghost answered = { λ w rounds. WorkerAnswered w.settings w.index w.pass.view rounds };
 
     fn settings(&self) -> Settings
         ensures { result ≡ self.now.settings }
@@ -54,9 +54,10 @@ impl Answerer for Worker {
         requires some { 1 ≤ length bodies.now }
         requires few { length bodies.now ≤ self.old.settings.width }
         ensures rounds { IfOk result (λ answers. (recent : Recent) →
-            MayBe self.old.settings (HasAnswered self.old.settings (index_of self.old.index) (columns_charge (index_of self.old.index)) self.old.pass.view) recent →
-            AnswersRound (index_of self.old.index) (columns_charge (index_of self.old.index)) recent (map (request_of (index_of self.old.index)) bodies.now)
-            (HasAnswered self.new.settings (index_of self.new.index) (columns_charge (index_of self.new.index)) self.new.pass.view) answers) }
+            MayBe self.old.settings (WorkerAnswered self.old.settings self.old.index self.old.pass.view) recent →
+            AnswersRound (index_of self.old.index) (columns_charge (index_of self.old.index)) recent
+            (map (request_of (index_of self.old.index)) bodies.now)
+            (WorkerAnswered self.new.settings self.new.index self.new.pass.view) answers) }
         ensures same_settings { self.new.settings ≡ self.old.settings }
         ensures same_index { index_of self.new.index ≡ index_of self.old.index }
         ensures same_columns { columns_charge (index_of self.new.index) ≡ columns_charge (index_of self.old.index) }
@@ -65,6 +66,16 @@ impl Answerer for Worker {
         // No line of a script is longer.
         if body.len() > MAX_LINE {
             return Err(AllocError);
+        }
+        if self.settings.scan {
+            return search_pages(
+                alloc,
+                &self.words,
+                &mut self.pass,
+                &self.index,
+                body,
+                &self.settings,
+            );
         }
         let answered = search_solo(
             alloc,
@@ -89,8 +100,8 @@ impl Answerer for Worker {
         requires same_scan { settings.scan ≡ self.settings.scan }
         requires in_range { AreInRange self.settings → AreInRange settings }
         ensures taken { Reopens (columns_charge (index_of self.index)) settings self.settings
-            (HasAnswered self.settings (index_of self.index) (columns_charge (index_of self.index)) self.pass.view) result.1
-            result.0.settings (HasAnswered result.0.settings (index_of result.0.index) (columns_charge (index_of result.0.index)) result.0.pass.view) }
+            (WorkerAnswered self.settings self.index self.pass.view) result.1
+            result.0.settings (WorkerAnswered result.0.settings result.0.index result.0.pass.view) }
         ensures same_index { index_of result.0.index ≡ index_of self.index }
         ensures same_columns { columns_charge (index_of result.0.index) ≡ columns_charge (index_of self.index) }
     {
@@ -137,7 +148,7 @@ impl Answerer for Worker {
 
     fn close(self) -> Totals
         ensures { (recent : Recent) →
-            MayBe self.settings (HasAnswered self.settings (index_of self.index) (columns_charge (index_of self.index)) self.pass.view) recent →
+            MayBe self.settings (WorkerAnswered self.settings self.index self.pass.view) recent →
             AreTotals recent.settings (index_of self.index) (columns_charge (index_of self.index)) recent.rounds result }
     {
         let Worker {
@@ -160,7 +171,7 @@ impl Opens for Worker {
         ensures index { index_of result.index ≡ index_of index }
         ensures columns { columns_charge (index_of result.index) ≡ columns_charge (index_of index) }
         ensures in_force { result.settings ≡ settings }
-        ensures answered { HasAnswered result.settings (index_of result.index) (columns_charge (index_of result.index)) result.pass.view [] }
+        ensures answered { WorkerAnswered result.settings result.index result.pass.view [] }
     {
         Worker {
             index,

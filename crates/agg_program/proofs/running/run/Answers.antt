@@ -5,5 +5,5 @@ pub run-requires : goal.run-requires
 run-requires g c = record {
   takes = λ settings is.
       let one = one-at-once c.args.words.now settings is in
-      record { worker = one.0; search = one.1; no_scan = one.2 };
+      record { worker = one.0; search = one.1 };
 }

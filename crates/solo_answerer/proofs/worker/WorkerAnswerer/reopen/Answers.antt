@@ -9,6 +9,6 @@ invariant_of-result c =
     let range = c.requires.in_range worker.in_range in
     record {
       idle = opened-idle c.args.settings worker.index c.in-Done.words c.in-Done.pass (hold_of worker.pass.view at.Fielddata) c.in-Done.ensures.1 range worker.idle.columns;
-      for_one = still-for-one worker.settings c.args.settings worker.for_one c.requires.same_workers c.requires.same_width c.requires.same_scan;
+      for_one = still-for-one worker.settings c.args.settings worker.for_one c.requires.same_workers c.requires.same_width;
       in_range = range;
     }
