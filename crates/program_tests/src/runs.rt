@@ -2,6 +2,7 @@
 ghost use Rattle.std.specs.Prelude.{◌≤◌};
 
 use agg_base::{MemorySink, MemorySource};
+use agg_listen::{Audience, ListListener, Listener, Told};
 use agg_model::{Bytes, List, Text};
 use agg_program::run;
 use std::alloc::{AllocError, Global};
@@ -63,6 +64,15 @@ const NO_FAULT: FailedCalls = FailedCalls {
     write: None,
 };
 
+/// Listeners with room for so many answers each.
+fn audience_with_room(alloc: Global, rooms: &[u32]) -> Result<Audience<ListListener>, AllocError> {
+    let mut listeners = Vec::new(alloc);
+    for room in rooms {
+        listeners.push(ListListener::new(alloc, *room)?)?;
+    }
+    Ok(Audience::new(listeners))
+}
+
 /// The status of a run without words over memory, in pieces of so many bytes, and what it wrote.
 pub(crate) fn answered(
     alloc: Global,
@@ -74,7 +84,8 @@ pub(crate) fn answered(
 {
     let mut source = MemorySource::new(input, piece, failing(alloc, faults.read)?);
     let mut sink = MemorySink::new(alloc, 1_000_000, piece, failing(alloc, faults.write)?)?;
-    let status = run(alloc, &[], &mut source, &mut sink);
+    let mut audience = audience_with_room(alloc, &[])?;
+    let status = run(alloc, &[], &mut source, &mut sink, &mut audience);
     Ok((status, Bytes::of(alloc, sink.written())?))
 }
 
@@ -110,9 +121,38 @@ fn words_outside_the_grammar_end_the_run(rt: HostRuntime) -> Result<(), Fail> {
     let mut source = MemorySource::new(input, 10, List::new(rt.alloc()));
     let mut sink = MemorySink::new(rt.alloc(), 100, 10, List::new(rt.alloc()))?;
     let words = [Text::of(rt.alloc(), "--workers")?];
-    assert_eq!(rt; run(rt.alloc(), &words, &mut source, &mut sink), 2);
+    let mut audience = audience_with_room(rt.alloc(), &[8])?;
+    let status = run(rt.alloc(), &words, &mut source, &mut sink, &mut audience);
+    assert_eq!(rt; status, 2);
+    assert_eq!(rt; audience.listeners().len(), 1);
+    assert_eq!(rt; audience.listeners()[0].entry(0), None);
     let wanted = b"{\"error\":{\"key\":\"\",\"type\":\"usage\",\"value\":\"\"},\"status\":2}\n";
     assert!(rt; sink.written() == wanted.as_slice());
+    Ok(())
+}
+
+#[test]
+fn listeners_hear_of_the_answers_and_leave_without_room(rt: HostRuntime) -> Result<(), Fail> {
+    for (rooms, left) in [([0, 8], 1usize), ([0, 0], 0)] {
+        let input = joined(rt.alloc(), INDEX, ONE_BODY)?;
+        let mut source = MemorySource::new(input, 65_536, List::new(rt.alloc()));
+        let mut sink = MemorySink::new(rt.alloc(), 10_000, 65_536, List::new(rt.alloc()))?;
+        let mut audience = audience_with_room(rt.alloc(), &rooms)?;
+        let status = run(rt.alloc(), &[], &mut source, &mut sink, &mut audience);
+        assert_eq!(rt; status, 0);
+        assert!(rt; sink.written() == ONE_ANSWER.as_bytes());
+        assert_eq!(rt; audience.listeners().len(), left);
+        for listener in audience.listeners() {
+            // The second line of `ONE_ANSWER`.
+            let told = Told {
+                line: 2,
+                status: 200,
+                bytes: 290,
+            };
+            assert_eq!(rt; listener.entry(0), Some(told));
+            assert_eq!(rt; listener.entry(1), None);
+        }
+    }
     Ok(())
 }
 
@@ -122,7 +162,8 @@ fn where_memory_runs_out_whole_lines_are_written(rt: HostRuntime) -> Result<(), 
     let input = joined(rt.alloc(), INDEX, ONE_BODY)?;
     let mut source = MemorySource::new(input, 65_536, List::new(rt.alloc()));
     let mut sink = MemorySink::new(rt.alloc(), 10_000, 65_536, List::new(rt.alloc()))?;
-    let status = run(rt.alloc(), &[], &mut source, &mut sink);
+    let mut audience = audience_with_room(rt.alloc(), &[])?;
+    let status = run(rt.alloc(), &[], &mut source, &mut sink, &mut audience);
     if status == 7 {
         assert!(rt; are_first_lines(sink.written(), ONE_ANSWER.as_bytes()));
     } else {
