@@ -19,15 +19,8 @@ finished_children shard aggs rs ns = cut_children (map (fold_agg cutter_at) aggs
 module _ (shard : Columns) (a : Agg) (r : Ready) where
   -- a bucket with its key for its code, and with its children cut
   abbrev pub finished_bucket : Bucket → Bucket
-  finished_bucket b =
-      cut_bucket (map (fold_agg cutter_at) (out-Agg a).children)
-      (decoded_bucket (map (decoded shard) (out-Ready r).children) (code_key shard (out-Ready r).kind) b)
+  finished_bucket b = cut_bucket (map (fold_agg cutter_at) (out-Agg a).children) (decoded_bucket (map (decoded shard) (out-Ready r).children) (code_key shard (out-Ready r).kind) b)
 
   -- the bucket of this key
   abbrev pub finished_with : Key → Growing → Bucket
-  finished_with key g = record {
-    key = key;
-    count = g.count;
-    covered = 0;
-    children = finished_children shard (out-Agg a).children (out-Ready r).children g.children.items;
-  }
+  finished_with key g = record { key = key; count = g.count; covered = 0; children = finished_children shard (out-Agg a).children (out-Ready r).children g.children.items }

@@ -1,16 +1,17 @@
 //! Trees that have all their rows, as what a shard answers.
-ghost use Rattle.std.specs.Prelude.{◌≡◌, ◌<◌, ◌^◌, IfOk, OnOk, sum_by};
+ghost use Rattle.std.specs.Prelude.{◌≡◌, ◌<◌, ◌^◌, IfOk, OnOk, map, sum_by};
 ghost use Rattle.agg_model.specs.declared.aggregation.Agg.{out-Agg};
 ghost use Rattle.agg_model.specs.declared.key.Key.TheVariants.{Fixed as FixedKey};
 ghost use Rattle.agg_model.specs.declared.partial.Node.TheVariants.{Keyed as KeyedNode};
+ghost use Rattle.agg_evaluation.specs.Folds.{fold_agg};
 ghost use Rattle.agg_evaluation.specs.Orders.{bucket_count};
 ghost use Rattle.agg_evaluation.specs.Shard.{sorted_by_key};
 ghost use Rattle.shard_columns.specs.Built.{IsShard};
 ghost use Rattle.terms_agg.specs.Trim.{trimmed};
-ghost use Rattle.growth_laws.specs.Cutting.{cut_tree};
+ghost use Rattle.growth_laws.specs.Cutting.{cut_children, cut_tree, cutter_at};
 ghost use Rattle.growing_tree.specs.Codes.{code_key, fixed_key as fixed_key_of};
-ghost use Rattle.growing_tree.specs.Decoded.{decoded};
-ghost use Rattle.growing_tree.specs.Finished.{finished_bucket, finished_children, finished_with};
+ghost use Rattle.growing_tree.specs.Decoded.{decoded, decoded_children};
+ghost use Rattle.growing_tree.specs.Finished.{finished_bucket, finished_with};
 ghost use Rattle.growing_tree.specs.Readiness.{AreReadyFor, IsKindReady, IsReadyFor};
 ghost use Rattle.growing_tree.specs.Trees.{coded_buckets, numbered_buckets};
 ghost use Rattle.growing_tree.specs.declared.ready.Ready.{out-Ready};
@@ -105,7 +106,7 @@ pub fn finish_children(
 ) -> Result<List<Node>, AllocError>
     requires ready { AreReadyFor shard.now aggs.now ready.now }
     requires built { IsShard shard.now }
-    ensures nodes { IfOk result (λ nodes. nodes ≡ finished_children shard.now aggs.now ready.now trees.items) }
+    ensures nodes { IfOk result (λ nodes. nodes ≡ cut_children (map (fold_agg cutter_at) aggs.now) (decoded_children (map (decoded shard.now) ready.now) trees.items)) }
 {
     if ready.len() != aggs.len() || trees.len() != aggs.len() {
         return Err(AllocError);
