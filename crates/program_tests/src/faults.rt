@@ -1,7 +1,8 @@
 //! Each read and each write of a run fails, one after another.
 
 use crate::runs::{
-    FailedCalls, INDEX, ONE_ANSWER, ONE_BODY, answered, are_first_lines, is_front, joined, line_count,
+    FailedCalls, INDEX, ONE_ANSWER, ONE_BODY, answered, are_first_lines, is_front, joined,
+    line_count,
 };
 use std::alloc::Global;
 use std::process::Abort;

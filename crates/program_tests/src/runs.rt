@@ -8,13 +8,15 @@ use agg_program::run;
 use std::alloc::{AllocError, Global};
 use std::test::Fail;
 
-pub(crate) const INDEX: &str = r#"{"index":"i","mappings":{"properties":{"b":{"type":"boolean"},"n":{"type":"long"},"t":{"type":"keyword"}}},"settings":{"number_of_shards":1}}"#;
+pub(crate) const INDEX: &str =
+    r#"{"index":"i","mappings":{"properties":{"b":{"type":"boolean"},"n":{"type":"long"},"t":{"type":"keyword"}}},"settings":{"number_of_shards":1}}"#;
 
 /// Behind the index line: one document and two searches, with an empty line where a header is due.
 const TWO_BODIES: &str =
     "\n\n{\"index\":{}}\n{\"t\":\"a\"}\n\n{}\n{\"aggs\":{\"t\":{\"terms\":{\"field\":\"t\"}}}}\n\r\n{}\n{\"aggs\":{\"u\":{\"terms\":{\"field\":\"t\"}}}}";
 
-const TWO_ANSWERS: &str = r#"{"errors":false,"items":[{"index":{"_id":"_auto_0","_index":"i","result":"created","status":201}}],"took":0}
+const TWO_ANSWERS: &str =
+    r#"{"errors":false,"items":[{"index":{"_id":"_auto_0","_index":"i","result":"created","status":201}}],"took":0}
 {"_shards":{"failed":0,"skipped":0,"successful":1,"total":1},"aggregations":{"t":{"buckets":[{"doc_count":1,"key":"a"}],"doc_count_error_upper_bound":0,"sum_other_doc_count":0}},"hits":{"hits":[],"max_score":null,"total":{"relation":"eq","value":1}},"status":200,"timed_out":false,"took":0}
 {"_shards":{"failed":0,"skipped":0,"successful":1,"total":1},"aggregations":{"u":{"buckets":[{"doc_count":1,"key":"a"}],"doc_count_error_upper_bound":0,"sum_other_doc_count":0}},"hits":{"hits":[],"max_score":null,"total":{"relation":"eq","value":1}},"status":200,"timed_out":false,"took":0}
 {"breakers":{"fielddata":{"estimated_size_in_bytes":10,"granted_size_in_bytes":10,"limit_size_in_bytes":429496729,"overhead_percent":103,"tripped":0},"inflight_requests":{"estimated_size_in_bytes":0,"granted_size_in_bytes":152,"limit_size_in_bytes":1073741824,"overhead_percent":200,"tripped":0},"parent":{"estimated_size_in_bytes":10,"granted_size_in_bytes":10216,"limit_size_in_bytes":751619276,"overhead_percent":100,"tripped":0},"request":{"estimated_size_in_bytes":0,"granted_size_in_bytes":10054,"limit_size_in_bytes":644245094,"overhead_percent":100,"tripped":0}}}
@@ -30,7 +32,8 @@ pub(crate) const ONE_BODY: &str = r#"
 {"aggs":{"t":{"terms":{"field":"t"}}}}
 "#;
 
-pub(crate) const ONE_ANSWER: &str = r#"{"errors":false,"items":[{"index":{"_id":"_auto_0","_index":"i","result":"created","status":201}}],"took":0}
+pub(crate) const ONE_ANSWER: &str =
+    r#"{"errors":false,"items":[{"index":{"_id":"_auto_0","_index":"i","result":"created","status":201}}],"took":0}
 {"_shards":{"failed":0,"skipped":0,"successful":1,"total":1},"aggregations":{"t":{"buckets":[{"doc_count":1,"key":"a"}],"doc_count_error_upper_bound":0,"sum_other_doc_count":0}},"hits":{"hits":[],"max_score":null,"total":{"relation":"eq","value":1}},"status":200,"timed_out":false,"took":0}
 {"breakers":{"fielddata":{"estimated_size_in_bytes":10,"granted_size_in_bytes":10,"limit_size_in_bytes":429496729,"overhead_percent":103,"tripped":0},"inflight_requests":{"estimated_size_in_bytes":0,"granted_size_in_bytes":76,"limit_size_in_bytes":1073741824,"overhead_percent":200,"tripped":0},"parent":{"estimated_size_in_bytes":10,"granted_size_in_bytes":5113,"limit_size_in_bytes":751619276,"overhead_percent":100,"tripped":0},"request":{"estimated_size_in_bytes":0,"granted_size_in_bytes":5027,"limit_size_in_bytes":644245094,"overhead_percent":100,"tripped":0}}}
 "#;

@@ -11,6 +11,8 @@ returns-in_default-clause-output g c = λ input before left known. (0, left, wan
 pub returns-clause-output : goal.returns-clause-output
 returns-clause-output g c = λ input before left known.
     let rest : g.S.Source.left (source_of c.answer_lines-status.new.lines) ≡ Some (drop (bytes_read c.answer_lines-status.new.lines) input) =
-        left_behind input c.answer_lines-status.ensures.gave (ap g.S.Source.left c.new-lines.ensures.source ∙ left) c.new-lines.ensures.bytes_read in
-    (bytes_read c.answer_lines-status.new.lines, search (rules, rest),
-    c.answer_lines-status.ensures.output input before (c.new-lines.ensures.unread ∙ left) known)
+    left_behind input c.answer_lines-status.ensures.gave (ap g.S.Source.left c.new-lines.ensures.source ∙ left) c.new-lines.ensures.bytes_read in (
+      bytes_read c.answer_lines-status.new.lines,
+      search (rules, rest),
+      c.answer_lines-status.ensures.output input before (c.new-lines.ensures.unread ∙ left) known,
+    )
