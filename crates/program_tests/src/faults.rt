@@ -46,7 +46,7 @@ const CASES: [Case; 2] = [
 /// more lines there are, and at the end all but the last one.
 fn failed_reads(rt: &impl Abort, alloc: Global, case: Case, piece: usize) -> Result<u64, Fail> {
     let all = case.output.as_bytes();
-    let mut lines = 0;
+    let mut lines = 0usize;
     for call in 0..MANY {
         let faults = FailedCalls {
             read: Some(call),
