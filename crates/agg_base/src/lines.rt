@@ -145,7 +145,8 @@ pub struct Lines<'a, S: Source> {
 }
 
 impl<'a, S: Source> Lines<'a, S> {
-    ghost use Rattle.agg_base.specs.Lines.{source_of, source_name, to_come, unread, position, bytes_read, handed, kept, has_ended, Gave, IsFrontOfLine, Stays, Took, KeepsCounts};
+    ghost use Rattle.agg_base.specs.Lines.{source_of, source_name, to_come, unread, position, bytes_read, handed, kept, has_ended};
+    ghost use Rattle.agg_base.specs.Lines.{Gave, IsFrontOfLine, Stays, Took, KeepsCounts};
 
     /// The lines of what `source` has left, of which nothing is read yet. It takes no memory.
     pub fn new(alloc: Global, source: &'a mut S, block: Block) -> Lines<'a, S>

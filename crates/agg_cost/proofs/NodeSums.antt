@@ -10,7 +10,7 @@ use Rattle.agg_evaluation.specs.Folds.{fold_aggs}
 use Rattle.agg_evaluation.specs.Rows.{PlacedRow}
 use Rattle.agg_evaluation.specs.Whole.{shape_of}
 use Rattle.agg_evaluation.specs.Ceiling.{Reached, path_count, handed_on, bucket_bound, key_bound, node_bound, node_bound_at, collected_roots, task_bound, ceiling, ceiling_by, has_wide_row, within_greatest}
-use Rattle.agg_cost.specs.Nodes.{NodeBounds, bytes, nodes, nodes_below, search_nodes, twice_bytes, ceiling_by_nodes}
+use Rattle.agg_cost.specs.Nodes.{NodeBounds, bytes, nodes, nodes_below, search_nodes, twice_bytes, unless_wide, ceiling_by_nodes}
 
 abbrev Bound : Type 0
 Bound = ℕ → List Reached → ℕ
@@ -44,9 +44,9 @@ task-bytes kinds search all =
     ∙ ((λ i. sum_by (λ (a : Agg). node-bytes kinds all a 1 (reached a) i) search.aggs)
     ∙ sym (sum_by-flat_map bytes (λ (a : Agg). nodes kinds all a 1 (reached a)) search.aggs)))
 
-pub ceiling-by-nodes : (kinds : List FieldKind) (search : Search) (all : List PlacedRow) → ceiling kinds search all ≡ ceiling_by_nodes (has_wide_row search all) (search_nodes kinds search all)
+pub ceiling-by-nodes : (kinds : List FieldKind) (search : Search) (all : List PlacedRow) → ceiling kinds search all ≡ ceiling_by_nodes kinds search all
 ceiling-by-nodes kinds search all = by_width (has_wide_row search all)
   where
-    by_width : (b : Bool) → ceiling_by b kinds search all ≡ ceiling_by_nodes b (search_nodes kinds search all)
+    by_width : (b : Bool) → ceiling_by b kinds search all ≡ unless_wide b (search_nodes kinds search all)
     by_width true = refl
     by_width false = ap within_greatest (task-bytes kinds search all)

@@ -5,7 +5,7 @@ use Rattle.agg_model.specs.declared.mapping.FieldKind.{FieldKind}
 use Rattle.agg_model.specs.declared.aggregation.Agg.{Agg, Agg', Row_of-Agg, end_of-Agg, more_of-Agg, out-Agg}
 use Rattle.agg_model.specs.declared.aggregation.Kind.{Kind}
 use Rattle.agg_model.specs.declared.aggregation.Search.{Search}
-use Rattle.agg_evaluation.specs.Ceiling.{Reached, path_count, handed_on, bucket_bound, key_bound, collected_roots, within_greatest}
+use Rattle.agg_evaluation.specs.Ceiling.{Reached, path_count, handed_on, bucket_bound, key_bound, collected_roots, has_wide_row, within_greatest}
 use Rattle.agg_evaluation.specs.Rows.{PlacedRow}
 use Rattle.agg_evaluation.specs.Whole.{shape_of}
 
@@ -46,7 +46,10 @@ search_nodes kinds search all = flat_map (λ a. nodes kinds all a 1 (collected_r
 abbrev pub twice_bytes : List NodeBounds → ℕ
 twice_bytes bounds = 2 * (TASK_BYTES + sum_by bytes bounds)
 
--- none where it is too wide, by combinations or by bytes
-abbrev pub ceiling_by_nodes : Bool → List NodeBounds → Option ℕ
-ceiling_by_nodes true bounds = None
-ceiling_by_nodes false bounds = within_greatest (twice_bytes bounds)
+abbrev pub unless_wide : Bool → List NodeBounds → Option ℕ
+unless_wide true bounds = None
+unless_wide false bounds = within_greatest (twice_bytes bounds)
+
+-- the ceiling of a search on a shard: none where it is too wide, by combinations or by bytes
+abbrev pub ceiling_by_nodes : List FieldKind → Search → List PlacedRow → Option ℕ
+ceiling_by_nodes kinds search all = unless_wide (has_wide_row search all) (search_nodes kinds search all)

@@ -3,9 +3,9 @@ ghost use Rattle.std.specs.Prelude.{◌≡◌, IfOk, length, map, nat_lt};
 ghost use Rattle.std.specs.List.{list_any};
 ghost use Rattle.agg_cost.specs.Capped.{capped};
 ghost use Rattle.shard_columns.specs.Made.{IsAggFor, IsSearchFor};
-ghost use Rattle.agg_cost.specs.Nodes.{ceiling_by_nodes, search_nodes};
+ghost use Rattle.agg_cost.specs.Nodes.{ceiling_by_nodes};
 ghost use Rattle.agg_cost.specs.Paths.{reached_by, AreBelow};
-ghost use Rattle.agg_evaluation.specs.Ceiling.{ceiling as ceiling_of, greatest_combinations, has_wide_row as has_too_many, is_wide_at, node_bound};
+ghost use Rattle.agg_evaluation.specs.Ceiling.{ceiling as ceiling_of, greatest_combinations, is_wide_at, node_bound};
 ghost use Rattle.agg_evaluation.specs.Ceiling.{within_greatest as unless_greater};
 ghost use Rattle.agg_evaluation.specs.Counted.{IsApart};
 ghost use Rattle.agg_evaluation.specs.Keys.{keys};
@@ -141,7 +141,7 @@ pub fn ceiling(alloc: Global, shard: &Shard, search: &Search) -> Result<Option<u
     requires apart { IsApart shard.now.rows }
     requires made { IsSearchFor shard.now search.now }
     ensures exact { IfOk result (λ c. c ≡ ceiling_of shard.now.kinds search.now shard.now.rows) }
-    ensures by_nodes { IfOk result (λ c. c ≡ ceiling_by_nodes (has_too_many search.now shard.now.rows) (search_nodes shard.now.kinds search.now shard.now.rows)) }
+    ensures by_nodes { IfOk result (λ c. c ≡ ceiling_by_nodes shard.now.kinds search.now shard.now.rows) }
 {
     let matched = matched_roots(alloc, shard, &search.query)?;
     let mut bytes = TASK_BYTES;

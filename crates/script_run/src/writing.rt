@@ -25,7 +25,8 @@ pub(crate) fn write_items<K: Sink, L: Listener>(
     generated: bool,
 ) -> Result<(), Stop>
     ensures puts { Puts
-        (so_far (K.written sink.old) audience.old) (so_far (K.written sink.new) audience.new) (bulk (text_of_items index.now items.now generated) ∷ []) result }
+        (so_far (K.written sink.old) audience.old) (so_far (K.written sink.new) audience.new)
+        (bulk (text_of_items index.now items.now generated) ∷ []) result }
     ensures fault { result ≡ Err Stop.Write → Rose (K.faults sink.old) (K.faults sink.new) }
     ensures never_falls { K.faults sink.old ≤ K.faults sink.new }
 {
@@ -40,7 +41,8 @@ pub(crate) fn write_heavy<K: Sink, L: Listener>(
     tripped: &Tripped,
 ) -> Result<(), Stop>
     ensures puts { Puts
-        (so_far (K.written sink.old) audience.old) (so_far (K.written sink.new) audience.new) (error (exception_line tripped.now (codes "columns") 6 []) ∷ []) result }
+        (so_far (K.written sink.old) audience.old) (so_far (K.written sink.new) audience.new)
+        (error (exception_line tripped.now (codes "columns") 6 []) ∷ []) result }
     ensures fault { result ≡ Err Stop.Write → Rose (K.faults sink.old) (K.faults sink.new) }
     ensures never_falls { K.faults sink.old ≤ K.faults sink.new }
 {
@@ -58,7 +60,9 @@ pub(crate) fn write_usage<K: Sink, L: Listener>(
     audience: &mut Audience<L>,
     usage: &Usage,
 ) -> Result<(), Stop>
-    ensures puts { Puts (so_far (K.written sink.old) audience.old) (so_far (K.written sink.new) audience.new) (error (text_of_usage usage.now) ∷ []) result }
+    ensures puts { Puts
+        (so_far (K.written sink.old) audience.old) (so_far (K.written sink.new) audience.new)
+        (error (text_of_usage usage.now) ∷ []) result }
     ensures fault { result ≡ Err Stop.Write → Rose (K.faults sink.old) (K.faults sink.new) }
     ensures never_falls { K.faults sink.old ≤ K.faults sink.new }
 {
