@@ -1,5 +1,5 @@
 -- Laying out rows one after another.
-use Rattle.std.proofs.Common.{◌≡◌, refl, ℕ, ◌+◌, ◌<◌, List, [], ◌∷◌, ◌++◌, map, length, get_or, set, take, ◌≤◌, slice_index_or, sym, ◌∙◌, ap, subst, arith, length-append, append_assoc}
+use Rattle.std.proofs.Common.{◌≡◌, refl, zero, suc, ℕ, ◌+◌, ◌<◌, List, [], ◌∷◌, ◌++◌, map, length, get_or, set, take, ◌≤◌, slice_index_or, sym, ◌∙◌, ap, subst, arith, length-append, append_assoc}
 use Rattle.std.specs.List.{flat_map, enumerate_from}
 use Rattle.std.proofs.lemmas.List.{map-append, append-nil, get_or_append_left, length-map, take_more, get_or-map}
 use Rattle.std.proofs.lemmas.List.{length-take, take_all}
@@ -32,6 +32,36 @@ each-push (g ∷ gs) f b =
     let e : (b + length (g b)) + length (each gs (b + length (g b))) ≡ b + length (g b ++ each gs (b + length (g b))) = omega (arith, length-append (g b) (each gs (b + length (g b)))) in
     ap (λ (xs : List ℕ). g b ++ xs) (each-push gs f (b + length (g b))) ∙ (sym (append_assoc (g b) (each gs (b + length (g b))) (f ((b + length (g b)) + length (each gs (b + length (g b))))))
     ∙ ap (λ (k : ℕ). (g b ++ each gs (b + length (g b))) ++ f k) e)
+
+-- one of several blocks, behind those before it, has no more ends than all of them
+pub each-room : {X : Type 0} (f : X → Ends) (items : List X) (n : ℕ) (x : X) (b : ℕ) → n < length items → x ≡ get_or items n x →
+    length (each (map f (take n items)) b) + length (f x (b + length (each (map f (take n items)) b))) ≤ length (each (map f items) b)
+unfolding each
+each-room f [] n x b below is = absurd (omega (arith, below))
+each-room f (y ∷ ys) zero x b below is =
+    let here : length (f x (b + 0)) ≡ length (f y b) = ap (λ z. length (f z (b + 0))) is ∙ ap (λ (k : ℕ). length (f y k)) (let e : b + 0 ≡ b = omega arith in e) in
+    omega (arith, here, length-append (f y b) (each (map f ys) (b + length (f y b))))
+each-room f (y ∷ ys) (suc n) x b below is =
+    let next = b + length (f y b) in
+    let done = each (map f (take n ys)) next in
+    let rest = each-room f ys n x next (omega (arith, below)) is in
+    let size = length-append (f y b) done in
+    let at : length (f x (b + length (f y b ++ done))) ≡ length (f x (next + length done)) = ap (λ (k : ℕ). length (f x k)) (let e : b + length (f y b ++ done) ≡ next + length done = omega (arith, size) in e) in
+    omega (arith, rest, size, at, length-append (f y b) (each (map f ys) next))
+
+-- blocks with some ends each are no more than their ends
+each-long : {X : Type 0} (f : X → Ends) → ((x : X) (b : ℕ) → 0 < length (f x b)) → (items : List X) (b : ℕ) → length items ≤ length (each (map f items) b)
+unfolding each
+each-long f some [] b = omega arith
+each-long f some (y ∷ ys) b =
+    let rest = each-long f some ys (b + length (f y b)) in
+    omega (arith, rest, some y b, length-append (f y b) (each (map f ys) (b + length (f y b))))
+
+row-size : (r : Row) (b : ℕ) → length (row_ends r b) ≡ 1 + length (each (map children_ends (out-Row r).children) (b + 1))
+row-size r b = ap (λ (f : Ends). length (f b)) (fold_row-out ends_children ends_row r) ∙ (omega arith)
+
+some-ends : (r : Row) (b : ℕ) → 0 < length (row_ends r b)
+some-ends r b = omega (arith, row-size r b)
 
 -- the rows of one nested path beneath a row at a place
 abbrev pub step_into : ℕ → List ℕ → List ℕ → ℕ × (ℕ → Walk) → List PlacedRow
@@ -191,6 +221,46 @@ pub ChildrenLaid-more : (old now new : List Laid) (old_ends now_ends new_ends : 
 ChildrenLaid-more old now new old_ends now_ends new_ends row entry items n c was_aligned below is laid adds ends aligned =
     rw (take-next items n c below is) (ChildrenLaid-push old now new old_ends now_ends new_ends row entry (take n items) c was_aligned laid adds ends aligned)
 
+-- one more row takes no more room than all of its path
+pub RowsLaid-room : (old now : List Laid) (old_ends now_ends : List ℕ) (document parent : ℕ) (c : Children) (items : List Row) (n : ℕ) (r : Row) → items ≡ (out-Children c).rows →
+    n < length items → r ≡ get_or items n r → RowsLaid old now old_ends now_ends document parent (out-Children c).path (take n items) →
+    (n + length old_ends ≤ length now_ends) × (length now_ends + length (row_ends r (length now_ends)) ≤ length old_ends + length (children_ends c (length old_ends)))
+RowsLaid-room old now old_ends now_ends document parent c items n r same below is laid =
+    let done = each (map row_ends (take n items)) (length old_ends) in
+    let size : length now_ends ≡ length old_ends + length done = ap length laid.ends_are ∙ length-append old_ends done in
+    let whole : length (children_ends c (length old_ends)) ≡ length (each (map row_ends items) (length old_ends)) =
+    ap (λ (f : Ends). length (f (length old_ends))) (fold_children-out ends_children ends_row c) ∙ ap (λ (rs : List Row). length (each (map row_ends rs) (length old_ends))) (sym same) in
+    let at : length (row_ends r (length now_ends)) ≡ length (row_ends r (length old_ends + length done)) = ap (λ (k : ℕ). length (row_ends r k)) size in
+    let long = each-long row_ends some-ends (take n items) (length old_ends) in
+    let taken = length-take n items in
+    let room = each-room row_ends items n r (length old_ends) below is in
+    (omega (arith, long, taken, below, size), omega (arith, room, at, whole, size))
+
+-- one more nested path takes no more room than all of its row
+pub ChildrenLaid-room : (old now : List Laid) (old_ends now_ends : List ℕ) (row : Row) (entry : Entry) (items : List Children) (n : ℕ) (c : Children) → items ≡ (out-Row row).children →
+    n < length items → c ≡ get_or items n c → ChildrenLaid old now old_ends now_ends row entry (take n items) →
+    (length old_ends < length now_ends) × (length now_ends + length (children_ends c (length now_ends)) ≤ length old_ends + length (row_ends row (length old_ends)))
+ChildrenLaid-room old now old_ends now_ends row entry items n c same below is laid =
+    let front = old_ends ++ length old_ends ∷ [] in
+    let done = each (map children_ends (take n items)) (length old_ends + 1) in
+    let front_size = length-append old_ends (length old_ends ∷ []) in
+    let size : length now_ends ≡ (length old_ends + 1) + length done = ap length laid.ends_are ∙ (length-append front done ∙ ap (λ (k : ℕ). k + length done) front_size) in
+    let whole : length (row_ends row (length old_ends)) ≡ 1 + length (each (map children_ends items) (length old_ends + 1)) =
+    row-size row (length old_ends) ∙ ap (λ (cs : List Children). 1 + length (each (map children_ends cs) (length old_ends + 1))) (sym same) in
+    let at : length (children_ends c (length now_ends)) ≡ length (children_ends c ((length old_ends + 1) + length done)) = ap (λ (k : ℕ). length (children_ends c k)) size in
+    let room = each-room children_ends items n c (length old_ends + 1) below is in
+    (omega (arith, size), omega (arith, room, at, whole, size))
+
+-- a row with all beneath it
+pub ChildrenLaid-whole : (old new : List Laid) (old_ends new_ends : List ℕ) (row : Row) (entry : Entry) → ChildrenLaid old new old_ends new_ends row entry (out-Row row).children →
+    length new ≡ length old_ends + length (row_ends row (length old_ends))
+ChildrenLaid-whole old new old_ends new_ends row entry laid =
+    let front = old_ends ++ length old_ends ∷ [] in
+    let below = each (map children_ends (out-Row row).children) (length old_ends + 1) in
+    let size : length new_ends ≡ (length old_ends + 1) + length below = ap length laid.ends_are ∙ (length-append front below ∙ ap (λ (k : ℕ). k + length below) (length-append old_ends (length old_ends ∷ []))) in
+    let aligned = laid.aligned in
+    omega (arith, aligned, size, row-size row (length old_ends))
+
 pub all-taken : {X : Type 0} (items : List X) (n : ℕ) → length items ≤ n → take n items ≡ items
 all-taken items n reached = take_all n items reached
 
@@ -233,6 +303,19 @@ RootsLaid-more now new now_ends new_ends documents n d below is laid adds ends a
           ∙ sym (each-push (map root_ends done) (root_ends d) 0) ∙ ap (λ (fs : List Ends). each fs 0) (sym (map-append root_ends done (d ∷ [])))));
       aligned = aligned;
     })
+
+-- one more document takes no more room than all
+pub RootsLaid-room : (now : List Laid) (now_ends : List ℕ) (documents items : List Document) (n : ℕ) (d : Document) → items ≡ documents → n < length items → d ≡ get_or items n d →
+    RootsLaid now now_ends documents (take n items) → (n ≤ length now_ends) × (length now_ends + length (row_ends d.root (length now_ends)) ≤ length (each (map root_ends documents) 0))
+RootsLaid-room now now_ends documents items n d same below is laid =
+    let done = each (map root_ends (take n items)) 0 in
+    let size : length now_ends ≡ length done = ap length laid.ends_are in
+    let at : length (row_ends d.root (length now_ends)) ≡ length (root_ends d (0 + length done)) = ap (λ (k : ℕ). length (row_ends d.root k)) (let e : length now_ends ≡ 0 + length done = omega (arith, size) in e) in
+    let whole : length (each (map root_ends items) 0) ≡ length (each (map root_ends documents) 0) = ap (λ (ds : List Document). length (each (map root_ends ds) 0)) same in
+    let long = each-long root_ends (λ (e : Document) b. some-ends e.root b) (take n items) 0 in
+    let taken = length-take n items in
+    let room = each-room root_ends items n d 0 below is in
+    (omega (arith, long, taken, below, size), omega (arith, room, at, whole, size))
 
 pub RootsLaid-next : (now new : List Laid) (now_ends new_ends : List ℕ) (documents items : List Document) (n : ℕ) (d : Document) → items ≡ documents →
     n < length items → d ≡ get_or items n d →

@@ -1,6 +1,7 @@
 pub mod Levels
 pub mod Placing
 pub mod Laying
+pub mod Depths
 pub mod Storing
 pub mod Drafting
 pub mod Finishing

@@ -1,5 +1,5 @@
 // The rows of documents in order, each before those that it encloses.
-ghost use Rattle.std.specs.Prelude.{◌≡◌, ◌+◌, ◌++◌, ◌<◌, ℕ, List, [], OnOk, map, length, slice_index_or, IfOk, vec_len};
+ghost use Rattle.std.specs.Prelude.{◌≡◌, ◌+◌, ◌++◌, ◌<◌, ◌^◌, ℕ, List, [], OnOk, map, length, slice_index_or, IfOk, vec_len};
 ghost use Rattle.agg_evaluation.specs.Rows.{rows_of, rows_of_documents};
 ghost use Rattle.shard_columns.specs.Layout.{flat_rows, place_at, context_of, children_of, AddsRow, AddsChildren, ids_of};
 ghost use Rattle.shard_columns.specs.Ends.{row_ends, children_ends, root_ends, each};
@@ -13,17 +13,13 @@ pub enum Origin {
     /// It is the root of its document.
     Root,
     /// It is the `number`-th row of the nested path directly beneath the row `parent`.
-    Nested {
-        parent: usize,
-        path: u32,
-        number: usize,
-    },
+    Nested { parent: u32, path: u32, number: u32 },
 }
 
 /// A row by its document's place and its origin.
 #[derive(Clone, Copy)]
 pub struct Entry {
-    pub document: usize,
+    pub document: u32,
     pub origin: Origin,
 }
 
@@ -38,11 +34,12 @@ pub struct Laid<'a> {
 #[derive(Drop)]
 pub struct Layout<'a> {
     pub rows: Vec<Laid<'a>>,
-    pub ends: Vec<usize>,
+    pub ends: Vec<u32>,
 }
 
 /// All rows of the documents, root by root.
 pub fn lay<'a>(alloc: Global, documents: &'a List<Document>) -> Result<Layout<'a>, AllocError>
+    requires few { length (each (map root_ends documents.now) 0) < 2 ^ 32 }
     ensures rows { IfOk result (λ l. flat_rows (ids_of documents.now) l.rows.items ≡ rows_of_documents documents.now) }
     ensures ends { IfOk result (λ l. l.ends.items ≡ each (map root_ends documents.now) 0) }
 {
@@ -52,7 +49,7 @@ pub fn lay<'a>(alloc: Global, documents: &'a List<Document>) -> Result<Layout<'a
     };
     for (place, document) in documents.as_slice().iter().enumerate() {
         let entry = Entry {
-            document: place,
+            document: place as u32,
             origin: Origin::Root,
         };
         lay_row(&mut layout, &document.root, entry)?;
@@ -63,11 +60,12 @@ pub fn lay<'a>(alloc: Global, documents: &'a List<Document>) -> Result<Layout<'a
 #[cycle(lay)]
 fn lay_row<'a>(layout: &mut Layout<'a>, row: &'a Row, entry: Entry) -> Result<(), AllocError>
     requires aligned { length layout.old.rows.items ≡ length layout.old.ends.items }
+    requires few { length layout.old.ends.items + length (row_ends row.now (length layout.old.ends.items)) < 2 ^ 32 }
     ensures rows { OnOk result (AddsRow layout.old.rows.items layout.new.rows.items row.now entry) }
     ensures ends { OnOk result (layout.new.ends.items ≡ layout.old.ends.items ++ row_ends row.now (length layout.old.ends.items)) }
     ensures aligned { OnOk result (length layout.new.rows.items ≡ length layout.new.ends.items) }
 {
-    let place = layout.rows.len();
+    let place = layout.rows.len() as u32;
     layout.rows.push(Laid {
         entry,
         values: &row.values,
@@ -76,7 +74,7 @@ fn lay_row<'a>(layout: &mut Layout<'a>, row: &'a Row, entry: Entry) -> Result<()
     for children in row.children.as_slice() {
         lay_children(layout, children, entry.document, place)?;
     }
-    layout.ends[place] = layout.rows.len();
+    layout.ends[place as usize] = layout.rows.len() as u32;
     Ok(())
 }
 
@@ -84,11 +82,12 @@ fn lay_row<'a>(layout: &mut Layout<'a>, row: &'a Row, entry: Entry) -> Result<()
 fn lay_children<'a>(
     layout: &mut Layout<'a>,
     children: &'a Children,
-    document: usize,
-    parent: usize,
+    document: u32,
+    parent: u32,
 ) -> Result<(), AllocError>
     requires below { parent < length layout.old.rows.items }
     requires aligned { length layout.old.rows.items ≡ length layout.old.ends.items }
+    requires few { length layout.old.ends.items + length (children_ends children.now (length layout.old.ends.items)) < 2 ^ 32 }
     ensures rows { OnOk result (AddsChildren layout.old.rows.items layout.new.rows.items children.now document parent) }
     ensures ends { OnOk result (layout.new.ends.items ≡ layout.old.ends.items ++ children_ends children.now (length layout.old.ends.items)) }
     ensures aligned { OnOk result (length layout.new.rows.items ≡ length layout.new.ends.items) }
@@ -97,7 +96,7 @@ fn lay_children<'a>(
         let origin = Origin::Nested {
             parent,
             path: children.path,
-            number,
+            number: number as u32,
         };
         lay_row(layout, row, Entry { document, origin })?;
     }

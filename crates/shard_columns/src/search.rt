@@ -14,19 +14,19 @@ struct Part {
     end: usize,
 }
 
-fn part_between(numbers: &[u32], from: usize, to: usize) -> Part
+fn part_between(numbers: &[u32], from: u32, to: u32) -> Part
     requires ascend { IsStrictlyIncreasing numbers.now }
     requires in_order { from ≤ to }
     ensures within { (result.start ≤ result.end) × (result.end ≤ length numbers.now) }
     ensures between { slice_range numbers.now result.start result.end ≡ filter (λ n. nat_le from n && nat_lt n to) numbers.now }
 {
-    let start = numbers.partition_point(|number| (*number as usize) < from);
-    let end = numbers.partition_point(|number| (*number as usize) < to);
+    let start = numbers.partition_point(|number| *number < from);
+    let end = numbers.partition_point(|number| *number < to);
     Part { start, end }
 }
 
 /// The part of ascending numbers that are at least `from` and below `to`.
-pub fn numbers_between(numbers: &[u32], from: usize, to: usize) -> &[u32]
+pub fn numbers_between(numbers: &[u32], from: u32, to: u32) -> &[u32]
     requires ascend { IsStrictlyIncreasing numbers.now }
     requires in_order { from ≤ to }
     ensures { result.now ≡ filter (λ n. nat_le from n && nat_lt n to) numbers.now }

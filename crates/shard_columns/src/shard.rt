@@ -37,7 +37,7 @@ pub struct Shard {
     parents: Vec<u32>,
     ids: Vec<Text>,
     rows: Vec<Entry>,
-    ends: Vec<usize>,
+    ends: Vec<u32>,
     numbers: Vec<List<u32>>,
     words: Vec<List<Text>>,
     columns: Vec<Column>,
@@ -275,7 +275,7 @@ impl Shard {
     {
         match self.rows[row as usize].origin {
             Origin::Root => None,
-            Origin::Nested { parent, .. } => Some(parent as u32),
+            Origin::Nested { parent, .. } => Some(parent),
         }
     }
 
@@ -287,7 +287,7 @@ impl Shard {
         ensures few { length self.now.rows < 2 ^ 32 }
     {
         let numbers = numbers_of(self.numbers.as_slice(), path as usize + 1);
-        numbers_between(numbers, row as usize, self.ends[row as usize])
+        numbers_between(numbers, row, self.ends[row as usize])
     }
 
     /// The number of rows at a nested path within a row, on all levels; a row at that path counts within itself.
@@ -313,7 +313,10 @@ impl Shard {
         requires { row < length self.now.rows }
         ensures { result.now ≡ (row_of self.now.rows row).id }
     {
-        text_at(self.ids.as_slice(), self.rows[row as usize].document)
+        text_at(
+            self.ids.as_slice(),
+            self.rows[row as usize].document as usize,
+        )
     }
 
     /// The number of values that a row has of a field, 0 where it has none.

@@ -1,13 +1,14 @@
 use Rattle.std.proofs.Common.{take}
-use Rattle.agg_model.specs.declared.row.Children.{out-Children}
+use Rattle.agg_model.specs.declared.row.Children.{out-Children, size-Children}
+use Rattle.agg_model.specs.declared.row.Row.{size-Row}
 use Rattle.shard_columns.proofs.Laying.{RowsLaid, ChildrenLaid}
 use Rattle.shard_columns.proofs.layout.+lay.Given as goal
 
 abbrev pub decreases-lay_children : goal.decreases-lay_children
-decreases-lay_children l = goal.size-lay_children l
+decreases-lay_children l = size-Children l.children.now
 
 abbrev pub decreases-lay_row : goal.decreases-lay_row
-decreases-lay_row l = goal.size-lay_row l
+decreases-lay_row l = size-Row l.row.now
 
 abbrev pub invariant-lay_children-loop-number : goal.invariant-lay_children-loop-number
 invariant-lay_children-loop-number l =

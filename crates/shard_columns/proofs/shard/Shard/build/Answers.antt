@@ -27,6 +27,15 @@ use Rattle.shard_columns.proofs.Givens.{documents_given}
 use Rattle.shard_columns.proofs.Making.{storable-laid, values-laid, contexts-below, AreEnclosed-laid, dictionaries-are}
 use Rattle.shard_columns.proofs.shard.Shard.build.Goals as goal
 
+pub lay-requires : goal.lay-requires
+lay-requires c =
+    let documents = c.args.documents.now in
+    let given = documents_given c.args.mapping.now documents c.requires.few c.requires.light c.requires.fit in
+    let laid = all-rows-laid documents (subst T (sym given.paths) tt) in
+    let size = laid.sizes in
+    let light = c.requires.light in
+    omega (arith, light, rows-light (rows_of_documents documents), size)
+
 pub store-requires : goal.store-requires
 store-requires c =
     let given = documents_given c.args.mapping.now c.args.documents.now c.requires.few c.requires.light c.requires.fit in

@@ -1,16 +1,11 @@
 use Rattle.std.proofs.Common.{refl, ◌∙◌, ap, arith}
 use Rattle.shard_columns.specs.Layout.{context_of}
-use Rattle.shard_columns.proofs.Reading.{in-range, context-is, rows-few}
+use Rattle.shard_columns.proofs.Reading.{in-range, context-is}
 use Rattle.shard_columns.proofs.Parents.{around, enclosed-nested, enclosed-root}
 use Rattle.shard_columns.proofs.shard.Shard.parent.Goals as goal
 
 pub index-requires : goal.index-requires
 index-requires c = omega (arith, in-range c.self.inside c.args.self.now c.self.view_is c.self.invariant c.args.row c.requires, c.self.inside.rows.ok.0)
-
-pub overflow_cast-result : goal.overflow_cast-result
-overflow_cast-result c =
-    let known = around c.self.inside c.args.self.now c.self.view_is c.self.invariant c.args.row c.index.result.now c.in-Nested.parent c.in-Nested.path c.in-Nested.number c.requires c.index.ensures c.in-Nested.is in
-    omega (arith, known.0, rows-few c.self.inside c.args.self.now c.self.view_is c.self.invariant)
 
 pub returns-in-Root-clause-root : goal.returns-in-Root-clause-root
 returns-in-Root-clause-root c =
