@@ -6,10 +6,12 @@ pub mod Contents
 pub mod Places
 pub mod Standing
 pub mod Holding
+pub mod Lending
 pub mod PreparedLevels
 pub mod PreparedCases
 pub mod Sizes
 pub mod Inserting
+pub mod Marking
 pub mod Ready
 pub mod QuerySizes
 pub mod Making

@@ -1,5 +1,5 @@
 -- A query that is made for a shard's mapping looks at fields of the shard.
-use Rattle.std.proofs.Common.{◌≡◌, ℕ, true, Bool, List, length, map, sym, ◌∙◌, ap, subst}
+use Rattle.std.proofs.Common.{◌≡◌, ℕ, true, List, length, ◌∙◌, ap}
 use Rattle.std.proofs.Math.Bool.{Bool-set}
 use Rattle.std.proofs.Math.Logic.{∥∥₁_elim}
 use Rattle.std.proofs.lemmas.List.{length-map}
@@ -10,7 +10,7 @@ use Rattle.agg_model.specs.declared.row.Document.{Document}
 use Rattle.agg_evaluation.specs.Conditions.{looks_below}
 use Rattle.agg_evaluation.specs.QueryFits.{query_fits}
 use Rattle.agg_evaluation.proofs.QueriesFit.{fits_below}
-use Rattle.shard_columns.specs.Built.{IsBuiltFrom, IsShardOf}
+use Rattle.shard_columns.specs.Built.{IsBuiltFrom}
 use Rattle.shard_columns.specs.Columns.{Columns}
 use Rattle.column_query.specs.Made.{IsMadeFor, IsMade}
 

@@ -85,13 +85,13 @@ not_less_from (u ∷ us) strict w (suc k) v is le =
       | inr before ↦ not_less_from us strict.1 w k v is (omega (arith, before.1))
     ]
 
-number-less : (m n : ℕ) → m < n → int_cmp (pos m) (pos n) ≡ Less
+pub number-less : (m n : ℕ) → m < n → int_cmp (pos m) (pos n) ≡ Less
 number-less m n below = ap (λ (b : Bool). cond b Less (cond (ltb n m) Greater Equal)) (lt-ltb m n below)
 
-number-greater : (m n : ℕ) → n < m → int_cmp (pos m) (pos n) ≡ Greater
+pub number-greater : (m n : ℕ) → n < m → int_cmp (pos m) (pos n) ≡ Greater
 number-greater m n above = ap (λ (b : Bool). cond b Less (cond (ltb n m) Greater Equal)) (le-ltb m n (omega arith)) ∙ ap (λ (b : Bool). cond b Greater Equal) (lt-ltb n m above)
 
-number-same : (m : ℕ) → int_cmp (pos m) (pos m) ≡ Equal
+pub number-same : (m : ℕ) → int_cmp (pos m) (pos m) ≡ Equal
 number-same m = ap (λ (b : Bool). cond b Less (cond b Greater Equal)) (le-ltb m m (omega arith))
 
 -- places compare as their words do

@@ -23,11 +23,11 @@ use Rattle.shard_columns.specs.Columns.{Columns}
 use Rattle.shard_columns.specs.Dictionary.{words_of}
 use Rattle.column_query.specs.declared.bounds.Bound.{Bound}
 use Rattle.column_query.specs.declared.prepared.NumberTest.{NumberTest}
-use Rattle.column_query.specs.declared.prepared.NumberTest.TheVariants.{Is, OneOf, Within}
+use Rattle.column_query.specs.declared.prepared.NumberTest.TheVariants.{Is, Within}
 use Rattle.column_query.specs.declared.prepared.Prepared.{Prepared}
 use Rattle.column_query.specs.declared.prepared.Prepared.TheVariants as prepared
 use Rattle.column_query.specs.Numbers.{number_of, numbers_of, within, IsHeld, StandsFor, BoundsAs}
-use Rattle.column_query.specs.Prepared.{is_among, within_all, passes_number, says, reads_below, reads_below_at, StandForAll, BoundAsAll, AddsNumber, HasIds, IsReady, AreReady}
+use Rattle.column_query.specs.Prepared.{is_among, within_all, passes_number, says, reads_below, reads_below_at, StandForAll, TestsFor, BoundAsAll, AddsNumber, HasIds, IsReady, AreReady}
 use Rattle.agg_evaluation.specs.Conditions.{looks_below, looks_below_at}
 use Rattle.column_query.proofs.Lists.{any_mapped, all_mapped, count_mapped}
 use Rattle.column_query.proofs.Members.{In, place_of}
@@ -138,11 +138,11 @@ module _ (shard : Columns) where
   ready-Term q field value found is below stands = subst (λ (x : Query). IsReady shard x (prepared.Values field (Is found))) (sym is)
       (record { fields = sym (ap (looks_below count) is) ∙ below; same = λ n. same-values rows field (Is found) (λ v. key_eq (scalar_key v) (probe_key value)) n stands.same })
 
-  pub ready-Terms : (q : Query) (field : ℕ) (values : List Probe) (numbers : BTreeSet ℤ) → q ≡ query.Terms field values → looks_below count q ≡ true → StandForAll rows field values numbers.keys →
-      IsReady shard q (prepared.Values field (OneOf numbers))
-  ready-Terms q field values numbers is below stand = record {
+  pub ready-Terms : (q : Query) (field : ℕ) (values : List Probe) (test : NumberTest) → q ≡ query.Terms field values → looks_below count q ≡ true → TestsFor rows field values test →
+      IsReady shard q (prepared.Values field test)
+  ready-Terms q field values test is below stand = record {
     fields = sym (ap (looks_below count) is) ∙ below;
-    same = λ n. same-values rows field (OneOf numbers) (λ v. list_any (λ probe. key_eq (scalar_key v) (probe_key probe)) values) n stand.same ∙ sym (by_query.by_terms rows (row_of rows n) q field values is);
+    same = λ n. same-values rows field test (λ v. list_any (λ probe. key_eq (scalar_key v) (probe_key probe)) values) n stand.same ∙ sym (by_query.by_terms rows (row_of rows n) q field values is);
   }
 
   pub ready-Range : (q : Query) (field : ℕ) (tests : List RangeTest) (bounds : Vec Bound Global) → q ≡ query.Range field tests → looks_below count q ≡ true → BoundAsAll rows field tests bounds.items →

@@ -1,26 +1,21 @@
-// The numbers that stand for the values of a field.
-ghost use Rattle.std.specs.Prelude.{◌≡◌, ◌<◌, length, slice_get, Some};
-ghost use Rattle.agg_evaluation.specs.Rows.{values_of, row_of};
-ghost use Rattle.column_query.specs.Numbers.{numbers_of, StandsFor};
+// The numbers that stand for the values that a query asks for.
+ghost use Rattle.std.specs.Prelude.{◌<◌, length, pos, option_map, IfSome};
+ghost use Rattle.shard_columns.specs.Dictionary.{words_of};
+ghost use Rattle.column_query.specs.Numbers.{StandsFor, Holds};
 
 use crate::content::{Content, content_of_field};
 use agg_model::Probe;
-use shard_columns::{Cell, Shard};
+use shard_columns::Shard;
 
-/// The number of the value that a row has of a field at this place.
-pub fn number(shard: &Shard, row: u32, field: u32, place: u32) -> i128
-    requires known { field < length shard.now.kinds }
-    requires in_range { row < length shard.now.rows }
-    requires there { place < length (values_of field (row_of shard.now.rows row)) }
-    ensures { slice_get (numbers_of shard.now.rows field (row_of shard.now.rows row)) place ≡ Some result }
+/// The place of a word that a query asks for, in the dictionary of a field of words; none where no row has it.
+pub fn place_of_probe(shard: &Shard, field: u32, probe: &Probe) -> Option<u32>
+    requires { Holds shard.now.rows field Content.Words }
+    ensures stands { StandsFor shard.now.rows field probe.now (option_map pos result) }
+    ensures known { IfSome result (λ place. place < length (words_of field shard.now.rows)) }
 {
-    match content_of_field(shard, field) {
-        Content::Words => i128::from(shard.ordinal(row, field, place)),
-        Content::Wholes | Content::Flags => match shard.value(row, field, place) {
-            Cell::Whole(number) => i128::from(number),
-            Cell::Flag(flag) => i128::from(flag),
-            Cell::Word(_) => unreachable!(),
-        },
+    match probe {
+        Probe::Word(word) => shard.find_word(field, word.as_str().as_bytes()),
+        Probe::Whole(_) | Probe::Flag(_) => None,
     }
 }
 
@@ -38,12 +33,9 @@ pub fn number_of_probe(shard: &Shard, field: u32, probe: &Probe) -> Option<i128>
             Probe::Flag(flag) => Some(i128::from(*flag)),
             Probe::Whole(_) | Probe::Word(_) => None,
         },
-        Content::Words => match probe {
-            Probe::Word(word) => match shard.find_word(field, word.as_str().as_bytes()) {
-                Some(ordinal) => Some(i128::from(ordinal)),
-                None => None,
-            },
-            Probe::Whole(_) | Probe::Flag(_) => None,
+        Content::Words => match place_of_probe(shard, field, probe) {
+            Some(place) => Some(i128::from(place)),
+            None => None,
         },
     }
 }

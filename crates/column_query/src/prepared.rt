@@ -1,15 +1,15 @@
 //! Queries that are prepared once for a shard, before its rows are looked at: a word is looked up once in the dictionary of
 //! its field, and lists are sorted, so that a row costs its own values times the logarithm of a list.
-ghost use Rattle.std.specs.Prelude.{◌≡◌, ◌<◌, length, filter, true};
+ghost use Rattle.std.specs.Prelude.{◌≡◌, ◌<◌, ℕ, length, filter, true, pos, IfSome, IfNone};
 ghost use Rattle.std.specs.List.{list_any, list_all};
 ghost use Rattle.std.specs.Ordering.{nat_cmp, is_eq};
 ghost use Rattle.std.specs.Cmp.Lexicographic.{slice_cmp};
 ghost use Rattle.agg_evaluation.specs.Rows.{row_of};
-ghost use Rattle.column_query.specs.Numbers.{numbers_of};
-ghost use Rattle.column_query.specs.Prepared.{is_among as is_number_among, within_all as within_all_bounds, passes_number, says, reads_below};
+ghost use Rattle.column_query.specs.Numbers.{numbers_of, flag_number};
+ghost use Rattle.column_query.specs.Prepared.{is_among as is_number_among, is_marked as is_place_marked, within_all as within_all_bounds, passes_number, says, reads_below};
 
 use crate::bounds::{Bound, allows_number};
-use crate::numbers::number;
+use crate::content::{Content, content_of_field};
 use agg_model::{Boxed, List};
 use shard_columns::Shard;
 use std::collections::BTreeSet;
@@ -20,6 +20,8 @@ pub enum NumberTest {
     /// This number; none where no row has the value.
     Is(Option<i128>),
     OneOf(BTreeSet<i128>),
+    /// A place of the field's dictionary that is marked.
+    Marked(Vec<bool>),
     /// All of these bounds allow it.
     Within(Vec<Bound>),
 }
@@ -57,6 +59,27 @@ fn is_among(numbers: &BTreeSet<i128>, number: i128) -> bool
     numbers.contains(&number)
 }
 
+// The place with this number, of so many.
+fn place_below(number: i128, places: usize) -> Option<usize>
+    ensures within { IfSome result (λ n. n < places) }
+    ensures number { IfSome result (λ n. number ≡ pos n) }
+    ensures outside { IfNone result ((n : ℕ) → n < places → number ≡ pos n → ⊥) }
+{
+    match usize::try_from(number) {
+        Ok(place) if place < places => Some(place),
+        _ => None,
+    }
+}
+
+fn is_marked(marks: &[bool], number: i128) -> bool
+    ensures { result ≡ is_place_marked marks.now number }
+{
+    match place_below(number, marks.len()) {
+        Some(place) => marks[place],
+        None => false,
+    }
+}
+
 fn within_all(bounds: &[Bound], number: i128) -> bool
     ensures { result ≡ within_all_bounds bounds.now number }
 {
@@ -69,21 +92,44 @@ fn passes(test: &NumberTest, number: i128) -> bool
     match test {
         NumberTest::Is(wanted) => *wanted == Some(number),
         NumberTest::OneOf(numbers) => is_among(numbers, number),
+        NumberTest::Marked(marks) => is_marked(marks.as_slice(), number),
         NumberTest::Within(bounds) => within_all(bounds.as_slice(), number),
     }
 }
 
+fn has_whole(numbers: &[i64], test: &NumberTest) -> bool
+    ensures { result ≡ list_any (passes_number test.now) numbers.now }
+{
+    numbers
+        .iter()
+        .any(|number| passes(test, i128::from(*number)))
+}
+
+fn has_ordinal(ordinals: &[u32], test: &NumberTest) -> bool
+    ensures { result ≡ list_any (λ o. passes_number test.now (pos o)) ordinals.now }
+{
+    ordinals
+        .iter()
+        .any(|ordinal| passes(test, i128::from(*ordinal)))
+}
+
+fn has_flag(flags: &[bool], test: &NumberTest) -> bool
+    ensures { result ≡ list_any (λ b. passes_number test.now (flag_number b)) flags.now }
+{
+    flags.iter().any(|flag| passes(test, i128::from(*flag)))
+}
+
+// The values of the row are looked up once, and lent.
 fn has_number(shard: &Shard, row: u32, field: u32, test: &NumberTest) -> bool
     requires known { field < length shard.now.kinds }
     requires in_range { row < length shard.now.rows }
     ensures { result ≡ list_any (passes_number test.now) (numbers_of shard.now.rows field (row_of shard.now.rows row)) }
 {
-    for place in 0..shard.value_count(row, field) {
-        if passes(test, number(shard, row, field, place)) {
-            return true;
-        }
+    match content_of_field(shard, field) {
+        Content::Wholes => has_whole(shard.numbers(row, field), test),
+        Content::Words => has_ordinal(shard.ordinals(row, field), test),
+        Content::Flags => has_flag(shard.flags(row, field), test),
     }
-    false
 }
 
 fn has_id(ids: &BTreeSet<Vec<u8>>, id: &[u8]) -> bool
@@ -162,8 +208,8 @@ pub fn is_match(shard: &Shard, query: &Prepared, row: u32) -> bool
             *minimum as usize <= count_matching(shard, should, row)
         }
         Prepared::Nested { path, query } => {
-            for place in 0..shard.child_count(row, *path) {
-                if is_match(shard, query.get(), shard.child(row, *path, place)) {
+            for child in shard.children(row, *path) {
+                if is_match(shard, query.get(), *child) {
                     return true;
                 }
             }

@@ -1,12 +1,14 @@
 //! Preparing a query for a shard.
-ghost use Rattle.std.specs.Prelude.{◌≡◌, ◌<◌, length, true, IfOk, OnOk};
+ghost use Rattle.std.specs.Prelude.{◌≡◌, ◌<◌, length, true, IfOk, IfSome, OnOk};
 ghost use Rattle.std.specs.List.{list_all};
 ghost use Rattle.column_query.specs.Made.{IsMade};
-ghost use Rattle.column_query.specs.Prepared.{AddsNumber, StandForAll, BoundAsAll, HasIds, IsReady, AreReady};
+ghost use Rattle.column_query.specs.Numbers.{Holds};
+ghost use Rattle.column_query.specs.Prepared.{AddsNumber, AddsMark, StandForAll, MarkAll, TestsFor, BoundAsAll, HasIds, IsReady, AreReady};
 ghost use Rattle.agg_evaluation.specs.Conditions.{looks_below};
 
 use crate::bounds::{Bound, bound_of};
-use crate::numbers::number_of_probe;
+use crate::content::{Content, content_of_field};
+use crate::numbers::{number_of_probe, place_of_probe};
 use crate::prepared::{NumberTest, Prepared};
 use agg_model::{Boxed, List, Probe, Query, RangeTest, Text};
 use shard_columns::Shard;
@@ -36,6 +38,53 @@ fn numbers_of(
         put(&mut numbers, number_of_probe(shard, field, probe))?;
     }
     Ok(numbers)
+}
+
+fn mark(marks: &mut Vec<bool>, place: Option<u32>)
+    requires { IfSome place (λ n. n < length marks.old.items) }
+    ensures size { length marks.new.items ≡ length marks.old.items }
+    ensures adds { AddsMark marks.old.items place marks.new.items }
+{
+    if let Some(place) = place {
+        marks[place as usize] = true;
+    }
+}
+
+// A mark for each word of the field, set at those that are asked for.
+fn marks_of(
+    alloc: Global,
+    shard: &Shard,
+    field: u32,
+    probes: &[Probe],
+) -> Result<Vec<bool>, AllocError>
+    requires { Holds shard.now.rows field Content.Words }
+    ensures { IfOk result (λ marks. MarkAll shard.now.rows field probes.now marks.items) }
+{
+    let mut marks = vec![in alloc; false; shard.words(field) as usize]?;
+    for probe in probes {
+        mark(&mut marks, place_of_probe(shard, field, probe));
+    }
+    Ok(marks)
+}
+
+// For each value of a list so many words may be marked: a shorter list is a set, so that memory stays in proportion to the query.
+const WORDS_FOR_EACH: usize = 128;
+
+fn list_test(
+    alloc: Global,
+    shard: &Shard,
+    field: u32,
+    probes: &[Probe],
+) -> Result<NumberTest, AllocError>
+    requires { field < length shard.now.kinds }
+    ensures { IfOk result (λ test. TestsFor shard.now.rows field probes.now test) }
+{
+    match content_of_field(shard, field) {
+        Content::Words if shard.words(field) as usize / WORDS_FOR_EACH < probes.len() => {
+            Ok(NumberTest::Marked(marks_of(alloc, shard, field, probes)?))
+        }
+        _ => Ok(NumberTest::OneOf(numbers_of(alloc, shard, field, probes)?)),
+    }
 }
 
 fn bounds_of(
@@ -98,7 +147,7 @@ pub(crate) fn prepare_query(
         }),
         Query::Terms { field, values } => Ok(Prepared::Values {
             field: *field,
-            test: NumberTest::OneOf(numbers_of(alloc, shard, *field, values.as_slice())?),
+            test: list_test(alloc, shard, *field, values.as_slice())?,
         }),
         Query::Range { field, tests } => Ok(Prepared::Values {
             field: *field,

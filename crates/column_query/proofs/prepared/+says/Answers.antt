@@ -1,10 +1,11 @@
-use Rattle.std.proofs.Common.{◌+◌, length, sym, ◌∙◌, ap, arith}
-use Rattle.std.specs.List.{list_all}
-use Rattle.agg_evaluation.specs.Rows.{beneath, row_of}
+use Rattle.std.proofs.Common.{ℕ, Bool, length, get_or, sym, ◌∙◌, ap, arith}
+use Rattle.std.specs.List.{list_all, list_any}
+use Rattle.std.proofs.lemmas.Option.{slice_get-get_or}
+use Rattle.agg_evaluation.specs.Rows.{row_of}
 use denote.Param.Weighed.{most}
 use Rattle.column_query.specs.declared.prepared.Prepared.{Prepared, size-Prepared}
 use Rattle.column_query.specs.Prepared.{says, reads_below}
-use Rattle.column_query.proofs.Lists.{none_more, none_at_all, one_is_enough, count_at_most}
+use Rattle.column_query.proofs.Lists.{any_mapped, none_more, none_at_all, one_is_enough, count_at_most}
 use Rattle.column_query.proofs.PreparedCases.{without_must, with_must_not, by_should, by_beneath, by_value, parts-read, inner-reads, all_at}
 use Rattle.column_query.proofs.Sizes.{parts-less, inner-less, item-most}
 use Rattle.column_query.proofs.prepared.+says.Goals as goal
@@ -33,7 +34,10 @@ pub is_match-is_match-requires : goal.is_match-is_match-requires
 is_match-is_match-requires t c =
     let deeper = inner-less c.args.query.now c.in-Nested.path c.in-Nested.query c.in-Nested.is in (
       omega (arith, c.decreases, deeper, ap size-Prepared c.get.ensures),
-      (rw c.get.ensures (inner-reads (length c.args.shard.now.kinds) c.args.query.now c.in-Nested.path c.in-Nested.query c.in-Nested.is c.requires.fields), c.child.ensures.number),
+      (
+        rw c.get.ensures (inner-reads (length c.args.shard.now.kinds) c.args.query.now c.in-Nested.path c.in-Nested.query c.in-Nested.is c.requires.fields),
+        c.children-child-items.ensures.numbers c.loop-child.child-index c.loop-child-test.true,
+      ),
     )
 
 pub all_match-is_match-requires : goal.all_match-is_match-requires
@@ -60,21 +64,29 @@ count_matching-is_match-requires t c =
 pub is_match-returns-then-is_match : goal.is_match-returns-then-is_match
 is_match-returns-then-is_match t c =
     let rows = c.args.shard.now.rows in
+    let children = c.children-child-items.result.now in
+    let says_of : ℕ → Bool = λ n. says rows c.in-Nested.query (row_of rows n) in
     sym (by_beneath rows (row_of rows c.args.row) c.args.query.now c.in-Nested.path c.in-Nested.query c.in-Nested.is
-    ∙ one_is_enough (says rows c.in-Nested.query) (beneath rows (c.in-Nested.path + 1) (row_of rows c.args.row)) c.loop-place.place (row_of rows c.child.result) c.child.ensures.row
-    (ap (λ (q : Prepared). says rows q (row_of rows c.child.result)) (sym c.get.ensures) ∙ (sym c.is_match.ensures ∙ c.if-is_match.true)))
+    ∙ (ap (list_any (says rows c.in-Nested.query)) (sym c.children-child-items.ensures.rows) ∙ (any_mapped (says rows c.in-Nested.query) (row_of rows) children
+    ∙ one_is_enough says_of children c.loop-child.child-index (get_or children c.loop-child.child-index 0) (slice_get-get_or children c.loop-child.child-index 0 c.loop-child-test.true)
+    (ap (λ (q : Prepared). says rows q (row_of rows (get_or children c.loop-child.child-index 0))) (sym c.get.ensures) ∙ (sym c.is_match.ensures ∙ c.if-is_match.true)))))
 
-pub is_match-loop-place-preserved : goal.is_match-loop-place-preserved
-is_match-loop-place-preserved t c =
+pub is_match-loop-child-preserved : goal.is_match-loop-child-preserved
+is_match-loop-child-preserved t c =
     let rows = c.args.shard.now.rows in
-    none_more (says rows c.in-Nested.query) (beneath rows (c.in-Nested.path + 1) (row_of rows c.args.row)) c.loop-place.place (row_of rows c.child.result) c.child.ensures.row c.loop-place.invariant
-    (ap (λ (q : Prepared). says rows q (row_of rows c.child.result)) (sym c.get.ensures) ∙ (sym c.is_match.ensures ∙ c.if-is_match.false))
+    let children = c.children-child-items.result.now in
+    let says_of : ℕ → Bool = λ n. says rows c.in-Nested.query (row_of rows n) in
+    none_more says_of children c.loop-child.child-index (get_or children c.loop-child.child-index 0) (slice_get-get_or children c.loop-child.child-index 0 c.loop-child-test.true) c.loop-child.invariant
+    (ap (λ (q : Prepared). says rows q (row_of rows (get_or children c.loop-child.child-index 0))) (sym c.get.ensures) ∙ (sym c.is_match.ensures ∙ c.if-is_match.false))
 
-pub is_match-returns-after-loop-place : goal.is_match-returns-after-loop-place
-is_match-returns-after-loop-place t c =
+pub is_match-returns-after-loop-child : goal.is_match-returns-after-loop-child
+is_match-returns-after-loop-child t c =
     let rows = c.args.shard.now.rows in
+    let children = c.children-child-items.result.now in
+    let says_of : ℕ → Bool = λ n. says rows c.in-Nested.query (row_of rows n) in
     sym (by_beneath rows (row_of rows c.args.row) c.args.query.now c.in-Nested.path c.in-Nested.query c.in-Nested.is
-    ∙ none_at_all (says rows c.in-Nested.query) (beneath rows (c.in-Nested.path + 1) (row_of rows c.args.row)) c.loop-place.place (omega (arith, c.child_count-place-end.ensures, c.loop-place-test.false)) c.loop-place.invariant)
+    ∙ (ap (list_any (says rows c.in-Nested.query)) (sym c.children-child-items.ensures.rows) ∙ (any_mapped (says rows c.in-Nested.query) (row_of rows) children
+    ∙ none_at_all says_of children c.loop-child.child-index c.loop-child-test.false c.loop-child.invariant)))
 
 pub is_match-returns-in-Exists : goal.is_match-returns-in-Exists
 is_match-returns-in-Exists t c =

@@ -1,6 +1,6 @@
 use Rattle.std.proofs.Common.{◌≡◌, ◌+◌, ◌*◌, true, false, length, filter, take}
 use Rattle.std.specs.List.{list_any, list_all}
-use Rattle.agg_evaluation.specs.Rows.{beneath, row_of}
+use Rattle.agg_evaluation.specs.Rows.{row_of}
 use Rattle.column_query.specs.Prepared.{says}
 use denote.Param.Weighed.{most}
 use Rattle.column_query.specs.declared.prepared.Prepared.{size-Prepared}
@@ -9,8 +9,8 @@ use Rattle.column_query.proofs.prepared.+says.Given as goal
 abbrev pub invariant-count_matching-loop-query : goal.invariant-count_matching-loop-query
 invariant-count_matching-loop-query l = l.count ≡ length (filter (λ query. says l.shard.rows query (row_of l.shard.rows l.row)) (take l.query-index l.query-items))
 
-abbrev pub invariant-is_match-loop-place : goal.invariant-is_match-loop-place
-invariant-is_match-loop-place l = list_any (says l.shard.rows l.query) (take l.place (beneath l.shard.rows (l.path + 1) (row_of l.shard.rows l.row))) ≡ false
+abbrev pub invariant-is_match-loop-child : goal.invariant-is_match-loop-child
+invariant-is_match-loop-child l = list_any (λ n. says l.shard.rows l.query (row_of l.shard.rows n)) (take l.child-index l.child-items) ≡ false
 
 abbrev pub invariant-all_match-loop-query : goal.invariant-all_match-loop-query
 invariant-all_match-loop-query l = list_all (λ query. says l.shard.rows query (row_of l.shard.rows l.row)) (take l.query-index l.query-items) ≡ true

@@ -1,18 +1,40 @@
-use Rattle.std.proofs.Common.{sym, ◌∙◌, ap, rules}
-use mir.Syntax.{w128}
-use Rattle.std.proofs.lemmas.Int.{to_z-of_z}
-use Rattle.agg_evaluation.specs.Rows.{row_of}
-use Rattle.column_query.specs.Numbers.{numbers_of}
+use Rattle.std.proofs.Common.{map, pos, sym, ◌∙◌, ap}
+use Rattle.std.specs.List.{list_any}
+use Rattle.agg_evaluation.specs.Rows.{values_of, row_of}
+use Rattle.shard_columns.specs.Dictionary.{words_of}
+use Rattle.shard_columns.proofs.Dictionaries.{words_of-strict}
+use Rattle.column_query.specs.declared.content.Content.{Content}
+use Rattle.column_query.specs.declared.content.Content.TheVariants as content
+use Rattle.column_query.specs.Numbers.{flag_number, is_content}
 use Rattle.column_query.specs.Prepared.{passes_number}
-use Rattle.column_query.proofs.Lists.{none_more, one_is_enough}
+use Rattle.column_query.proofs.Lists.{any_mapped}
+use Rattle.column_query.proofs.Lending.{AreAll, place_number, whole-numbers, flag-numbers, word-numbers, ordinal-numbers}
 use Rattle.column_query.proofs.prepared.has_number.Goals as goal
 
-pub returns-then-passes : goal.returns-then-passes
-returns-then-passes c =
-    sym (one_is_enough (passes_number c.args.test.now) (numbers_of c.args.shard.now.rows c.args.field (row_of c.args.shard.now.rows c.args.row)) c.loop-place.place c.number.result c.number.ensures
-    (ap (passes_number c.args.test.now) (sym (to_z-of_z w128 c.number.result (search rules))) ∙ (sym c.passes.ensures ∙ c.if-passes.true)))
+pub returns-in-Wholes : goal.returns-in-Wholes
+returns-in-Wholes c =
+    let rows = c.args.shard.now.rows in
+    let words = words_of c.args.field rows in
+    let values = values_of c.args.field (row_of rows c.args.row) in
+    let all : AreAll content.Wholes values = λ v there. ap (λ (x : Content). is_content x v) (sym c.in-Wholes.is) ∙ c.content_of_field.ensures.holds.only v (c.args.row, there) in
+    c.has_whole.ensures ∙ ap (list_any (passes_number c.args.test.now)) (c.numbers.ensures.exact ∙ whole-numbers words values all)
 
-pub loop-place-preserved : goal.loop-place-preserved
-loop-place-preserved c =
-    none_more (passes_number c.args.test.now) (numbers_of c.args.shard.now.rows c.args.field (row_of c.args.shard.now.rows c.args.row)) c.loop-place.place c.number.result c.number.ensures c.loop-place.invariant
-    (ap (passes_number c.args.test.now) (sym (to_z-of_z w128 c.number.result (search rules))) ∙ (sym c.passes.ensures ∙ c.if-passes.false))
+pub returns-in-Words : goal.returns-in-Words
+returns-in-Words c =
+    let rows = c.args.shard.now.rows in
+    let words = words_of c.args.field rows in
+    let values = values_of c.args.field (row_of rows c.args.row) in
+    let ordinals = c.ordinals.result.now in
+    let all : AreAll content.Words values = λ v there. ap (λ (x : Content). is_content x v) (sym c.in-Words.is) ∙ c.content_of_field.ensures.holds.only v (c.args.row, there) in
+    c.has_ordinal.ensures ∙ (sym (any_mapped (passes_number c.args.test.now) pos ordinals)
+    ∙ ap (list_any (passes_number c.args.test.now)) (ordinal-numbers words (words_of-strict c.args.field rows) ordinals c.ordinals.ensures.known
+    ∙ (ap (map (place_number words)) c.ordinals.ensures.exact ∙ word-numbers words values all)))
+
+pub returns-in-Flags : goal.returns-in-Flags
+returns-in-Flags c =
+    let rows = c.args.shard.now.rows in
+    let words = words_of c.args.field rows in
+    let values = values_of c.args.field (row_of rows c.args.row) in
+    let all : AreAll content.Flags values = λ v there. ap (λ (x : Content). is_content x v) (sym c.in-Flags.is) ∙ c.content_of_field.ensures.holds.only v (c.args.row, there) in
+    c.has_flag.ensures ∙ (sym (any_mapped (passes_number c.args.test.now) flag_number c.flags.result.now)
+    ∙ ap (list_any (passes_number c.args.test.now)) (ap (map flag_number) c.flags.ensures.exact ∙ flag-numbers words values all))

@@ -2,7 +2,7 @@ use Rattle.std.proofs.Common.{length, sym, ap, arith, subst, List}
 use Rattle.agg_model.specs.declared.query.Probe.{Probe}
 use Rattle.agg_model.specs.declared.query.RangeTest.{RangeTest}
 use Rattle.agg_model.specs.declared.query.Query.{Query, size-Query}
-use Rattle.column_query.specs.Prepared.{StandForAll, BoundAsAll, HasIds, IsReady}
+use Rattle.column_query.specs.Prepared.{TestsFor, BoundAsAll, HasIds, IsReady}
 use Rattle.column_query.specs.declared.prepared.Prepared.{Prepared}
 use Rattle.column_query.specs.declared.prepared.Prepared.TheVariants as prepared
 use Rattle.column_query.proofs.Ready.{ready-Term, ready-Terms, ready-Range, ready-Ids, ready-Bool, ready-Nested, parts-look, inner-looks}
@@ -32,10 +32,10 @@ prepare_query-prepare_query-requires t c =
 pub prepare_query-returns-in-Term : goal.prepare_query-returns-in-Term
 prepare_query-returns-in-Term t c = ready-Term c.args.shard.now c.args.query.now c.in-Term.field c.in-Term.value c.number_of_probe.result c.in-Term.is c.requires c.number_of_probe.ensures
 
-pub prepare_query-returns-in_ok-numbers_of-in-Terms : goal.prepare_query-returns-in_ok-numbers_of-in-Terms
-prepare_query-returns-in_ok-numbers_of-in-Terms t c =
-    ready-Terms c.args.shard.now c.args.query.now c.in-Terms.field c.in-Terms.values c.in_ok-numbers_of-in-Terms.field-0 c.in-Terms.is c.requires
-    (subst (λ (ps : List Probe). StandForAll c.args.shard.now.rows c.in-Terms.field ps c.in_ok-numbers_of-in-Terms.field-0.keys) c.as_slice.ensures c.in_ok-numbers_of-in-Terms.ensures)
+pub prepare_query-returns-in_ok-list_test-in-Terms : goal.prepare_query-returns-in_ok-list_test-in-Terms
+prepare_query-returns-in_ok-list_test-in-Terms t c =
+    ready-Terms c.args.shard.now c.args.query.now c.in-Terms.field c.in-Terms.values c.in_ok-list_test-in-Terms.field-0 c.in-Terms.is c.requires
+    (subst (λ (ps : List Probe). TestsFor c.args.shard.now.rows c.in-Terms.field ps c.in_ok-list_test-in-Terms.field-0) c.as_slice.ensures c.in_ok-list_test-in-Terms.ensures)
 
 pub prepare_query-returns-in_ok-bounds_of-in-Range : goal.prepare_query-returns-in_ok-bounds_of-in-Range
 prepare_query-returns-in_ok-bounds_of-in-Range t c =
