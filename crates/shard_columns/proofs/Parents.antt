@@ -91,7 +91,7 @@ module _ (s : Inside) (v : Columns) (view : columns_of s ≡ v) (sound : IsSound
       let firsts : map (λ (p : Entry × List FieldValues). p.0) pairs ≡ s.rows.items = zip-first (λ (e : Entry). e) s.rows.items values (aligned s) ∙ map-itself s.rows.items in
       let n_pairs : n < length pairs = omega (arith, in-range s v view sound n below, ap length firsts, length-map pairs (λ (p : Entry × List FieldValues). p.0)) in
       let entry_is : (get_or pairs n d).0 ≡ e = sym (get_or-map (λ (p : Entry × List FieldValues). p.0) pairs n d e n_pairs) ∙ (ap (λ (es : List Entry). get_or es n e) firsts ∙ sym is) in
-      let at = placed-at s.ids.items [] pairs n d n_pairs in
+      let at = placed-at s.ids [] pairs n d n_pairs in
       let start : length {A = PlacedRow} [] + n ≡ n = omega arith in
       ap (λ (rs : List PlacedRow). (row_of rs n).place) (sym (rows-are s v view sound))
       ∙ (ap (λ (k : ℕ). (get_or (placed_rows s) k no_row).place) (sym start)

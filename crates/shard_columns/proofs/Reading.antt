@@ -81,13 +81,13 @@ module _ (s : Inside) (v : Columns) (view : columns_of s ≡ v) (sound : IsSound
   rows-are = ap (λ (c : Columns). c.rows) view
 
   pub len-is : length s.rows.items ≡ length v.rows
-  len-is = sym (size-is s.ids.items s.rows.items (vals s) (aligned s)) ∙ ap length rows-are
+  len-is = sym (size-is s.ids s.rows.items (vals s) (aligned s)) ∙ ap length rows-are
 
   pub in-range : (n : ℕ) → n < length v.rows → n < length s.rows.items
   in-range n below = subst (λ (k : ℕ). n < k) (sym len-is) below
 
   pub context-is : (n : ℕ) (e : Entry) → n < length v.rows → e ≡ get_or s.rows.items n e → (row_of v.rows n).context ≡ context_of e.origin
-  context-is n e below is = ap (λ (rs : List PlacedRow). (row_of rs n).context) (sym rows-are) ∙ context-at s.ids.items s.rows.items (vals s) n e (aligned s) (in-range n below) is
+  context-is n e below is = ap (λ (rs : List PlacedRow). (row_of rs n).context) (sym rows-are) ∙ context-at s.ids s.rows.items (vals s) n e (aligned s) (in-range n below) is
 
   pub rows-few : length v.rows < 2 ^ 32
   rows-few = omega (arith, rows-light v.rows, ap rows_weight rows-are, sound.light)
@@ -95,11 +95,11 @@ module _ (s : Inside) (v : Columns) (view : columns_of s ≡ v) (sound : IsSound
   pub context-small : (n : ℕ) → (row_of v.rows n).context ≤ 1000
   context-small n = omega (arith, ap (λ (rs : List PlacedRow). (row_of rs n).context) rows-are, sound.contexts n, sound.few_paths)
 
-  pub id-is : (n : ℕ) (e : Entry) → n < length v.rows → e ≡ get_or s.rows.items n e → (row_of v.rows n).id ≡ get_or s.ids.items e.document []
-  id-is n e below is = ap (λ (rs : List PlacedRow). (row_of rs n).id) (sym rows-are) ∙ id-at s.ids.items s.rows.items (vals s) n e (aligned s) (in-range n below) is
+  pub id-is : (n : ℕ) (e : Entry) → n < length v.rows → e ≡ get_or s.rows.items n e → (row_of v.rows n).id ≡ get_or s.ids e.document []
+  id-is n e below is = ap (λ (rs : List PlacedRow). (row_of rs n).id) (sym rows-are) ∙ id-at s.ids s.rows.items (vals s) n e (aligned s) (in-range n below) is
 
   same-contexts : map (λ r. r.context) v.rows ≡ map (λ e. context_of e.origin) s.rows.items
-  same-contexts = ap (map (λ (r : PlacedRow). r.context)) (sym rows-are) ∙ contexts-are s.ids.items s.rows.items (vals s) (aligned s)
+  same-contexts = ap (map (λ (r : PlacedRow). r.context)) (sym rows-are) ∙ contexts-are s.ids s.rows.items (vals s) (aligned s)
 
   pub enclosed-are : AreEnclosed v.rows s.ends.items
   enclosed-are = subst (λ (rs : List PlacedRow). AreEnclosed rs s.ends.items) rows-are sound.enclosed
@@ -163,7 +163,7 @@ module _ (s : Inside) (v : Columns) (view : columns_of s ≡ v) (sound : IsSound
       let low = in-range n below in
       ap (λ (rs : List PlacedRow). (row_of rs n).values) (sym rows-are)
       ∙ (sym (get_or-map (λ (r : PlacedRow). r.values) (placed_rows s) n no_row [] below')
-      ∙ (ap (λ (vs : List (List FieldValues)). get_or vs n []) (values-are s.ids.items s.rows.items (vals s) (aligned s))
+      ∙ (ap (λ (vs : List (List FieldValues)). get_or vs n []) (values-are s.ids s.rows.items (vals s) (aligned s))
       ∙ (get_or-map fields (range_with_len 0 count) n 0 [] (omega (arith, low, size)) ∙ ap fields (range-at 0 count n low ∙ (let e : 0 + n ≡ n = omega arith in e)))))
 
   pub values-held : (n field : ℕ) → n < length v.rows → values_of field (row_of v.rows n) ≡ held_values (by_words s.words.items) s.columns.items field n

@@ -1,4 +1,5 @@
 pub mod Layout
+pub mod Ids
 pub mod Ends
 pub mod Values
 pub mod Lent

@@ -18,7 +18,7 @@ use Rattle.agg_model.specs.declared.mapping.FieldKind.{FieldKind}
 use Rattle.agg_evaluation.specs.RowsWeight.{rows_weight}
 
 abbrev pub placed_rows : Inside → List PlacedRow
-placed_rows s = placed s.ids.items [] (zip s.rows.items (row_values (by_words s.words.items) s.columns.items (length s.rows.items)))
+placed_rows s = placed s.ids [] (zip s.rows.items (row_values (by_words s.words.items) s.columns.items (length s.rows.items)))
 
 abbrev pub columns_of : Inside → Columns
 columns_of s = record { kinds = s.kinds.items; contexts = s.contexts.items; parents = s.parents.items; rows = placed_rows s }

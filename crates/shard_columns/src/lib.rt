@@ -4,6 +4,7 @@
 
 mod columns;
 mod contexts;
+mod ids;
 mod index;
 mod layout;
 mod search;

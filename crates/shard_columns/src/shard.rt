@@ -19,11 +19,12 @@ ghost use Rattle.shard_columns.specs.Cell.{scalar_of};
 
 use crate::columns::{Column, column_at, columns, flags_at, ordinals_at, span_at, wholes_at};
 use crate::contexts::{context, numbers_by_context, numbers_of};
+use crate::ids::Ids;
 use crate::layout::{Entry, Laid, Layout, Origin, lay};
 use crate::search::{find_word, numbers_between};
 use crate::values::{Drafts, Typed};
 use crate::words::{WordNumbers, all_bytes, dictionaries, longest_of};
-use agg_model::{Copying, Document, Field, FieldKind, List, Mapping, NestedPath, Text};
+use agg_model::{Document, Field, FieldKind, List, Mapping, NestedPath, Text};
 use std::alloc::{AllocError, Global};
 use std::marker::Model;
 
@@ -35,7 +36,7 @@ pub struct Shard {
     kinds: Vec<FieldKind>,
     contexts: Vec<u32>,
     parents: Vec<u32>,
-    ids: Vec<Text>,
+    ids: Ids,
     rows: Vec<Entry>,
     ends: Vec<u32>,
     numbers: Vec<List<u32>>,
@@ -106,16 +107,6 @@ fn store(alloc: Global, kinds: &[FieldKind], rows: &[Laid]) -> Result<Stored, Al
         columns,
         count,
     })
-}
-
-fn copied_ids(alloc: Global, documents: &List<Document>) -> Result<Vec<Text>, AllocError>
-    ensures { IfOk result (λ ids. ids.items ≡ ids_of documents.now) }
-{
-    let mut ids = Vec::new(alloc);
-    for document in documents.as_slice() {
-        ids.push(document.id.copy(alloc)?)?;
-    }
-    Ok(ids)
 }
 
 fn entries(alloc: Global, rows: &[Laid]) -> Result<Vec<Entry>, AllocError>
@@ -209,7 +200,7 @@ impl Shard {
         } = stored;
         let contexts = contexts(alloc, fields)?;
         let parents = parents(alloc, nested)?;
-        let ids = copied_ids(alloc, documents)?;
+        let ids = Ids::of(alloc, documents)?;
         Ok(Shard {
             kinds,
             contexts,
@@ -313,10 +304,7 @@ impl Shard {
         requires { row < length self.now.rows }
         ensures { result.now ≡ (row_of self.now.rows row).id }
     {
-        text_at(
-            self.ids.as_slice(),
-            self.rows[row as usize].document as usize,
-        )
+        self.ids.get(self.rows[row as usize].document as usize)
     }
 
     /// The number of values that a row has of a field, 0 where it has none.

@@ -65,7 +65,7 @@ invariant_of-result c =
     let values = row_values (by_words words) columns (length entries) in
     let entries_size : length entries ≡ length c.as_slice-laid.result.now = ap length entries_are ∙ (length-map c.in_ok-layout.layout.rows.items (λ (l : Laid). l.entry) ∙ sym (ap length c.as_slice-laid.ensures.value)) in
     let values_are : values ≡ values_of_laid c.in_ok-layout.layout.rows.items = ap (row_values (by_words words) columns) entries_size ∙ (c.in_ok-stored.ensures.rows ∙ ap values_of_laid c.as_slice-laid.ensures.value) in
-    let rows_are : placed c.in_ok-ids.ids.items [] (zip entries values) ≡ rows_of_documents c.args.documents.now =
+    let rows_are : placed c.in_ok-ids.ids [] (zip entries values) ≡ rows_of_documents c.args.documents.now =
     ap (λ (ids : List (List ℕ)). placed ids [] (zip entries values)) c.in_ok-ids.ensures
     ∙ (rows-stored (ids_of c.args.documents.now) c.in_ok-layout.layout.rows.items entries values entries_are values_are ∙ c.in_ok-layout.ensures.rows) in
     let documents = c.args.documents.now in
@@ -90,7 +90,7 @@ invariant_of-result c =
     let enclosed : AreEnclosed all c.in_ok-layout.layout.ends.items =
     subst (AreEnclosed all) (sym c.in_ok-layout.ensures.ends) (AreEnclosed-laid [] (λ q. 0 ≤ q) all (each (map root_ends documents) 0) rows_laid) in
     let contexts_are : c.in_ok-contexts.contexts.items ≡ map (λ f. f.context) c.args.mapping.now.fields = c.in_ok-contexts.ensures ∙ ap (map (λ (f : Field). f.context)) fields_are in
-    let columns_are : record { kinds = c.in_ok-kinds.kinds.items; contexts = c.in_ok-contexts.contexts.items; parents = c.in_ok-parents.parents.items; rows = placed c.in_ok-ids.ids.items [] (zip entries values) } ≡ columns_from c.args.mapping.now documents =
+    let columns_are : record { kinds = c.in_ok-kinds.kinds.items; contexts = c.in_ok-contexts.contexts.items; parents = c.in_ok-parents.parents.items; rows = placed c.in_ok-ids.ids [] (zip entries values) } ≡ columns_from c.args.mapping.now documents =
     λ i. record { kinds = kinds_are i; contexts = contexts_are i; parents = parents_are i; rows = rows_are i } in
     let kinds_hold : KindsHold c.in_ok-kinds.kinds.items all = subst (λ (ks : List FieldKind). KindsHold ks all) (sym kinds_are) given.kinds in
     record {
@@ -122,7 +122,7 @@ returns c =
     let values = row_values (by_words words) columns (length entries) in
     let entries_size : length entries ≡ length c.as_slice-laid.result.now = ap length entries_are ∙ (length-map c.in_ok-layout.layout.rows.items (λ (l : Laid). l.entry) ∙ sym (ap length c.as_slice-laid.ensures.value)) in
     let values_are : values ≡ values_of_laid c.in_ok-layout.layout.rows.items = ap (row_values (by_words words) columns) entries_size ∙ (c.in_ok-stored.ensures.rows ∙ ap values_of_laid c.as_slice-laid.ensures.value) in
-    let rows_are : placed c.in_ok-ids.ids.items [] (zip entries values) ≡ rows_of_documents c.args.documents.now =
+    let rows_are : placed c.in_ok-ids.ids [] (zip entries values) ≡ rows_of_documents c.args.documents.now =
     ap (λ (ids : List (List ℕ)). placed ids [] (zip entries values)) c.in_ok-ids.ensures
     ∙ (rows-stored (ids_of c.args.documents.now) c.in_ok-layout.layout.rows.items entries values entries_are values_are ∙ c.in_ok-layout.ensures.rows) in
     let kinds_are = c.in_ok-kinds.ensures ∙ ap (map (λ (f : _). f.kind)) c.as_slice-fields.ensures in
