@@ -8,3 +8,4 @@ pub mod Steps
 pub mod PlaceOrder
 pub mod PageSteps
 pub mod Offers
+pub mod Swapped

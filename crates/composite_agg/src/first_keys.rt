@@ -1,5 +1,5 @@
 //! The page of a composite while keys come.
-ghost use Rattle.std.specs.Prelude.{◌≡◌, ◌<◌, ◌-◌, ◌^◌, IfOk, OnOk, OnErr, IsTrue, length};
+ghost use Rattle.std.specs.Prelude.{◌≡◌, ◌<◌, ◌-◌, ◌^◌, IfOk, OnOk, OnErr, IsTrue, false, length};
 ghost use Rattle.std.specs.List.{AllByRecursion};
 ghost use Rattle.agg_model.specs.declared.partial.Node.TheVariants.{Keyed};
 ghost use Rattle.agg_evaluation.specs.CompositeKeys.{is_composite_of};
@@ -7,6 +7,7 @@ ghost use Rattle.agg_evaluation.specs.Shard.{sorted_by_key};
 
 use crate::offered::Offered;
 use crate::offering::offer_to;
+use crate::swapping::swap_in;
 use agg_model::{Bucket, CompositeSource, Copying, Key, Kind, List, Node};
 use bucket_order::sort_by_key;
 use std::alloc::{AllocError, Global};
@@ -36,7 +37,7 @@ impl Model for FirstKeys {
 }
 
 impl FirstKeys {
-    ghost use Rattle.composite_agg.specs.FirstPages.{answer_of, empty_page, is_composite, page_with};
+    ghost use Rattle.composite_agg.specs.FirstPages.{answer_of, children_of, empty_page, is_composite, is_held, page_with, page_with_children};
 
     /// The empty page of a composite.
     pub fn new(alloc: Global, kind: &Kind) -> Result<FirstKeys, AllocError>
@@ -78,6 +79,17 @@ impl FirstKeys {
             key,
             children,
         )
+    }
+
+    /// Exchanges the children of the bucket of a key with the list that is lent, and answers whether the key is there. Where it
+    /// is not, nothing changes. It takes the logarithm of the page, and no memory.
+    pub fn swap_children(&mut self, key: &Key, children: &mut List<Node>) -> bool
+        ensures held { result ≡ is_held self.old key.now }
+        ensures page { self.new ≡ page_with_children self.old key.now children.old }
+        ensures children { children.new ≡ children_of key.now children.old self.old.buckets }
+        ensures absent { result ≡ false → (self.new ≡ self.old) × (children.new ≡ children.old) }
+    {
+        swap_in(&self.sources, &mut self.buckets, key, children)
     }
 
     /// The buckets as a node, ascending by key; after want of memory they are spent.

@@ -1,12 +1,11 @@
-use Rattle.std.proofs.Common.{◌≡◌, ◌<◌, ◌≤◌, ◌∙◌, ◌+◌, ◌++◌, ◌∷◌, [], sym, ap, subst, arith, true, false, length, get_or, slice_set, take, drop, map, List, Bool, Option, Some, None}
-use Rattle.std.specs.Prelude.{T, ℕ, IsTrue, nat_le, option_to_list}
+use Rattle.std.proofs.Common.{◌≡◌, ◌<◌, ◌≤◌, ◌∙◌, ◌+◌, sym, ap, subst, false, length, get_or, slice_set, take, drop, List}
+use Rattle.std.specs.Prelude.{IsTrue}
 use Rattle.std.specs.List.{list_all}
 use Rattle.std.specs.Ordering.{is_lt}
 use Rattle.agg_model.specs.declared.partial.Bucket.{Bucket}
 use Rattle.agg_evaluation.specs.Orders.{bucket_key}
 use Rattle.list_laws.proofs.Booleans.{holds}
-use Rattle.composite_agg.specs.FirstPages.{FirstPage, IsPage, counted, is_full, is_held, is_outside, page_cmp, with_buckets}
-use Rattle.composite_agg.specs.declared.offered.Offered.TheVariants.{Entered}
+use Rattle.composite_agg.specs.FirstPages.{FirstPage, IsPage, is_outside, page_cmp, with_buckets}
 use Rattle.composite_agg.proofs.PageSteps.{counted-at, held-at}
 use Rattle.composite_agg.proofs.Offers.{page-counted, counted-answer, counted-page, page-is, page-entered, after_entering, answer-is}
 use Rattle.composite_agg.proofs.offering.offer_to.Goals as goal

@@ -1,0 +1,45 @@
+//! The children of a bucket of a page, exchanged for others.
+ghost use Rattle.std.specs.Prelude.{◌≡◌, IsTrue, false, length, map};
+ghost use Rattle.agg_evaluation.specs.CompositeKeys.{is_composite_of};
+ghost use Rattle.agg_evaluation.specs.KeyOrder.{has_key};
+ghost use Rattle.agg_evaluation.specs.Orders.{bucket_key};
+ghost use Rattle.composite_agg.specs.Pages.{are_composite};
+ghost use Rattle.composite_agg.specs.FirstPages.{AreInOrder, children_of, with_children};
+
+use crate::places::find;
+use agg_model::{Bucket, CompositeSource, Key, List, Node};
+use std::mem::swap;
+
+fn has_part_for_each(sources: &List<CompositeSource>, key: &Key) -> bool
+    ensures { result ≡ is_composite_of (length sources.now) key.now }
+{
+    match key {
+        Key::Many(parts) => parts.len() == sources.len(),
+        _ => false,
+    }
+}
+
+/// Exchanges the children of the bucket of a key with those that are lent, and answers whether the key is there.
+pub fn swap_in(
+    sources: &List<CompositeSource>,
+    buckets: &mut Vec<Bucket>,
+    key: &Key,
+    children: &mut List<Node>,
+) -> bool
+    requires order { AreInOrder sources.now buckets.old.items }
+    requires parts { IsTrue (are_composite (length sources.now) buckets.old.items) }
+    ensures held { result ≡ has_key key.now (map bucket_key buckets.old.items) }
+    ensures buckets { buckets.new.items ≡ map (with_children key.now children.old) buckets.old.items }
+    ensures children { children.new ≡ children_of key.now children.old buckets.old.items }
+{
+    if !has_part_for_each(sources, key) {
+        return false;
+    }
+    match find(sources, buckets.as_slice(), key) {
+        Ok(place) => {
+            swap(&mut buckets[place].children, children);
+            true
+        }
+        Err(_) => false,
+    }
+}
