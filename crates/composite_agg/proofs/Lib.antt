@@ -9,3 +9,6 @@ pub mod PlaceOrder
 pub mod PageSteps
 pub mod Offers
 pub mod Swapped
+pub mod InRuns
+pub mod RunOrder
+pub mod RunSteps
