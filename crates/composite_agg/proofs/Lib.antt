@@ -8,3 +8,7 @@ pub mod Steps
 pub mod PlaceOrder
 pub mod PageSteps
 pub mod Offers
+pub mod Swapped
+pub mod InRuns
+pub mod RunOrder
+pub mod RunSteps

@@ -1,10 +1,11 @@
 -- What becomes of a page when a key is offered.
-use Rattle.std.proofs.Common.{◌≡◌, refl, ℕ, zero, suc, ◌+◌, ◌-◌, ◌<◌, ◌≤◌, Bool, true, false, cond, List, [], ◌∷◌, ◌++◌, length, get_or, slice_set, take, drop, map, Option, Some, None, sym, ◌∙◌, ap, subst, arith, ⊎_elim}
-use Rattle.std.specs.Prelude.{T, IsTrue, not, nat_le, ◌&&◌, ◌||◌, if◌then◌else◌, is_some, option_to_list}
+use Rattle.std.proofs.Common.{◌≡◌, refl, ℕ, zero, suc, ◌+◌, ◌<◌, ◌≤◌, Bool, true, false, cond, List, [], ◌∷◌, ◌++◌, length, take, drop, map, Option, Some, None, sym, ◌∙◌, ap, subst, arith, ⊎_elim}
+use Rattle.std.specs.Prelude.{T, not, ◌&&◌, ◌||◌, if◌then◌else◌, is_some, option_to_list}
 use Rattle.std.specs.List.{list_all, last_or, AllByRecursion}
 use Rattle.std.specs.Ordering.{is_lt}
 use Rattle.std.proofs.lemmas.Bool.{false≢true, cases_lt}
 use Rattle.std.proofs.lemmas.Bool.Decides.{nat_tests}
+use Rattle.agg_model.specs.declared.aggregation.CompositeSource.{CompositeSource}
 use Rattle.agg_model.specs.declared.key.Key.{Key}
 use Rattle.agg_model.specs.declared.partial.Bucket.{Bucket}
 use Rattle.agg_model.specs.declared.partial.Node.{Node}
@@ -13,36 +14,40 @@ use Rattle.agg_evaluation.specs.KeyOrder.{key_eq}
 use Rattle.agg_evaluation.specs.Orders.{bucket_key}
 use Rattle.list_laws.proofs.Lists.{append-nil}
 use Rattle.list_laws.proofs.Booleans.{and_left, and_right, both, holds, true_is}
-use Rattle.composite_agg.specs.Pages.{are_composite, is_beyond_any}
+use Rattle.composite_agg.specs.Pages.{is_beyond_any}
 use Rattle.composite_agg.specs.FirstPages.{FirstPage, AreInOrder, IsPage, answer_of, counted, evicted_of, is_full, is_held, is_last, is_outside, new_bucket, page_cmp, page_with, with_bucket, with_buckets}
-use Rattle.composite_agg.specs.declared.offered.Offered.{Offered}
 use Rattle.composite_agg.specs.declared.offered.Offered.TheVariants.{Counted, Entered, Outside}
-use Rattle.composite_agg.proofs.PageSteps.{counted-at, held-at, held-not, insert-at, not_itself, order-insert, order-take}
+use Rattle.composite_agg.proofs.PageSteps.{held-not, insert-at, not_itself, order-insert, order-take}
 use Rattle.composite_agg.proofs.PlaceOrder.{before_trans}
 
 key-counted : (k : Key) (b : Bucket) → bucket_key (counted k b) ≡ bucket_key b
 key-counted k b = elim (key_eq k (bucket_key b)) as (λ t. bucket_key (cond t (record b { count = b.count + 1 }) b) ≡ bucket_key b) [ true ↦ refl | false ↦ refl ]
 
-all-counted : (p : Key → Bool) (k : Key) (bs : List Bucket) → T (list_all (λ b. p (bucket_key b)) bs) → T (list_all (λ b. p (bucket_key b)) (map (counted k) bs))
-all-counted p k [] all = tt
-all-counted p k (b ∷ bs) all = both _ _ (subst (λ j. T (p j)) (sym (key-counted k b)) (and_left _ _ all)) (all-counted p k bs (and_right _ _ all))
+-- a page whose buckets have the keys that they had is one
+module _ (f : Bucket → Bucket) (key-same : (b : Bucket) → bucket_key (f b) ≡ bucket_key b) where
+  all-same : (p : Key → Bool) (bs : List Bucket) → T (list_all (λ b. p (bucket_key b)) bs) → T (list_all (λ b. p (bucket_key b)) (map f bs))
+  all-same p [] all = tt
+  all-same p (b ∷ bs) all = both _ _ (subst (λ j. T (p j)) (sym (key-same b)) (and_left _ _ all)) (all-same p bs (and_right _ _ all))
 
-length-counted : (k : Key) (bs : List Bucket) → length (map (counted k) bs) ≡ length bs
-length-counted k [] = refl
-length-counted k (b ∷ bs) = ap suc (length-counted k bs)
+  length-same : (bs : List Bucket) → length (map f bs) ≡ length bs
+  length-same [] = refl
+  length-same (b ∷ bs) = ap suc (length-same bs)
+
+  order-same : (sources : List CompositeSource) (bs : List Bucket) → AreInOrder sources bs → AreInOrder sources (map f bs)
+  order-same sources [] order = tt
+  order-same sources (b ∷ bs) order =
+      (subst (λ j. T (list_all (λ later. is_lt (page_cmp sources j (bucket_key later))) (map f bs))) (sym (key-same b)) (all-same (λ q. is_lt (page_cmp sources (bucket_key b) q)) bs order.0), order-same sources bs order.1)
+
+pub page-same_keys : (p : FirstPage) (f : Bucket → Bucket) → ((b : Bucket) → bucket_key (f b) ≡ bucket_key b) → IsPage p → IsPage (with_buckets p (map f p.buckets))
+page-same_keys p f key-same page = record {
+  order = order-same f key-same p.sources p.buckets page.order;
+  parts = true_is _ (all-same f key-same (is_composite_of (length p.sources)) p.buckets (holds _ page.parts));
+  within = let n = length-same f key-same p.buckets in omega (arith, n, page.within);
+}
 
 module _ (p : FirstPage) (k : Key) (children : List Node) where
-  order-counted : (bs : List Bucket) → AreInOrder p.sources bs → AreInOrder p.sources (map (counted k) bs)
-  order-counted [] order = tt
-  order-counted (b ∷ bs) order =
-      (subst (λ j. T (list_all (λ later. is_lt (page_cmp p.sources j (bucket_key later))) (map (counted k) bs))) (sym (key-counted k b)) (all-counted (λ q. is_lt (page_cmp p.sources (bucket_key b) q)) k bs order.0), order-counted bs order.1)
-
   pub page-counted : IsPage p → IsPage (with_buckets p (map (counted k) p.buckets))
-  page-counted page = record {
-    order = order-counted p.buckets page.order;
-    parts = true_is _ (all-counted (is_composite_of (length p.sources)) k p.buckets (holds _ page.parts));
-    within = let n = length-counted k p.buckets in omega (arith, n, page.within);
-  }
+  page-counted page = page-same_keys p (counted k) (key-counted k) page
 
   pub counted-answer : is_outside p k ≡ false → is_held p k ≡ true → answer_of p k ≡ Counted
   counted-answer inside held = ap (λ t. if t then Outside else (if is_held p k then Counted else Entered (evicted_of p))) inside ∙ ap (λ t. if t then Counted else Entered (evicted_of p)) held

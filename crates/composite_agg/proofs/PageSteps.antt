@@ -1,5 +1,5 @@
 -- One more key in a page: where it stands, and what the page becomes.
-use Rattle.std.proofs.Common.{◌≡◌, refl, ℕ, zero, suc, ◌+◌, ◌-◌, ◌<◌, ◌≤◌, Bool, true, false, cond, List, [], ◌∷◌, ◌++◌, length, get_or, slice_set, take, drop, map, Option, Some, None, Less, Equal, Greater, sym, ◌∙◌, ap, subst, arith}
+use Rattle.std.proofs.Common.{◌≡◌, refl, ℕ, zero, suc, ◌+◌, ◌-◌, ◌<◌, Bool, true, false, cond, List, [], ◌∷◌, ◌++◌, length, get_or, slice_set, take, drop, map, Some, None, Less, Equal, Greater, sym, ◌∙◌, ap, subst, arith}
 use Rattle.std.specs.Prelude.{T, ◌&&◌, ◌||◌}
 use Rattle.std.specs.List.{list_all, last_or, slice_get, AllByRecursion}
 use Rattle.std.specs.Option.{option_map_or}
@@ -11,17 +11,15 @@ use Rattle.agg_model.specs.declared.aggregation.CompositeSource.{CompositeSource
 use Rattle.agg_model.specs.declared.key.Key.{Key}
 use Rattle.agg_model.specs.declared.partial.Bucket.{Bucket}
 use Rattle.agg_evaluation.specs.CompositeKeys.{is_composite_of}
-use Rattle.agg_evaluation.specs.KeyOrder.{has_key, key_eq, key_cmp}
+use Rattle.agg_evaluation.specs.KeyOrder.{has_key, key_eq}
 use Rattle.agg_evaluation.specs.Orders.{bucket_key}
 use Rattle.agg_evaluation.proofs.KeyLists.{key_eq-exact, key_eq-self}
-use Rattle.bucket_order.specs.Composites.{any_parts_cmp, key_parts}
+use Rattle.bucket_order.specs.Composites.{key_parts}
 use Rattle.bucket_order.proofs.CompositeLaws.{any_parts_total, same_composites}
 use Rattle.growth_laws.proofs.CompositeOrder.{exact_cmp_exact, same-order}
 use Rattle.list_laws.specs.Sorting.{insert_sorted}
 use Rattle.list_laws.proofs.Booleans.{and_left, and_false, and_right, and_true, both, holds, true_is}
-use Rattle.list_laws.proofs.Orders.{less_is}
 use Rattle.composite_agg.specs.FirstPages.{AreInOrder, counted, page_cmp}
-use Rattle.composite_agg.specs.Pages.{are_composite}
 use Rattle.composite_agg.proofs.PlaceOrder.{before_trans}
 
 module _ (sources : List CompositeSource) where

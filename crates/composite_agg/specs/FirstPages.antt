@@ -1,6 +1,6 @@
 -- The page of a composite as keys come, one after another (Elasticsearch Reference 8, 'Composite aggregation').
-use Rattle.std.specs.Prelude.{◌≡◌, ◌<◌, ◌≤◌, ◌+◌, ℕ, ◌^◌, ◌-◌, Bool, true, false, if◌then◌else◌, not, ◌&&◌, ◌||◌, nat_le, List, [], ◌∷◌, length, map, take, Option, Some, None, T, IsTrue}
-use Rattle.std.specs.List.{list_all, last_or, AllByRecursion}
+use Rattle.std.specs.Prelude.{◌≤◌, ◌+◌, ℕ, Bool, true, false, if◌then◌else◌, not, ◌&&◌, ◌||◌, nat_le, List, [], ◌∷◌, length, map, take, Option, None, T, IsTrue}
+use Rattle.std.specs.List.{list_all, last_or}
 use Rattle.std.specs.Ordering.{is_lt}
 use Rattle.std.specs.declared.cmp.Ordering.{Ordering}
 use Rattle.agg_model.specs.declared.key.Key.{Key}
@@ -13,7 +13,7 @@ use Rattle.agg_evaluation.specs.KeyOrder.{has_key, key_eq}
 use Rattle.agg_evaluation.specs.Orders.{bucket_key}
 use Rattle.bucket_order.specs.Composites.{any_parts_cmp, key_parts}
 use Rattle.list_laws.specs.Sorting.{insert_sorted}
-use Rattle.composite_agg.specs.Pages.{are_composite, is_beyond_any, is_cursor}
+use Rattle.composite_agg.specs.Pages.{are_composite, is_beyond_any}
 use Rattle.composite_agg.specs.declared.offered.Offered.{Offered}
 use Rattle.composite_agg.specs.declared.offered.Offered.TheVariants.{Counted, Entered, Outside}
 
@@ -72,6 +72,19 @@ with_bucket p b = take p.size (insert_sorted (λ a c. page_cmp p.sources (bucket
 abbrev pub page_with : FirstPage → Key → List Node → FirstPage
 page_with p k children =
     if is_outside p k then p else with_buckets p (if is_held p k then map (counted k) p.buckets else with_bucket p (new_bucket k children))
+
+-- the bucket of a key has these children
+abbrev pub with_children : Key → List Node → Bucket → Bucket
+with_children k children b = if key_eq k (bucket_key b) then record b { children = children } else b
+
+-- the children of the bucket of a key, or these where no bucket has it
+abbrev pub children_of : Key → List Node → List Bucket → List Node
+children_of k children [] = children
+children_of k children (b ∷ bs) = if key_eq k (bucket_key b) then b.children else children_of k children bs
+
+-- the page with these children at the bucket of a key
+abbrev pub page_with_children : FirstPage → Key → List Node → FirstPage
+page_with_children p k children = with_buckets p (map (with_children k children) p.buckets)
 
 -- at most `size` buckets in order, each key, and the one that the page comes after, with a part for each source
 pub record IsPage (p : FirstPage) : Type 0 where

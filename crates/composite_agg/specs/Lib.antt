@@ -4,3 +4,4 @@ pub mod Parts
 pub mod Pages
 pub mod FirstPages
 pub mod PageCodes
+pub mod Runs

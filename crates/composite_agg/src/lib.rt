@@ -10,6 +10,8 @@ mod paging;
 mod parts;
 mod places;
 mod row_keys;
+mod runs;
+mod swapping;
 
 pub use first_keys::FirstKeys;
 pub use offered::Offered;

@@ -4,10 +4,11 @@ ghost use Rattle.std.specs.List.{AllByRecursion, insert};
 ghost use Rattle.agg_model.specs.declared.partial.Bucket.{Bucket as AnyBucket};
 ghost use Rattle.agg_evaluation.specs.CompositeKeys.{is_composite_of};
 ghost use Rattle.composite_agg.specs.FirstPages.{FirstPage, AreInOrder, IsPage, answer_of, is_outside, page_with};
+ghost use Rattle.composite_agg.specs.Runs.{AreFilled, IsWithin, in_runs, place_in};
 
 use crate::offered::Offered;
 use crate::paging::is_beyond_key;
-use crate::places::{comes_last, find};
+use crate::runs::{Spot, comes_last, find_spot, put_at, take_last};
 use agg_model::{Bucket, CompositeSource, Key, List, Node};
 use std::alloc::AllocError;
 
@@ -16,67 +17,89 @@ fn is_outside_page(
     sources: &List<CompositeSource>,
     size: u32,
     after: &Option<Key>,
-    buckets: &[Bucket],
+    held: usize,
+    runs: &[Vec<Bucket>],
     key: &Key,
 ) -> bool
-    requires { AreInOrder sources.now buckets.now }
-    ensures { result ≡ is_outside (record { sources = sources.now; size = size; after = after.now; buckets = buckets.now }) key.now }
+    requires order { AreInOrder sources.now (in_runs runs.now) }
+    requires filled { AreFilled runs.now }
+    requires held { held ≡ length (in_runs runs.now) }
+    ensures { result
+        ≡ is_outside (record { sources = sources.now; size = size; after = after.now; buckets = in_runs runs.now }) key.now }
 {
-    (buckets.len() >= size as usize && comes_last(sources, buckets, key))
-        || !is_beyond_key(sources, key, after)
+    (held >= size as usize && comes_last(sources, runs, key)) || !is_beyond_key(sources, key, after)
 }
 
-/// Puts a key into the buckets of a page, or counts it there. After want of memory they are as before.
+/// Puts a key into the buckets of a page, of which `held` is the number, or counts it there. After want of memory they are as
+/// before.
 pub fn offer_to(
     sources: &List<CompositeSource>,
     size: u32,
     after: &Option<Key>,
-    buckets: &mut Vec<Bucket>,
+    held: &mut usize,
+    runs: &mut Vec<Vec<Bucket>>,
     key: Key,
     children: List<Node>,
 ) -> Result<Offered, AllocError>
-    requires page { IsPage (record { sources = sources.now; size = size; after = after.now; buckets = buckets.old.items }) }
+    requires page { IsPage (record { sources = sources.now; size = size; after = after.now; buckets = in_runs runs.old.items }) }
+    requires filled { AreFilled runs.old.items }
+    requires held { held.old ≡ length (in_runs runs.old.items) }
     requires parts { IsTrue (is_composite_of (length sources.now) key) }
-    requires few { AllByRecursion (λ b. b.count < 2 ^ 64 - 1) buckets.old.items }
-    ensures answer { IfOk result (λ o. o ≡ answer_of (record { sources = sources.now; size = size; after = after.now; buckets = buckets.old.items }) key) }
-    ensures page { OnOk result (buckets.new.items ≡ (page_with (record { sources = sources.now; size = size; after = after.now; buckets = buckets.old.items }) key children).buckets) }
-    ensures err { OnErr result (buckets.new.items ≡ buckets.old.items) }
-    ensures kept { IsPage (record { sources = sources.now; size = size; after = after.now; buckets = buckets.new.items }) }
+    requires few { AllByRecursion (λ b. b.count < 2 ^ 64 - 1) (in_runs runs.old.items) }
+    ensures answer { IfOk result (λ o. o
+        ≡ answer_of (record { sources = sources.now; size = size; after = after.now; buckets = in_runs runs.old.items }) key) }
+    ensures page { OnOk result (in_runs runs.new.items
+        ≡ (page_with (record { sources = sources.now; size = size; after = after.now; buckets = in_runs runs.old.items })
+        key children).buckets) }
+    ensures err { OnErr result (in_runs runs.new.items ≡ in_runs runs.old.items) }
+    ensures kept { IsPage (record { sources = sources.now; size = size; after = after.now; buckets = in_runs runs.new.items }) }
+    ensures filled { AreFilled runs.new.items }
+    ensures held { held.new ≡ length (in_runs runs.new.items) }
 {
-    if is_outside_page(sources, size, after, buckets.as_slice(), &key) {
+    if is_outside_page(sources, size, after, *held, runs.as_slice(), &key) {
         return Ok(Offered::Outside);
     }
-    match find(sources, buckets.as_slice(), &key) {
-        Ok(place) => {
-            buckets[place].count += 1;
+    match find_spot(sources, runs.as_slice(), &key) {
+        Ok(spot) => {
+            runs[spot.run][spot.at].count += 1;
             Ok(Offered::Counted)
         }
-        Err(place) => {
+        Err(spot) => {
             let bucket = Bucket {
                 key,
                 count: 1,
                 covered: 0,
                 children,
             };
-            let evicted = enter(size, buckets, place, bucket)?;
+            let evicted = enter(size, held, runs, spot, bucket)?;
             Ok(Offered::Entered { evicted })
         }
     }
 }
 
-// Puts a bucket at a place; the last one leaves a full page.
+// Puts a bucket at a spot; the last one leaves a full page.
 fn enter(
     size: u32,
-    buckets: &mut Vec<Bucket>,
-    place: usize,
+    held: &mut usize,
+    runs: &mut Vec<Vec<Bucket>>,
+    spot: Spot,
     bucket: Bucket,
 ) -> Result<Option<Bucket>, AllocError>
-    requires { place ≤ length buckets.old.items }
-    ensures items { IfOk result (λ left. insert buckets.old.items place bucket ≡ buckets.new.items ++ option_to_list left) }
-    ensures full { IfOk result (λ left. is_some left ≡ nat_le size (length buckets.old.items)) }
-    ensures err { OnErr result (buckets.new.items ≡ buckets.old.items) }
+    requires spot { 0 < length runs.old.items → IsWithin runs.old.items spot.run spot.at }
+    requires filled { AreFilled runs.old.items }
+    requires held { held.old ≡ length (in_runs runs.old.items) }
+    ensures items { IfOk result (λ left. insert (in_runs runs.old.items) (place_in runs.old.items spot.run spot.at) bucket
+        ≡ in_runs runs.new.items ++ option_to_list left) }
+    ensures full { IfOk result (λ left. is_some left ≡ nat_le size (length (in_runs runs.old.items))) }
+    ensures err { OnErr result (in_runs runs.new.items ≡ in_runs runs.old.items) }
+    ensures filled { AreFilled runs.new.items }
+    ensures held { held.new ≡ length (in_runs runs.new.items) }
 {
-    let is_full = buckets.len() >= size as usize;
-    buckets.insert(place, bucket)?;
-    if is_full { Ok(buckets.pop()) } else { Ok(None) }
+    put_at(runs, spot, bucket)?;
+    if *held >= size as usize {
+        Ok(take_last(runs))
+    } else {
+        *held += 1;
+        Ok(None)
+    }
 }

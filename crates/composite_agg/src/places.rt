@@ -1,9 +1,10 @@
 //! Buckets in the order of the sources, and the places of keys among them.
-ghost use Rattle.std.specs.Prelude.{◌≡◌, ◌<◌, ◌≤◌, IfOk, IfErr, IsTrue, take, drop, length, slice_index_or, true, false};
+ghost use Rattle.std.specs.Prelude.{◌≡◌, ◌<◌, ◌≤◌, IfOk, IfErr, IsTrue, take, drop, length, slice_index_or, None, true, false};
 ghost use Rattle.agg_model.specs.declared.partial.Bucket.{Bucket as AnyBucket};
 ghost use Rattle.agg_evaluation.specs.CompositeKeys.{is_composite_of};
 ghost use Rattle.composite_agg.specs.Pages.{are_composite};
-ghost use Rattle.std.specs.List.{list_all, AllByRecursion};
+ghost use Rattle.std.specs.List.{last_or, list_all, AllByRecursion};
+ghost use Rattle.std.specs.Option.{option_map_or};
 ghost use Rattle.std.specs.Ordering.{is_lt};
 ghost use Rattle.agg_evaluation.specs.Orders.{bucket_key};
 ghost use Rattle.composite_agg.specs.FirstPages.{AreInOrder, page_cmp};
@@ -29,10 +30,9 @@ pub fn place_of(sources: &List<CompositeSource>, buckets: &[Bucket], key: &Key) 
     buckets.partition_point(|bucket| is_before(sources, &bucket.key, key))
 }
 
-/// Whether a key comes after all buckets, by one comparison with the last.
-pub fn comes_last(sources: &List<CompositeSource>, buckets: &[Bucket], key: &Key) -> bool
-    requires { AreInOrder sources.now buckets.now }
-    ensures { result ≡ list_all (λ b. is_lt (page_cmp sources.now (bucket_key b) key.now)) buckets.now }
+/// Whether the last of these buckets, if any, comes before a key.
+pub fn ends_before(sources: &List<CompositeSource>, buckets: &[Bucket], key: &Key) -> bool
+    ensures { result ≡ option_map_or (λ b. is_lt (page_cmp sources.now (bucket_key b) key.now)) (last_or None buckets.now) true }
 {
     match buckets.last() {
         Some(last) => is_before(sources, &last.key, key),

@@ -1,4 +1,4 @@
-use Rattle.std.proofs.Common.{rules, true, false, arith, ◌∙◌}
+use Rattle.std.proofs.Common.{rules, arith}
 use Rattle.std.specs.Ordering.{is_lt}
 use Rattle.std.proofs.lemmas.List.Sorted.{IsPartitionPoint-from_clause}
 use Rattle.agg_model.specs.declared.partial.Bucket.{Bucket}
