@@ -12,3 +12,6 @@ pub mod CollectedRoots
 pub mod Totals
 pub mod Summing
 pub mod NodeSums
+pub mod SharedTypes
+pub mod SharedShards
+pub mod EachTask

@@ -12,5 +12,5 @@ mod task;
 
 pub use bounds::node_bytes;
 pub use paths::RowPaths;
-pub use searches::search_ceiling;
+pub use searches::{ceilings, search_ceiling};
 pub use task::ceiling;
