@@ -2,7 +2,8 @@
 //! top call; it answers the exit status, which `main` gives to the process.
 #![tactic(auto)]
 
+mod arguments;
 mod running;
 
-pub use running::run;
+pub use running::{run, run_arguments};
 pub use script_run::Status;

@@ -1,17 +1,25 @@
 //! The top call.
-ghost use Rattle.std.specs.Prelude.{◌≡◌, ℕ, List as Items, Some, None, IsErr, Ok, false};
+ghost use Rattle.std.specs.Prelude.{◌≡◌, ℕ, List as Items, Some, None, IfOk, IsErr, Ok, false};
 ghost use Rattle.std.specs.Io.KnownBytes.{IsAtEnd};
 ghost use Rattle.agg_base.specs.Outside.{Rose};
+ghost use Rattle.agg_listen.specs.Hearing.{Hearing};
 ghost use Rattle.agg_model.specs.declared.settings.Settings.{Settings};
+ghost use Rattle.agg_program.specs.Arguments.{words_given};
+ghost use Rattle.agg_program.specs.Listening.{alone};
 ghost use Rattle.agg_settings.specs.Settings.{settings_of};
 ghost use Rattle.script_answers.specs.Outputs.{so_far};
 ghost use Rattle.script_run.specs.Runs.{Runs};
+ghost use Rattle.script_run.specs.Statuses.{IsOfRefusedWords};
 
+use crate::arguments::words_of;
 use agg_base::{Sink, Source};
 use agg_listen::{Audience, Listener};
-use agg_model::Text;
+use agg_model::{List, Text};
+use script_run::Status;
 use solo_answerer::Worker;
-use std::alloc::Global;
+use std::alloc::{AllocError, Global};
+use std::env::Args;
+use std::io;
 
 /// Runs the program over a source and a sink, with one worker and one search at a time, and answers its exit status.
 ///
@@ -40,8 +48,54 @@ pub fn run<S: Source, K: Sink, L: Listener>(
     ensures finished { result ≡ 0 → (settings : Settings) → settings_of false words.now ≡ Ok settings →
         settings.generate ≡ None → IsAtEnd (S.left source.new) }
     ensures usage { result ≡ 2 → IsErr (settings_of false words.now) }
+    ensures refused { IsErr (settings_of false words.now) → IsOfRefusedWords result }
     ensures read_fault { result ≡ 3 → Rose (S.faults source.old) (S.faults source.new) }
     ensures write_fault { result ≡ 4 → Rose (K.faults sink.old) (K.faults sink.new) }
 {
     script_run::run::<S, K, L, Worker>(alloc, false, words, source, sink, audience)
+}
+
+// The words, and one who listens.
+fn prepare<L: Listener>(
+    alloc: Global,
+    arguments: io::Result<Args>,
+    listener: L,
+) -> Result<(List<Text>, Audience<L>), AllocError>
+    ensures words { IfOk result (λ ready. words_given arguments ≡ Some ready.0) }
+    ensures audience { IfOk result (λ ready. ready.1 ≡ alone (L.standing listener)) }
+{
+    let words = words_of(alloc, arguments)?;
+    let mut listeners = Vec::new(alloc);
+    listeners.push(listener)?;
+    Ok((words, Audience::new(listeners)))
+}
+
+/// Runs the program with the words that the system tells, over a source and a sink, and answers its exit status, as `run` does.
+/// Words that are not text are outside the grammar. Where the system had no memory for them, the status is 7.
+///
+/// The listener is told of each answer to a search once its line was written whole.
+pub fn run_arguments<S: Source, K: Sink, L: Listener>(
+    alloc: Global,
+    arguments: io::Result<Args>,
+    source: &mut S,
+    sink: &mut K,
+    listener: L,
+) -> u8
+    ensures output { (words : Items (Items ℕ)) (input before : Items ℕ) → words_given arguments ≡ Some words →
+        S.left source.old ≡ Some input → K.written sink.old ≡ Some before → (heard : Hearing) × Runs false words input (S.left source.new) result
+        (so_far (Some before) (alone (L.standing listener))) (so_far (K.written sink.new) heard) }
+    ensures memory { words_given arguments ≡ None → result ≡ 7 }
+
+    // Why each status comes.
+    ensures finished { result ≡ 0 → (words : Items (Items ℕ)) → words_given arguments ≡ Some words → (settings : Settings) →
+        settings_of false words ≡ Ok settings → settings.generate ≡ None → IsAtEnd (S.left source.new) }
+    ensures usage { result ≡ 2 → (words : Items (Items ℕ)) → words_given arguments ≡ Some words → IsErr (settings_of false words) }
+    ensures refused { (words : Items (Items ℕ)) → words_given arguments ≡ Some words → IsErr (settings_of false words) → IsOfRefusedWords result }
+    ensures read_fault { result ≡ 3 → Rose (S.faults source.old) (S.faults source.new) }
+    ensures write_fault { result ≡ 4 → Rose (K.faults sink.old) (K.faults sink.new) }
+{
+    match prepare(alloc, arguments, listener) {
+        Ok((words, mut audience)) => run(alloc, words.as_slice(), source, sink, &mut audience),
+        Err(AllocError) => Status::Memory.code(),
+    }
 }

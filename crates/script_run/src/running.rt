@@ -8,7 +8,7 @@ ghost use Rattle.agg_settings.specs.Settings.{settings_of as settings_given};
 ghost use Rattle.agg_spec.specs.Generator.{generated};
 ghost use Rattle.script_answers.specs.Outputs.{so_far};
 ghost use Rattle.script_run.specs.Runs.{Runs, WroteOf};
-ghost use Rattle.script_run.specs.Statuses.{code_of};
+ghost use Rattle.script_run.specs.Statuses.{code_of, IsOfRefusedWords};
 ghost use Rattle.script_run.specs.declared.status.Status.TheVariants as status;
 
 use crate::answering::answer_lines;
@@ -116,6 +116,7 @@ fn status_of<S: Source, K: Sink, L: Listener, A: Opens>(
     ensures finished { result ≡ status.Finished → (settings : AnySettings) → settings_given several words.now ≡ Ok settings →
         settings.generate ≡ None → IsAtEnd (S.left source.new) }
     ensures usage { result ≡ status.Usage → IsErr (settings_given several words.now) }
+    ensures refused { IsErr (settings_given several words.now) → IsOfRefusedWords (code_of result) }
     ensures read_fault { result ≡ status.ReadFault → Rose (S.faults source.old) (S.faults source.new) }
     ensures write_fault { result ≡ status.WriteFault → Rose (K.faults sink.old) (K.faults sink.new) }
 {
@@ -157,6 +158,7 @@ pub fn run<S: Source, K: Sink, L: Listener, A: Opens>(
     ensures finished { result ≡ 0 → (settings : AnySettings) → settings_given several words.now ≡ Ok settings →
         settings.generate ≡ None → IsAtEnd (S.left source.new) }
     ensures usage { result ≡ 2 → IsErr (settings_given several words.now) }
+    ensures refused { IsErr (settings_given several words.now) → IsOfRefusedWords result }
     ensures read_fault { result ≡ 3 → Rose (S.faults source.old) (S.faults source.new) }
     ensures write_fault { result ≡ 4 → Rose (K.faults sink.old) (K.faults sink.new) }
 {
