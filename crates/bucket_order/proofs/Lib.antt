@@ -1,3 +1,4 @@
 pub mod TotalLaws
 pub mod SameOrder
 pub mod CompositeLaws
+pub mod Firsts

@@ -4,8 +4,10 @@
 
 mod compare;
 mod composite;
+mod first;
 mod sort;
 
 pub use compare::{compare_buckets, compare_keys};
 pub use composite::compare_composites;
+pub use first::first_buckets;
 pub use sort::{sort_buckets, sort_by_key, sort_composites};

@@ -11,7 +11,9 @@ mod row_codes;
 mod row_keys;
 mod trimming;
 
-pub use prepared::{PreparedTerms, codes_have_keys_of_their_own, has_key, key, key_bytes};
+pub use prepared::{
+    PreparedTerms, code_count, codes_have_keys_of_their_own, has_key, key, key_bytes,
+};
 pub use preparing::{made_terms_can_be_prepared, prepare};
 pub use row_codes::{codes, count};
 pub use row_keys::{key_count, keys};

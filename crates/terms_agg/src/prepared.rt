@@ -1,5 +1,5 @@
 //! A terms aggregation that is prepared for a shard, and what its codes stand for.
-ghost use Rattle.std.specs.Prelude.{◌≡◌, ℤ, ◌<◌, length, IfOk, IsTrue};
+ghost use Rattle.std.specs.Prelude.{◌≡◌, ℤ, ◌<◌, true, length, IfNone, IfOk, IfSome, IsTrue};
 ghost use Rattle.agg_model.specs.declared.aggregation.Kind.{Kind};
 ghost use Rattle.agg_evaluation.specs.Cost.{key_bytes as bytes_of_key};
 ghost use Rattle.shard_columns.specs.Columns.{Columns};
@@ -112,6 +112,20 @@ pub fn has_key(shard: &Shard, prepared: &PreparedTerms, number: i64) -> bool
         Content::Wholes => true,
         Content::Flags => is_place(2, number),
         Content::Words => is_place(word_count(shard, prepared), number),
+    }
+}
+
+/// How many codes the aggregation has, where those are the numbers from 0 on: one for each word of the field and for a missing
+/// word that no row has, or for false and true. There is none where each whole number is a code. Time and memory are constant.
+pub fn code_count(shard: &Shard, prepared: &PreparedTerms) -> Option<u64>
+    requires { prepared.now.field < length shard.now.kinds }
+    ensures counted { IfSome result (λ n. (number : ℤ) → is_code shard.now prepared.now number ≡ is_place_among n number) }
+    ensures all { IfNone result ((number : ℤ) → is_code shard.now prepared.now number ≡ true) }
+{
+    match content_of_field(shard, prepared.field) {
+        Content::Wholes => None,
+        Content::Flags => Some(2),
+        Content::Words => Some(word_count(shard, prepared)),
     }
 }
 

@@ -5,7 +5,7 @@ ghost use Rattle.bucket_order.specs.Kinds.{child_kinds};
 ghost use Rattle.terms_agg.specs.Trim.{trimmed, last_count, node_buckets};
 
 use agg_model::{Agg, Bucket, Kind, List, Node, Order};
-use bucket_order::{sort_buckets, sort_by_key};
+use bucket_order::{first_buckets, sort_by_key};
 use std::alloc::{AllocError, Global};
 
 /// The number of documents in all the buckets together.
@@ -42,6 +42,7 @@ fn set_covered(buckets: &mut Vec<Bucket>, covered: u64)
 }
 
 fn trim_buckets(
+    alloc: Global,
     children: &List<Agg>,
     shard_size: u32,
     order: &List<Order>,
@@ -50,10 +51,9 @@ fn trim_buckets(
     requires { sum_by bucket_count buckets < 2 ^ 64 }
     ensures { IfOk result (λ n. n ≡ trimmed_node (child_kinds children.now) shard_size order.now (sum_by bucket_count buckets) buckets) }
 {
-    let mut kept = buckets.into_vec();
-    let total = total_count(kept.as_slice());
-    sort_buckets(children, order, &mut kept)?;
-    kept.truncate(shard_size as usize);
+    let all = buckets.into_vec();
+    let total = total_count(all.as_slice());
+    let mut kept = first_buckets(alloc, children, order, shard_size as usize, all)?;
     let is_full = kept.len() == shard_size as usize;
     let error = error_of(kept.as_slice(), is_full);
     let cut = total - total_count(kept.as_slice());
@@ -71,7 +71,7 @@ fn trim_buckets(
 /// by key, with the number of documents that it left out. Where as many terms are kept as may be, the error is the
 /// count of the last one in the order: by descending count, no term that is left out has more documents. The node
 /// holds all terms of the shard; nothing is cut of a node without terms, and of a kind other than terms.
-pub fn trim(_alloc: Global, agg: &Agg, node: Node) -> Result<Node, AllocError>
+pub fn trim(alloc: Global, agg: &Agg, node: Node) -> Result<Node, AllocError>
     requires { sum_by bucket_count (node_buckets node) < 2 ^ 64 }
     ensures { IfOk result (λ n. n ≡ trimmed agg.now node) }
 {
@@ -81,7 +81,9 @@ pub fn trim(_alloc: Global, agg: &Agg, node: Node) -> Result<Node, AllocError>
             order,
             ..
         } => match node {
-            Node::Keyed { buckets, .. } => trim_buckets(&agg.children, *shard_size, order, buckets),
+            Node::Keyed { buckets, .. } => {
+                trim_buckets(alloc, &agg.children, *shard_size, order, buckets)
+            }
             Node::Fixed { buckets } => Ok(Node::Fixed { buckets }),
             Node::Number(metric) => Ok(Node::Number(metric)),
         },
