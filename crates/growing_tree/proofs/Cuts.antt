@@ -73,7 +73,7 @@ cut-options kinds (Options.Composite sources size after) n bs e = refl
 cut-options kinds (Options.Metric m) n bs e = refl
 
 -- the items from one on
-drop-at : {A : Type 0} (xs : List A) (i : ℕ) (x : A) → slice_get xs i ≡ Some x → drop i xs ≡ x ∷ drop (i + 1) xs
+pub drop-at : {A : Type 0} (xs : List A) (i : ℕ) (x : A) → slice_get xs i ≡ Some x → drop i xs ≡ x ∷ drop (i + 1) xs
 drop-at {A = A} xs i x e = next xs i e ∙ ap (λ n. x ∷ drop n xs) (sym (add-one i))
   where
     next : (xs : List A) (i : ℕ) → slice_get xs i ≡ Some x → drop i xs ≡ x ∷ drop (suc i) xs
@@ -139,13 +139,6 @@ module _ (shard : Columns) (a : Agg) (r : Ready) where
   pub numbered-with : (n : ℕ) (g : Growing) → finished_bucket shard a r (bucket_at (key.Fixed n) g) ≡ finished_with shard a r (key.Fixed n) g
   unfolding computing
   numbered-with n g = refl
-
-  -- one more bucket of a code, and those that are left
-  pub coded-more : (done : List Bucket) (codes : List ℤ) (i : ℕ) (code : ℤ) (g : Growing) (gs : List Growing) → slice_get codes i ≡ Some code
-      → (done ++ finished_with shard a r (key_of code) g ∷ []) ++ map (finished_bucket shard a r) (coded_buckets (drop (i + 1) codes) gs) ≡ done ++ map (finished_bucket shard a r) (coded_buckets (drop i codes) (g ∷ gs))
-  coded-more done codes i code g gs e =
-      append_assoc done (finished_with shard a r (key_of code) g ∷ []) _
-      ∙ ap (λ bs. done ++ bs) ((λ j. sym (coded-with code g) j ∷ map (finished_bucket shard a r) (coded_buckets (drop (i + 1) codes) gs)) ∙ ap (λ cs. map (finished_bucket shard a r) (coded_buckets cs (g ∷ gs))) (sym (drop-at codes i code e)))
 
   -- one more bucket with a number, and those that are left
   pub numbered-more : (done : List Bucket) (g : Growing) (gs : List Growing)

@@ -15,3 +15,4 @@ pub mod Cuts
 pub mod Counting
 pub mod ReadyLaws
 pub mod EmptyCosts
+pub mod Reordered

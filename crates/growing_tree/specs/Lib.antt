@@ -11,3 +11,4 @@ pub mod Grouped
 pub mod Gathered
 pub mod Finished
 pub mod Starting
+pub mod CodedBuckets

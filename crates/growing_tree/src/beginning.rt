@@ -63,7 +63,7 @@ pub fn begin_trees(
     if ready.len() != aggs.len() {
         return Err(AllocError);
     }
-    let mut trees = Vec::new(alloc);
+    let mut trees = Vec::with_capacity(alloc, aggs.len())?;
     for place in 0..aggs.len() {
         let tree = begin(alloc, &aggs.as_slice()[place], &ready.as_slice()[place])?;
         trees.push(tree)?;
@@ -103,18 +103,21 @@ fn begin_buckets(
 /// metric of no value.
 ///
 /// `AllocError` says that memory is wanted, or that `ready` has not so many children as the aggregation, at some level. Time
-/// and memory are linear in the buckets that exist from the start, those below them counted.
+/// and memory are linear in the buckets that exist from the start, those below them counted, and in the codes of the tables.
 #[cycle(begin)]
 pub fn begin(alloc: Global, agg: &Agg, ready: &Ready) -> Result<Tree, AllocError>
     ensures { IfOk result (λ tree. (shard : Columns) → decoded shard ready.now tree ≡ empty_node agg.now) }
 {
     match &agg.kind {
-        Kind::Terms { .. } | Kind::Histogram { .. } | Kind::Composite { .. } => Ok(Tree {
-            level: Level::Keyed(Keyed {
-                places: Places::ordered(alloc),
-                buckets: Vec::new(alloc),
-            }),
-        }),
+        Kind::Terms { .. } | Kind::Histogram { .. } | Kind::Composite { .. } => {
+            let places = Places::dense(alloc, ready.width)?;
+            Ok(Tree {
+                level: Level::Keyed(Keyed {
+                    places,
+                    buckets: Vec::new(alloc),
+                }),
+            })
+        }
         Kind::Sum { .. }
         | Kind::Min { .. }
         | Kind::Max { .. }

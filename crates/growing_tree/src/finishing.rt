@@ -13,13 +13,15 @@ ghost use Rattle.growing_tree.specs.Codes.{code_key, fixed_key as fixed_key_of};
 ghost use Rattle.growing_tree.specs.Decoded.{decoded, decoded_children};
 ghost use Rattle.growing_tree.specs.Finished.{finished_bucket, finished_with};
 ghost use Rattle.growing_tree.specs.Readiness.{AreReadyFor, IsKindReady, IsReadyFor};
-ghost use Rattle.growing_tree.specs.Trees.{coded_buckets, numbered_buckets};
+ghost use Rattle.growing_tree.specs.CodedBuckets.{coded_bucket};
+ghost use Rattle.growing_tree.specs.Trees.{numbered_buckets};
 ghost use Rattle.growing_tree.specs.declared.ready.Ready.{out-Ready};
 
+use crate::coded::{Coded, sort_by_code, with_codes};
 use crate::kinds::place_of;
 use crate::ready::{Ready, ReadyKind};
 use crate::sums::sum;
-use crate::tree::{Growing, Keyed, Level, Tree};
+use crate::tree::{Growing, Level, Tree};
 use agg_model::{Agg, Bucket, Key, Kind, List, Node};
 use bucket_order::sort_by_key;
 use histogram_agg::key as key_of_interval;
@@ -79,7 +81,7 @@ fn total_count(buckets: &[Bucket]) -> Result<u64, AllocError>
     Ok(total)
 }
 
-// The buckets of a level in the order in which their codes came, as what a shard answers.
+// The buckets of a level, as what a shard answers.
 fn finish_level(alloc: Global, agg: &Agg, buckets: Vec<Bucket>) -> Result<Node, AllocError>
     ensures { IfOk result (λ node. node ≡ trimmed agg.now (KeyedNode (sorted_by_key buckets.items) 0 0 0)) }
 {
@@ -152,30 +154,24 @@ fn finish_bucket(
     })
 }
 
-// The buckets of codes, in the order in which their codes came.
+// The buckets of codes, in this order.
 #[cycle(finish)]
-fn finish_keyed(
+fn finish_coded(
     alloc: Global,
     agg: &Agg,
     ready: &Ready,
     shard: &Shard,
-    keyed: Keyed,
+    buckets: Vec<Coded>,
 ) -> Result<Vec<Bucket>, AllocError>
     requires ready { IsReadyFor shard.now agg.now ready.now }
     requires built { IsShard shard.now }
-    ensures { IfOk result (λ bs. bs.items ≡ map (finished_bucket shard.now agg.now ready.now) (coded_buckets keyed.places keyed.buckets.items)) }
+    ensures { IfOk result (λ bs. bs.items ≡ map (finished_bucket shard.now agg.now ready.now) (map coded_bucket buckets.items)) }
 {
-    let Keyed { places, buckets } = keyed;
-    let mut finished = Vec::new(alloc);
-    let mut left = buckets.into_iter();
-    for code in places.codes() {
-        match left.next() {
-            Some(bucket) => {
-                let key = key_of_code(alloc, shard, &agg.kind, &ready.kind, *code)?;
-                finished.push(finish_bucket(alloc, agg, ready, shard, key, bucket)?)?;
-            }
-            None => return Ok(finished),
-        }
+    let mut finished = Vec::with_capacity(alloc, buckets.len())?;
+    for coded in buckets {
+        let Coded { code, bucket } = coded;
+        let key = key_of_code(alloc, shard, &agg.kind, &ready.kind, code)?;
+        finished.push(finish_bucket(alloc, agg, ready, shard, key, bucket)?)?;
     }
     Ok(finished)
 }
@@ -222,7 +218,11 @@ pub fn finish(
     let Tree { level } = tree;
     match level {
         Level::Keyed(keyed) => {
-            let buckets = finish_keyed(alloc, agg, ready, shard, keyed)?;
+            // Codes ascend as their keys do, but for that of a word for missing values, and are compared at once: the sort by
+            // key finds next to nothing to do.
+            let mut coded = with_codes(alloc, keyed)?;
+            sort_by_code(&mut coded)?;
+            let buckets = finish_coded(alloc, agg, ready, shard, coded)?;
             finish_level(alloc, agg, buckets)
         }
         Level::Fixed(buckets) => Ok(Node::Fixed {

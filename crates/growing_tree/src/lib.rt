@@ -4,6 +4,7 @@
 #![tactic(auto)]
 
 mod beginning;
+mod coded;
 mod finishing;
 mod gathering;
 mod groups;

@@ -17,7 +17,13 @@ use filters_agg::prepare as prepare_filters;
 use histogram_agg::prepare as prepare_histogram;
 use shard_columns::Shard;
 use std::alloc::{AllocError, Global};
-use terms_agg::prepare as prepare_terms;
+use terms_agg::{code_count, prepare as prepare_terms};
+
+// The tables of all trees of an aggregation together have at most so many entries, of 4 bytes each, but where there is one tree,
+// or each has few codes, which take no more memory in a table than in a map.
+const MOST_ENTRIES: u64 = 1 << 20;
+
+const FEW_CODES: u64 = 16;
 
 // What an aggregation of the kind needs of the shard.
 fn prepare_kind(alloc: Global, shard: &Shard, kind: &Kind) -> Result<ReadyKind, AllocError>
@@ -80,32 +86,68 @@ fn empty_bytes(agg: &Agg, ready: &Ready) -> Result<u64, AllocError>
     Ok(bytes)
 }
 
-/// The aggregation and those below it, prepared for the shard; they are made for its mapping. A bucket whose children cost more
-/// than 64 bits of bytes before its first row is answered as want of memory.
-///
-/// It takes time and memory by the aggregations, and by what each kind takes to prepare.
-pub fn prepare(alloc: Global, shard: &Shard, agg: &Agg) -> Result<Ready, AllocError>
+// How many buckets a tree of the aggregation may have; 2^64 - 1 where that is not known.
+fn most_buckets(shard: &Shard, kind: &Kind, ready: &ReadyKind) -> u64
+    requires ready { IsKindReady shard.now kind.now ready.now }
+{
+    match ready {
+        ReadyKind::Single => 1,
+        ReadyKind::Filters(_) => start_count(kind).unwrap_or(u64::MAX),
+        ReadyKind::Terms(terms) => code_count(shard, terms).unwrap_or(u64::MAX),
+        ReadyKind::Histogram(_) | ReadyKind::Metric | ReadyKind::Composite => u64::MAX,
+    }
+}
+
+// How many codes a table of each tree is for, where there may be so many trees.
+fn table_width(kind: &ReadyKind, codes: u64, trees: u64) -> u32 {
+    let fits = trees == 1 || codes <= FEW_CODES || codes.saturating_mul(trees) <= MOST_ENTRIES;
+    match kind {
+        ReadyKind::Terms(_) if fits => u32::try_from(codes).unwrap_or(0),
+        _ => 0,
+    }
+}
+
+// The aggregation and those below it, where there may be so many trees of it.
+fn prepare_within(alloc: Global, shard: &Shard, agg: &Agg, trees: u64) -> Result<Ready, AllocError>
     requires built { IsShard shard.now }
     requires made { IsAggFor shard.now agg.now }
     ensures ready { IfOk result (λ ready. IsReadyFor shard.now agg.now ready) }
 {
+    let kind = prepare_kind(alloc, shard, &agg.kind)?;
+    let buckets = most_buckets(shard, &agg.kind, &kind);
+    let trees_below = trees.saturating_mul(buckets);
     let mut children = List::new(alloc);
     let mut child_bytes = 0;
     for child in agg.children.as_slice() {
-        let ready = prepare(alloc, shard, child)?;
+        let ready = prepare_within(alloc, shard, child, trees_below)?;
         let bytes = empty_bytes(child, &ready)?;
         child_bytes = sum(child_bytes, bytes)?;
         children.push(ready)?;
     }
-    let kind = prepare_kind(alloc, shard, &agg.kind)?;
+    let width = table_width(&kind, buckets, trees);
     Ok(Ready {
         kind,
+        width,
         child_bytes,
         children,
     })
 }
 
-/// Aggregations side by side, prepared for the shard.
+/// The aggregation and those below it, prepared for the shard; they are made for its mapping. A bucket whose children cost more
+/// than 64 bits of bytes before its first row is answered as want of memory.
+///
+/// It takes time and memory by the aggregations, and by what each kind takes to prepare. One tree is to grow of the aggregation:
+/// its codes are looked up in a table, and those of aggregations below where all their trees have tables of 4 MiB at most.
+pub fn prepare(alloc: Global, shard: &Shard, agg: &Agg) -> Result<Ready, AllocError>
+    requires built { IsShard shard.now }
+    requires made { IsAggFor shard.now agg.now }
+    ensures ready { IfOk result (λ ready. IsReadyFor shard.now agg.now ready) }
+{
+    prepare_within(alloc, shard, agg, 1)
+}
+
+/// Aggregations side by side, prepared for the shard: the children of buckets, of which any number may come, so that no codes are
+/// looked up in tables.
 pub fn prepare_all(
     alloc: Global,
     shard: &Shard,
@@ -118,7 +160,7 @@ pub fn prepare_all(
 {
     let mut all = List::new(alloc);
     for agg in aggs.as_slice() {
-        let ready = prepare(alloc, shard, agg)?;
+        let ready = prepare_within(alloc, shard, agg, u64::MAX)?;
         all.push(ready)?;
     }
     Ok(all)

@@ -23,6 +23,8 @@ pub enum ReadyKind {
 #[derive(Drop)]
 pub struct Ready {
     pub kind: ReadyKind,
+    /// How many codes from 0 on are looked up in a table, in each tree of the aggregation.
+    pub width: u32,
     /// What the children of a bucket cost before its first row, in bytes.
     pub child_bytes: u64,
     pub children: List<Ready>,

@@ -22,8 +22,8 @@ use Rattle.growing_tree.proofs.beginning.+begin.Goals as goal
 
 pub begin_trees-loop-place-init : goal.begin_trees-loop-place-init
 begin_trees-loop-place-init t c = record {
-  trees = λ shard. ap (decoded_children (map (decoded shard) c.args.ready.now)) c.new-trees.ensures.items ∙ decoded-nil (map (decoded shard) c.args.ready.now);
-  many = ap (λ (ns : List Node). length ns) c.new-trees.ensures.items;
+  trees = λ shard. ap (decoded_children (map (decoded shard) c.args.ready.now)) c.in_ok-trees.ensures.items ∙ decoded-nil (map (decoded shard) c.args.ready.now);
+  many = ap (λ (ns : List Node). length ns) c.in_ok-trees.ensures.items;
 }
 
 pub begin_trees-loop-place-preserved : goal.begin_trees-loop-place-preserved
@@ -59,9 +59,9 @@ begin_buckets-loop-alloc-preserved t c = record {
 begun-keyed : (shard : Columns) (r : Ready) (a : Agg) (codes : List ℤ) (gs : List Growing) → codes ≡ [] → empty_node a ≡ Keyed [] 0 0 0 → decoded shard r (Keyed (coded_buckets codes gs) 0 0 0) ≡ empty_node a
 begun-keyed shard r a codes gs none e = ap (λ cs. decoded shard r (Keyed (coded_buckets cs gs) 0 0 0)) none ∙ decoded-out shard r _ _ (out-Keyed [] 0 0 0) ∙ sym e
 
-pub begin-returns-in-Terms : goal.begin-returns-in-Terms
-begin-returns-in-Terms t c shard =
-    begun-keyed shard c.args.ready.now c.args.agg.now c.ordered.result c.new-in-Terms.result.items c.ordered.ensures
+pub begin-returns-in_ok-places-in-Terms : goal.begin-returns-in_ok-places-in-Terms
+begin-returns-in_ok-places-in-Terms t c shard =
+    begun-keyed shard c.args.ready.now c.args.agg.now c.in_ok-places-in-Terms.places c.new-in-Terms.result.items c.in_ok-places-in-Terms.ensures
     (⊎_elim (λ h. empty-level c.args.agg.now _ h.9) (⊎_elim (λ h. empty-level c.args.agg.now _ h.9) (λ h. empty-level c.args.agg.now _ h.3)) c.in-Terms.is)
 
 pub begin-returns-in-Sum : goal.begin-returns-in-Sum

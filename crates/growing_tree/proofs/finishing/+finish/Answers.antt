@@ -3,6 +3,9 @@ use Rattle.std.specs.Vec.Iter.{into_iter_items}
 use Rattle.std.proofs.lemmas.Int.{to_z-of_z}
 use Rattle.std.proofs.lemmas.Option.{slice_get-get_or}
 use Rattle.list_laws.proofs.Lists.{append-nil}
+use Rattle.std.specs.List.{IsDistinct}
+use Rattle.std.specs.Ordering.{int_eq}
+use Rattle.agg_model.specs.declared.aggregation.Agg.{out-Agg}
 use Rattle.agg_model.specs.declared.key.Key.TheVariants as key
 use Rattle.agg_model.specs.declared.partial.Bucket.{Bucket}
 use Rattle.agg_model.specs.declared.partial.Node.{Node}
@@ -13,11 +16,14 @@ use Rattle.terms_agg.specs.Trim.{trimmed}
 use Rattle.growing_tree.specs.Codes.{code_key}
 use Rattle.growing_tree.specs.Decoded.{decoded}
 use Rattle.growing_tree.specs.Finished.{finished_bucket, finished_children, finished_with}
-use Rattle.growing_tree.specs.Trees.{coded_buckets, level_node, numbered_buckets}
+use Rattle.growing_tree.specs.CodedBuckets.{coded_bucket}
+use Rattle.growing_tree.specs.Trees.{IsAligned, coded_buckets, level_node, numbered_buckets}
 use Rattle.growing_tree.specs.declared.ready.Ready.{out-Ready}
 use Rattle.growing_tree.proofs.AggSizes.{children_less, item-most}
-use Rattle.growing_tree.proofs.Cuts.{child-finished, coded-more, coded-none, drop-full, fixed-finished, keyed-finished, number-finished, numbered-more}
+use Rattle.growing_tree.proofs.Codes.{codes-own}
+use Rattle.growing_tree.proofs.Cuts.{child-finished, drop-full, fixed-finished, keyed-finished, number-finished, numbered-more}
 use Rattle.growing_tree.proofs.Levels.{children-ready, level-ready}
+use Rattle.growing_tree.proofs.Reordered.{by-code-first, finished-more}
 use Rattle.growing_tree.proofs.Steps.{item-at}
 use Rattle.growing_tree.proofs.finishing.+finish.Goals as goal
 
@@ -75,34 +81,25 @@ finish_children-returns t c =
           ∙ sym (λ j. nodes ++ finished_children shard (drop-full aggs place all j) (drop-full ready place both j) (drop-full left 0 none j)) ∙ c.loop-place.invariant.rest;
     })
 
-pub finish_keyed-loop-code-preserved : goal.finish_keyed-loop-code-preserved
-finish_keyed-loop-code-preserved t c =
+pub finish_coded-loop-coded-preserved : goal.finish_coded-loop-coded-preserved
+finish_coded-loop-coded-preserved t c =
     let shard = c.args.shard.now in
     let a = c.args.agg.now in
     let r = c.args.ready.now in
-    let codes = c.codes-code-items.result.now in
-    let i = c.loop-code.code-index in
-    let code = get_or codes i (pos 0) in
-    let done = c.loop-code.finished.items in
-    let bucket = c.in-Some.bucket in
+    let done = c.loop-coded.finished.items in
+    let coded = c.in-Some.coded in
     let next = into_iter_items c.next.new.self in
     let finish = finished_bucket shard a r in
-    let within : i < length codes = omega (arith, c.loop-code-test.true) in
-    let same : to_z w64 (of_z w64 code) ≡ code = to_z-of_z w64 code (search rules) in
-    let key_is : c.in_ok-key-in-Some.key ≡ code_key shard (out-Ready r).kind code = c.in_ok-key-in-Some.ensures ∙ ap (code_key shard (out-Ready r).kind) same in
-    ap (λ xs. xs ++ map finish (coded_buckets (drop (i + 1) codes) next)) (c.in_ok-push-in-Some.ensures.items ∙ ap (λ (b : Bucket). done ++ b ∷ []) (c.in_ok-finish_bucket-in-Some.ensures ∙ ap (λ k. finished_with shard a r k bucket) key_is))
-    ∙ coded-more shard a r done codes i code bucket next (slice_get-get_or codes i (pos 0) within)
-    ∙ ap (λ gs. done ++ map finish (coded_buckets (drop i codes) gs)) (sym c.in-Some.ensures.items) ∙ c.loop-code.invariant
-
-pub finish_keyed-returns-in-None : goal.finish_keyed-returns-in-None
-finish_keyed-returns-in-None t c =
-    let codes = c.codes-code-items.result.now in
-    let done = c.loop-code.finished.items in
-    let finish = finished_bucket c.args.shard.now c.args.agg.now c.args.ready.now in
-    let left = into_iter_items c.loop-code.left in
-    let none : length left ≤ 0 = omega (arith, c.in-None.ensures.cases, c.loop-code.left.rest.ok) in
-    let over : coded_buckets (drop c.loop-code.code-index codes) left ≡ [] = ap (coded_buckets (drop c.loop-code.code-index codes)) (drop-full left 0 none) ∙ coded-none (drop c.loop-code.code-index codes) in
-    sym (append-nil done) ∙ sym (ap (λ bs. done ++ map finish bs) over) ∙ c.loop-code.invariant ∙ ap (λ cs. map finish (coded_buckets cs c.args.keyed.buckets.items)) c.codes-code-items.ensures.codes
+    let kind = (out-Ready r).kind in
+    let same : to_z w64 (of_z w64 coded.code) ≡ coded.code = to_z-of_z w64 coded.code (search rules) in
+    let key_is : c.in_ok-key.key ≡ code_key shard kind coded.code = c.in_ok-key.ensures ∙ ap (code_key shard kind) same in
+    (record {
+      next = tt;
+      finite = tt;
+      rest =
+          ap (λ xs. xs ++ map finish (map coded_bucket next)) (c.in_ok-push.ensures.items ∙ ap (λ (b : Bucket). done ++ b ∷ []) (c.in_ok-finish_bucket.ensures ∙ ap (λ k. finished_with shard a r k coded.bucket) key_is))
+          ∙ finished-more shard a r done coded.code coded.bucket next ∙ ap (λ cs. done ++ map finish (map coded_bucket cs)) (sym c.in-Some.ensures.steps.0) ∙ c.loop-coded.invariant.rest;
+    })
 
 pub finish_fixed-loop-bucket-preserved : goal.finish_fixed-loop-bucket-preserved
 finish_fixed-loop-bucket-preserved t c =
@@ -126,8 +123,8 @@ pub finish_bucket-finish_children-requires : goal.finish_bucket-finish_children-
 finish_bucket-finish_children-requires t c =
     (omega (arith, c.decreases, children_less c.args.agg.now), (children-ready c.args.shard.now c.args.agg.now c.args.ready.now c.requires.ready, c.requires.built))
 
-pub finish_keyed-key_of_code-requires : goal.finish_keyed-key_of_code-requires
-finish_keyed-key_of_code-requires t c = let h = (level-ready c.args.shard.now c.args.agg.now c.args.ready.now c.requires.ready).kind in record { ready = h }
+pub finish_coded-key_of_code-requires : goal.finish_coded-key_of_code-requires
+finish_coded-key_of_code-requires t c = let h = (level-ready c.args.shard.now c.args.agg.now c.args.ready.now c.requires.ready).kind in record { ready = h }
 
 pub finish-returns-in_ok-buckets-in-Keyed : goal.finish-returns-in_ok-buckets-in-Keyed
 finish-returns-in_ok-buckets-in-Keyed t c =
@@ -136,9 +133,15 @@ finish-returns-in_ok-buckets-in-Keyed t c =
     let shard = c.args.shard.now in
     let keyed = c.in-Keyed.keyed in
     let bs = coded_buckets keyed.places keyed.buckets.items in
+    let finish = finished_bucket shard a r in
+    let own = codes-own shard (out-Agg a).kind (out-Ready r).kind (level-ready shard a r c.requires.ready).kind in
+    let distinct : IsDistinct int_eq keyed.places = (subst IsAligned c.in-Keyed.is c.tree.invariant).distinct in
     let tree_is : Keyed bs 0 0 0 ≡ c.args.tree = sym (ap level_node c.in-Keyed.is) ∙ c.tree.view_is in
+    let sorted_is : sorted_by_key c.in_ok-buckets-in-Keyed.buckets.items ≡ sorted_by_key (map finish bs) =
+    ap sorted_by_key (c.in_ok-buckets-in-Keyed.ensures ∙ ap (λ cs. map finish (map coded_bucket cs)) c.in_ok-sort_by_code-in-Keyed.ensures)
+    ∙ by-code-first shard a r own keyed.places keyed.buckets.items c.in_ok-coded-in-Keyed.coded.items distinct c.in_ok-coded-in-Keyed.ensures in
     let is : trimmed a (Keyed (sorted_by_key c.in_ok-buckets-in-Keyed.buckets.items) 0 0 0) ≡ cut_tree a (decoded shard r c.args.tree) =
-    ap (λ xs. trimmed a (Keyed (sorted_by_key xs) 0 0 0)) c.in_ok-buckets-in-Keyed.ensures ∙ sym (keyed-finished shard a r bs) ∙ ap (λ n. cut_tree a (decoded shard r n)) tree_is in
+    ap (λ xs. trimmed a (Keyed xs 0 0 0)) sorted_is ∙ sym (keyed-finished shard a r bs) ∙ ap (λ n. cut_tree a (decoded shard r n)) tree_is in
     record { node = subst (λ (m : Node). IfOk c.finish_level.result (λ n. n ≡ m)) is c.finish_level.ensures }
 
 pub finish-returns-in_ok-finish_fixed-in-Fixed : goal.finish-returns-in_ok-finish_fixed-in-Fixed

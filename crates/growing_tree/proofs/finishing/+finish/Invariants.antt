@@ -1,7 +1,8 @@
 use Rattle.std.proofs.Common.{◌≡◌, ◌+◌, ◌++◌, length, map, drop}
 use Rattle.std.specs.Vec.Iter.{into_iter_items}
 use Rattle.growing_tree.specs.Finished.{finished_bucket, finished_children}
-use Rattle.growing_tree.specs.Trees.{coded_buckets, numbered_buckets}
+use Rattle.growing_tree.specs.CodedBuckets.{coded_bucket}
+use Rattle.growing_tree.specs.Trees.{numbered_buckets}
 use Rattle.growing_tree.proofs.finishing.+finish.Given as goal
 
 -- the nodes so far, and then those of the trees that are left
@@ -12,8 +13,12 @@ invariant-finish_children-loop-place l = record {
 }
 
 -- the buckets so far, and then those of the codes that are left
-abbrev pub invariant-finish_keyed-loop-code : goal.invariant-finish_keyed-loop-code
-invariant-finish_keyed-loop-code l = l.finished.items ++ map (finished_bucket l.shard l.agg l.ready) (coded_buckets (drop l.code-index l.code-items) (into_iter_items l.left)) ≡ map (finished_bucket l.shard l.agg l.ready) (coded_buckets l.code-items l.fn.keyed.buckets.items)
+abbrev pub invariant-finish_coded-loop-coded : goal.invariant-finish_coded-loop-coded
+invariant-finish_coded-loop-coded l = record {
+  next : (goal.iterator-finish_coded-loop-coded).can_next l.coded-iterator;
+  finite : (goal.iterator-finish_coded-loop-coded).is_finite l.coded-iterator;
+  rest : l.finished.items ++ map (finished_bucket l.shard l.agg l.ready) (map coded_bucket (into_iter_items l.coded-iterator)) ≡ map (finished_bucket l.shard l.agg l.ready) (map coded_bucket l.fn.buckets.items);
+}
 
 -- the buckets so far, and then those that are left
 abbrev pub invariant-finish_fixed-loop-bucket : goal.invariant-finish_fixed-loop-bucket

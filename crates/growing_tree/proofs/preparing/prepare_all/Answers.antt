@@ -7,8 +7,8 @@ use Rattle.growing_tree.specs.declared.ready.Ready.{Ready}
 use Rattle.growing_tree.proofs.ReadyLaws.{ready-more}
 use Rattle.growing_tree.proofs.preparing.prepare_all.Goals as goal
 
-pub prepare-requires-clause-made : goal.prepare-requires-clause-made
-prepare-requires-clause-made c =
+pub prepare_within-requires-clause-made : goal.prepare_within-requires-clause-made
+prepare_within-requires-clause-made c =
     let i = c.loop-agg.agg-index in
     let agg = c.agg-item.result in
     let aggs = c.as_slice-agg-items.ensures in

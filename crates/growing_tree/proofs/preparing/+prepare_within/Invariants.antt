@@ -1,17 +1,18 @@
 use Rattle.std.proofs.Common.{◌≡◌, length, map, take}
 use Rattle.std.specs.Prelude.{sum_by}
-use Rattle.agg_model.specs.declared.aggregation.Agg.{size-Agg}
+use Rattle.agg_model.specs.declared.aggregation.Agg.{out-Agg, size-Agg}
 use Rattle.agg_evaluation.specs.Cost.{node_cost}
 use Rattle.agg_evaluation.specs.Whole.{empty_node}
-use Rattle.growing_tree.specs.Readiness.{AreReadyFor}
-use Rattle.growing_tree.proofs.preparing.+prepare.Given as goal
+use Rattle.growing_tree.specs.Readiness.{AreReadyFor, IsKindReady}
+use Rattle.growing_tree.proofs.preparing.+prepare_within.Given as goal
 
 abbrev pub invariant-loop-child : goal.invariant-loop-child
 invariant-loop-child l = record {
+  kind : IsKindReady l.shard (out-Agg l.agg).kind l.kind;
   ready : AreReadyFor l.shard (take l.child-index l.child-items) l.children;
   many : length l.children ≡ l.child-index;
   bytes : l.child_bytes ≡ sum_by node_cost (map empty_node (take l.child-index l.child-items));
 }
 
-abbrev pub decreases-prepare : goal.decreases-prepare
-decreases-prepare l = size-Agg l.agg.now
+abbrev pub decreases-prepare_within : goal.decreases-prepare_within
+decreases-prepare_within l = size-Agg l.agg.now

@@ -9,10 +9,10 @@ use Rattle.growing_tree.specs.Readiness.{AreReadyFor}
 use Rattle.growing_tree.specs.declared.ready.Ready.{Ready}
 use Rattle.growing_tree.proofs.Levels.{level-ready}
 use Rattle.growing_tree.proofs.ReadyLaws.{bytes-more, child-smaller, made-ready, ready-more}
-use Rattle.growing_tree.proofs.preparing.+prepare.Goals as goal
+use Rattle.growing_tree.proofs.preparing.+prepare_within.Goals as goal
 
-pub prepare-requires : goal.prepare-requires
-prepare-requires t c =
+pub prepare_within-requires : goal.prepare_within-requires
+prepare_within-requires t c =
     let agg = c.args.agg.now in
     let i = c.loop-child.child-index in
     let child = c.child-item.result in
@@ -32,6 +32,7 @@ loop-child-preserved t c =
     let before = c.loop-child.invariant in
     let pushed = c.in_ok-push.ensures.ok in (
     record {
+      kind = before.kind;
       ready = ready-more c.args.shard.now items i child c.loop-child.children c.push.new.self c.in_ok-ready.ready c.loop-child-test.true c.child-item.is before.many pushed before.ready c.in_ok-ready.ensures.ready;
       many =
           let grown = ap (λ (rs : List Ready). length rs) pushed in
@@ -52,7 +53,7 @@ returns t c =
     let items = c.as_slice-child-items.result.now in
     let all = take_all c.loop-child.child-index items c.loop-child-test.false ∙ c.as_slice-child-items.ensures in
     record {
-      ready = made-ready shard c.args.agg.now (record { kind = c.in_ok-kind.kind; child_bytes = c.loop-child.child_bytes; children = c.loop-child.children }) c.in_ok-kind.ensures
+      ready = made-ready shard c.args.agg.now (record { kind = c.loop-child.kind-1; width = c.table_width-width.result; child_bytes = c.loop-child.child_bytes; children = c.loop-child.children }) c.loop-child.invariant.kind
           (c.loop-child.invariant.bytes ∙ ap (λ (xs : List Agg). sum_by node_cost (map empty_node xs)) all)
           (omega (arith, c.loop-child.invariant.many, c.loop-child-test.false, c.loop-child.auto.child-index-end, ap (λ (xs : List Agg). length xs) c.as_slice-child-items.ensures))
           (subst (λ (xs : List Agg). AreReadyFor shard xs c.loop-child.children) all c.loop-child.invariant.ready);

@@ -1,0 +1,43 @@
+//! Buckets that have all their rows, with the codes of their keys.
+ghost use Rattle.std.specs.Prelude.{◌≡◌, IfOk, OnOk, map};
+ghost use Rattle.list_laws.specs.Sorting.{sorted};
+ghost use Rattle.growing_tree.specs.CodedBuckets.{by_code, coded_bucket};
+ghost use Rattle.growing_tree.specs.Trees.{coded_buckets};
+
+use crate::tree::{Growing, Keyed};
+use std::alloc::{AllocError, Global};
+
+/// A bucket, and the code that stands for its key.
+#[derive(Drop)]
+pub(crate) struct Coded {
+    pub(crate) code: i64,
+    pub(crate) bucket: Growing,
+}
+
+/// The buckets with their codes, in the order in which those came.
+pub(crate) fn with_codes(alloc: Global, keyed: Keyed) -> Result<Vec<Coded>, AllocError>
+    ensures { IfOk result (λ coded. map coded_bucket coded.items ≡ coded_buckets keyed.places keyed.buckets.items) }
+{
+    let Keyed { places, buckets } = keyed;
+    let mut coded = Vec::with_capacity(alloc, buckets.len())?;
+    let mut left = buckets.into_iter();
+    for code in places.codes() {
+        match left.next() {
+            Some(bucket) => {
+                coded.push(Coded {
+                    code: *code,
+                    bucket,
+                })?;
+            }
+            None => return Ok(coded),
+        }
+    }
+    Ok(coded)
+}
+
+/// Puts buckets in ascending order of their codes.
+pub(crate) fn sort_by_code(buckets: &mut Vec<Coded>) -> Result<(), AllocError>
+    ensures { OnOk result (buckets.new.items ≡ sorted by_code buckets.old.items) }
+{
+    buckets.sort_by(|a, b| a.code.cmp(&b.code))
+}
