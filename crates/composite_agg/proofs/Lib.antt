@@ -12,3 +12,4 @@ pub mod Swapped
 pub mod InRuns
 pub mod RunOrder
 pub mod RunSteps
+mod PageExample

@@ -5,3 +5,4 @@ pub mod Pages
 pub mod FirstPages
 pub mod PageCodes
 pub mod Runs
+pub mod PageExample
