@@ -4,4 +4,4 @@ mod Unread
 mod Outputs
 mod Loaded
 mod Unloaded
-mod WholeRuns
+pub mod WholeRuns

@@ -1,4 +1,5 @@
-use Rattle.std.proofs.Common.{inl, inr, refl, Result, Ok, Err, ⊤}
+use Rattle.std.specs.Prelude.{⊤, Result, Ok, Err}
+use Rattle.std.proofs.Common.{inl, inr, refl}
 use Rattle.script_answers.proofs.Putting.{same-bytes}
 use Rattle.script_answers.specs.declared.stop.Stop.{Stop}
 use Rattle.script_answers.specs.declared.stop.Stop.TheVariants as stop
