@@ -5,5 +5,5 @@
 mod arguments;
 mod running;
 
-pub use running::{run, run_arguments};
+pub use running::{Ended, run, run_arguments};
 pub use script_run::Status;

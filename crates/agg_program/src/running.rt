@@ -1,8 +1,7 @@
 //! The top call.
-ghost use Rattle.std.specs.Prelude.{◌≡◌, ℕ, List as Items, Some, None, IfOk, IsErr, Ok, false};
+ghost use Rattle.std.specs.Prelude.{◌≡◌, ℕ, List as Items, Some, None, IfOk, IfSome, IfNone, IsNone, IsErr, Ok, false};
 ghost use Rattle.std.specs.Io.KnownBytes.{IsAtEnd};
 ghost use Rattle.agg_base.specs.Outside.{Rose};
-ghost use Rattle.agg_listen.specs.Hearing.{Hearing};
 ghost use Rattle.agg_model.specs.declared.settings.Settings.{Settings};
 ghost use Rattle.agg_program.specs.Arguments.{words_given};
 ghost use Rattle.agg_program.specs.Listening.{alone};
@@ -70,8 +69,18 @@ fn prepare<L: Listener>(
     Ok((words, Audience::new(listeners)))
 }
 
+/// How a run with the system's words ended.
+#[derive(Drop)]
+pub struct Ended<L: Listener> {
+    /// The exit status of the process, as `run` answers it.
+    pub status: u8,
+    /// The listener, as the run left it, unless it left while it was told; absent where there was no memory for the words.
+    pub audience: Option<Audience<L>>,
+}
+
 /// Runs the program with the words that the system tells, over a source and a sink, and answers its exit status, as `run` does.
-/// Words that are not text are outside the grammar. Where the system had no memory for them, the status is 7.
+/// Words that are not text are outside the grammar. Where there was no memory for the words, nothing is read or written, and the
+/// status is 7.
 ///
 /// The listener is told of each answer to a search once its line was written whole.
 pub fn run_arguments<S: Source, K: Sink, L: Listener>(
@@ -80,22 +89,39 @@ pub fn run_arguments<S: Source, K: Sink, L: Listener>(
     source: &mut S,
     sink: &mut K,
     listener: L,
-) -> u8
+) -> Ended<L>
+    // What was written and read, and what the listener heard.
     ensures output { (words : Items (Items ℕ)) (input before : Items ℕ) → words_given arguments ≡ Some words →
-        S.left source.old ≡ Some input → K.written sink.old ≡ Some before → (heard : Hearing) × Runs false words input (S.left source.new) result
-        (so_far (Some before) (alone (L.standing listener))) (so_far (K.written sink.new) heard) }
-    ensures memory { words_given arguments ≡ None → result ≡ 7 }
+        S.left source.old ≡ Some input → K.written sink.old ≡ Some before →
+        IfSome result.audience (λ heard. Runs false words input (S.left source.new) result.status
+        (so_far (Some before) (alone (L.standing listener))) (so_far (K.written sink.new) heard)) }
+
+    // Where there was no memory for the words.
+    ensures no_words { words_given arguments ≡ None → IsNone result.audience }
+    ensures memory { IfNone result.audience (result.status ≡ 7) }
+    ensures unread { IfNone result.audience (S.left source.new ≡ S.left source.old) }
+    ensures unwritten { IfNone result.audience (K.written sink.new ≡ K.written sink.old) }
 
     // Why each status comes.
-    ensures finished { result ≡ 0 → (words : Items (Items ℕ)) → words_given arguments ≡ Some words → (settings : Settings) →
+    ensures finished { result.status ≡ 0 → (words : Items (Items ℕ)) → words_given arguments ≡ Some words → (settings : Settings) →
         settings_of false words ≡ Ok settings → settings.generate ≡ None → IsAtEnd (S.left source.new) }
-    ensures usage { result ≡ 2 → (words : Items (Items ℕ)) → words_given arguments ≡ Some words → IsErr (settings_of false words) }
-    ensures refused { (words : Items (Items ℕ)) → words_given arguments ≡ Some words → IsErr (settings_of false words) → IsOfRefusedWords result }
-    ensures read_fault { result ≡ 3 → Rose (S.faults source.old) (S.faults source.new) }
-    ensures write_fault { result ≡ 4 → Rose (K.faults sink.old) (K.faults sink.new) }
+    ensures usage { result.status ≡ 2 → (words : Items (Items ℕ)) → words_given arguments ≡ Some words → IsErr (settings_of false words) }
+    ensures refused { (words : Items (Items ℕ)) → words_given arguments ≡ Some words → IsErr (settings_of false words) →
+        IsOfRefusedWords result.status }
+    ensures read_fault { result.status ≡ 3 → Rose (S.faults source.old) (S.faults source.new) }
+    ensures write_fault { result.status ≡ 4 → Rose (K.faults sink.old) (K.faults sink.new) }
 {
     match prepare(alloc, arguments, listener) {
-        Ok((words, mut audience)) => run(alloc, words.as_slice(), source, sink, &mut audience),
-        Err(AllocError) => Status::Memory.code(),
+        Ok((words, mut audience)) => {
+            let status = run(alloc, words.as_slice(), source, sink, &mut audience);
+            Ended {
+                status,
+                audience: Some(audience),
+            }
+        }
+        Err(AllocError) => Ended {
+            status: Status::Memory.code(),
+            audience: None,
+        },
     }
 }

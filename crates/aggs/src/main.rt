@@ -8,11 +8,12 @@ use std::env;
 use std::process::ExitCode;
 
 fn main(rt: HostRuntime) -> ExitCode {
-    ExitCode::from(run_arguments(
+    let ended = run_arguments(
         rt.alloc(),
         env::args(&rt),
         &mut StdSource::new(rt.stdin()),
         &mut StdSink::new(rt.stdout()),
         LargeAnswers::new(rt.stderr()),
-    ))
+    );
+    ExitCode::from(ended.status)
 }

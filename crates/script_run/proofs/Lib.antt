@@ -4,4 +4,4 @@ mod Unread
 mod Outputs
 mod Loaded
 mod Unloaded
-pub mod WholeRuns
+mod WholeRuns
