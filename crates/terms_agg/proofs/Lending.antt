@@ -3,7 +3,6 @@ use Rattle.std.proofs.Common.{◌≡◌, refl, ℕ, ◌<◌, zero, suc, Bool, tr
 use Rattle.std.specs.Prelude.{option_map}
 use Rattle.std.specs.List.{slice_get, list_all}
 use Rattle.std.proofs.lemmas.Bool.{and_parts, and_from, lt-ltb}
-use Rattle.std.proofs.lemmas.List.{length-map}
 use Rattle.std.proofs.lemmas.Option.{slice_get-map}
 use Rattle.agg_model.specs.declared.key.Key.{Key}
 use Rattle.agg_model.specs.declared.key.Key.TheVariants as key
@@ -83,8 +82,3 @@ module _ (shard : Columns) (field row : ℕ) (values : RowValues) (lent : AreLen
       ∙ (ap (λ (ks : List Key). slice_get ks place) (sym lent.keys)
       ∙ (slice_get-map (key_at (content_in shard field) (words_of field shard.rows)) (codes_in values) place
       ∙ ap (option_map (key_at (content_in shard field) (words_of field shard.rows))) is))
-
-  pub lent-count : length (codes_in values) ≡ length (values_of field (row_of shard.rows row))
-  lent-count =
-      sym (length-map (codes_in values) (key_at (content_in shard field) (words_of field shard.rows)))
-      ∙ (ap length lent.keys ∙ length-map (values_of field (row_of shard.rows row)) scalar_key)
