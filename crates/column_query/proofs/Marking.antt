@@ -5,7 +5,6 @@ use Rattle.std.specs.List.{list_any, slice_get}
 use Rattle.std.specs.Ordering.{is_eq, int_cmp}
 use Rattle.std.proofs.lemmas.Bool.{cases_lt, cases_order}
 use Rattle.std.proofs.lemmas.List.{get_or_past, get_or-replicate, length-replicate, get_or-set_same, get_or-set_other}
-use Rattle.std.proofs.lemmas.Option.{slice_get_within}
 use Rattle.list_laws.proofs.Booleans.{or_comm}
 use Rattle.agg_model.specs.declared.query.Probe.{Probe}
 use Rattle.agg_model.specs.declared.query.Probe.TheVariants as probe
@@ -47,8 +46,8 @@ marked-more marks o (pos n) low = elim (cases_order n o) [
 ]
 marked-more marks o x low = refl
 
-pub AddsMark-some : (marks : List Bool) (o : ℕ) → o < length marks → AddsMark marks (Some o) (set marks o true)
-AddsMark-some marks o low = record { same = λ x. marked-more marks o x low }
+pub AddsMark-some : (marks : List Bool) (n : ℤ) (o : ℕ) → n ≡ pos o → o < length marks → AddsMark marks (Some n) (set marks o true)
+AddsMark-some marks n o is low = record { same = λ x. marked-more marks o x low ∙ ap (λ (m : ℤ). is_number (Some m) x || is_marked marks x) (sym is) }
 
 pub AddsMark-none : (marks : List Bool) → AddsMark marks None marks
 AddsMark-none marks = record { same = λ x. refl }
@@ -57,9 +56,9 @@ module _ (rows : List PlacedRow) (field : ℕ) where
   pub MarkAll-none : (count : ℕ) → MarkAll rows field [] (replicate count false)
   MarkAll-none count = record { same = λ v held. no-marks count (number_of (words_of field rows) v) }
 
-  pub MarkAll-more : (probes : List Probe) (n : ℕ) (probe : Probe) (place : Option ℕ) (old new : List Bool) → n < length probes → probe ≡ get_or probes n probe →
-      StandsFor rows field probe (option_map pos place) → AddsMark old place new → MarkAll rows field (take n probes) old → MarkAll rows field (take (n + 1) probes) new
-  MarkAll-more probes n probe place old new below is stands adds before = record {
+  pub MarkAll-more : (probes : List Probe) (n : ℕ) (probe : Probe) (number : Option ℤ) (old new : List Bool) → n < length probes → probe ≡ get_or probes n probe →
+      StandsFor rows field probe number → AddsMark old number new → MarkAll rows field (take n probes) old → MarkAll rows field (take (n + 1) probes) new
+  MarkAll-more probes n probe number old new below is stands adds before = record {
     same = λ v held.
         adds.same (number_of (words_of field rows) v) ∙ ((λ i. stands.same v held i || before.same v held i)
         ∙ (or_comm (key_eq (scalar_key v) (probe_key probe)) (list_any (λ p. key_eq (scalar_key v) (probe_key p)) (take n probes))
@@ -71,7 +70,3 @@ module _ (rows : List PlacedRow) (field : ℕ) where
       StandsFor rows field (probe.Word w) (option_map pos place)
   word-stands w (Some k) found absent holds = ordered-stands rows field (probe.Word w) (pos k) (word-ordered rows field w k found holds)
   word-stands w None found absent holds = absent-stands rows field w absent holds
-
-  pub place-known : (w : List ℕ) (place : Option ℕ) → IfSome place (λ k. slice_get (words_of field rows) k ≡ Some w) → IfSome place (λ k. k < length (words_of field rows))
-  place-known w (Some k) found = slice_get_within (words_of field rows) k w found
-  place-known w None found = found

@@ -1,5 +1,5 @@
 -- What a prepared query says of a row.
-use Rattle.std.specs.Prelude.{◌≡◌, ℕ, ◌+◌, Bool, true, false, not, ◌&&◌, ◌||◌, Option, Vec, List, [], ◌∷◌, length, filter, map, nat_le, nat_lt, ℤ, pos, option_map, slice_index_or}
+use Rattle.std.specs.Prelude.{◌≡◌, ℕ, ◌+◌, Bool, true, false, not, ◌&&◌, ◌||◌, Option, Vec, List, [], ◌∷◌, length, filter, map, nat_le, nat_lt, ℤ, pos, slice_index_or}
 use Rattle.std.specs.List.{list_any, list_all}
 use Rattle.std.specs.Ordering.{nat_cmp, int_cmp, is_eq}
 use Rattle.std.specs.Cmp.Lexicographic.{slice_cmp}
@@ -30,7 +30,7 @@ is_among numbers x = list_any (λ n. is_eq (int_cmp x n)) numbers
 abbrev pub within_all : List Bound → ℤ → Bool
 within_all bounds x = list_all (λ bound. within bound x) bounds
 
--- whether the place with this number is marked
+-- whether the number is marked, of those from 0 on
 abbrev pub is_marked : List Bool → ℤ → Bool
 is_marked marks (pos n) = slice_index_or marks n false
 is_marked marks _ = false
@@ -85,13 +85,13 @@ reads_below n = fold_prepared (reads_below_at n)
 pub record StandForAll (rows : List PlacedRow) (field : ℕ) (probes : List Probe) (numbers : List ℤ) : Type 0 where
   pub same : (v : Scalar) → IsHeld rows field v → is_among numbers (number_of (words_of field rows) v) ≡ list_any (λ probe. key_eq (scalar_key v) (probe_key probe)) probes
 
--- the marks stand for the probes among the values of the field, whose places they are on
+-- the marks stand for the probes among the values of the field
 pub record MarkAll (rows : List PlacedRow) (field : ℕ) (probes : List Probe) (marks : List Bool) : Type 0 where
   pub same : (v : Scalar) → IsHeld rows field v → is_marked marks (number_of (words_of field rows) v) ≡ list_any (λ probe. key_eq (scalar_key v) (probe_key probe)) probes
 
--- the place, if there is one, is marked besides the others
-pub record AddsMark (old : List Bool) (place : Option ℕ) (new : List Bool) : Type 0 where
-  pub same : (x : ℤ) → is_marked new x ≡ (is_number (option_map pos place) x || is_marked old x)
+-- the number, if there is one, is marked besides the others
+pub record AddsMark (old : List Bool) (number : Option ℤ) (new : List Bool) : Type 0 where
+  pub same : (x : ℤ) → is_marked new x ≡ (is_number number x || is_marked old x)
 
 -- the test stands for a list of values of the field
 pub record TestsFor (rows : List PlacedRow) (field : ℕ) (probes : List Probe) (test : NumberTest) : Type 0 where

@@ -1,17 +1,15 @@
 // The numbers that stand for the values that a query asks for.
-ghost use Rattle.std.specs.Prelude.{◌<◌, length, pos, option_map, IfSome};
-ghost use Rattle.shard_columns.specs.Dictionary.{words_of};
+ghost use Rattle.std.specs.Prelude.{◌<◌, length, pos, option_map};
 ghost use Rattle.column_query.specs.Numbers.{StandsFor, Holds};
 
 use crate::content::{Content, content_of_field};
 use agg_model::Probe;
 use shard_columns::Shard;
 
-/// The place of a word that a query asks for, in the dictionary of a field of words; none where no row has it.
-pub fn place_of_probe(shard: &Shard, field: u32, probe: &Probe) -> Option<u32>
+// The place of a word that a query asks for, in the dictionary of a field of words; none where no row has it.
+fn place_of_probe(shard: &Shard, field: u32, probe: &Probe) -> Option<u32>
     requires { Holds shard.now.rows field Content.Words }
-    ensures stands { StandsFor shard.now.rows field probe.now (option_map pos result) }
-    ensures known { IfSome result (λ place. place < length (words_of field shard.now.rows)) }
+    ensures { StandsFor shard.now.rows field probe.now (option_map pos result) }
 {
     match probe {
         Probe::Word(word) => shard.find_word(field, word.as_str().as_bytes()),

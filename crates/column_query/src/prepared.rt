@@ -20,7 +20,7 @@ pub enum NumberTest {
     /// This number; none where no row has the value.
     Is(Option<i128>),
     OneOf(BTreeSet<i128>),
-    /// A place of the field's dictionary that is marked.
+    /// One of those from 0 on that are marked.
     Marked(Vec<bool>),
     /// All of these bounds allow it.
     Within(Vec<Bound>),
@@ -59,8 +59,8 @@ fn is_among(numbers: &BTreeSet<i128>, number: i128) -> bool
     numbers.contains(&number)
 }
 
-// The place with this number, of so many.
-fn place_below(number: i128, places: usize) -> Option<usize>
+/// The place with this number, of so many.
+pub(crate) fn place_below(number: i128, places: usize) -> Option<usize>
     ensures within { IfSome result (λ n. n < places) }
     ensures number { IfSome result (λ n. number ≡ pos n) }
     ensures outside { IfNone result ((n : ℕ) → n < places → number ≡ pos n → ⊥) }

@@ -1,15 +1,14 @@
 //! Preparing a query for a shard.
-ghost use Rattle.std.specs.Prelude.{◌≡◌, ◌<◌, length, true, IfOk, IfSome, OnOk};
+ghost use Rattle.std.specs.Prelude.{◌≡◌, ◌<◌, length, true, IfOk, IfSome, IsTrue, OnOk};
 ghost use Rattle.std.specs.List.{list_all};
 ghost use Rattle.column_query.specs.Made.{IsMade};
-ghost use Rattle.column_query.specs.Numbers.{Holds};
 ghost use Rattle.column_query.specs.Prepared.{AddsNumber, AddsMark, StandForAll, MarkAll, TestsFor, BoundAsAll, HasIds, IsReady, AreReady};
 ghost use Rattle.agg_evaluation.specs.Conditions.{looks_below};
 
 use crate::bounds::{Bound, bound_of};
 use crate::content::{Content, content_of_field};
-use crate::numbers::{number_of_probe, place_of_probe};
-use crate::prepared::{NumberTest, Prepared};
+use crate::numbers::number_of_probe;
+use crate::prepared::{NumberTest, Prepared, place_below};
 use agg_model::{Boxed, List, Probe, Query, RangeTest, Text};
 use shard_columns::Shard;
 use std::alloc::{AllocError, Global};
@@ -40,36 +39,47 @@ fn numbers_of(
     Ok(numbers)
 }
 
-fn mark(marks: &mut Vec<bool>, place: Option<u32>)
-    requires { IfSome place (λ n. n < length marks.old.items) }
+// Marks the number, if there is one; false where it has no mark, and then nothing is marked.
+fn mark(marks: &mut Vec<bool>, number: Option<i128>) -> bool
     ensures size { length marks.new.items ≡ length marks.old.items }
-    ensures adds { AddsMark marks.old.items place marks.new.items }
+    ensures adds { IsTrue result → AddsMark marks.old.items number marks.new.items }
 {
-    if let Some(place) = place {
-        marks[place as usize] = true;
+    match number {
+        Some(number) => match place_below(number, marks.len()) {
+            Some(place) => {
+                marks[place] = true;
+                true
+            }
+            None => false,
+        },
+        None => true,
     }
 }
 
-// A mark for each word of the field, set at those that are asked for.
+// A mark for each number from 0 to below `width`, set at those that are asked for; none where one of them lies elsewhere.
 fn marks_of(
     alloc: Global,
     shard: &Shard,
     field: u32,
     probes: &[Probe],
-) -> Result<Vec<bool>, AllocError>
-    requires { Holds shard.now.rows field Content.Words }
-    ensures { IfOk result (λ marks. MarkAll shard.now.rows field probes.now marks.items) }
+    width: usize,
+) -> Result<Option<Vec<bool>>, AllocError>
+    requires { field < length shard.now.kinds }
+    ensures { IfOk result (λ found. IfSome found (λ marks. MarkAll shard.now.rows field probes.now marks.items)) }
 {
-    let mut marks = vec![in alloc; false; shard.words(field) as usize]?;
+    let mut marks = vec![in alloc; false; width]?;
     for probe in probes {
-        mark(&mut marks, place_of_probe(shard, field, probe));
+        if !mark(&mut marks, number_of_probe(shard, field, probe)) {
+            return Ok(None);
+        }
     }
-    Ok(marks)
+    Ok(Some(marks))
 }
 
-// For each value of a list so many words may be marked: a shorter list is a set, so that memory stays in proportion to the query.
-const WORDS_FOR_EACH: usize = 128;
+// So many numbers may be marked for each value of a list, so that memory stays in proportion to the query.
+const NUMBERS_FOR_EACH: usize = 128;
 
+// Numbers near 0, as places of dictionaries are, are marked; others are a set.
 fn list_test(
     alloc: Global,
     shard: &Shard,
@@ -79,11 +89,14 @@ fn list_test(
     requires { field < length shard.now.kinds }
     ensures { IfOk result (λ test. TestsFor shard.now.rows field probes.now test) }
 {
-    match content_of_field(shard, field) {
-        Content::Words if shard.words(field) as usize / WORDS_FOR_EACH < probes.len() => {
-            Ok(NumberTest::Marked(marks_of(alloc, shard, field, probes)?))
-        }
-        _ => Ok(NumberTest::OneOf(numbers_of(alloc, shard, field, probes)?)),
+    let most = probes.len().saturating_mul(NUMBERS_FOR_EACH);
+    let width = match content_of_field(shard, field) {
+        Content::Words => most.min(shard.words(field) as usize),
+        Content::Wholes | Content::Flags => most,
+    };
+    match marks_of(alloc, shard, field, probes, width)? {
+        Some(marks) => Ok(NumberTest::Marked(marks)),
+        None => Ok(NumberTest::OneOf(numbers_of(alloc, shard, field, probes)?)),
     }
 }
 

@@ -1,84 +1,33 @@
 -- Codes of the values that rows have, and the keys that they stand for.
-use Rattle.std.proofs.Common.{◌≡◌, refl, ℕ, ◌<◌, zero, suc, Bool, true, false, List, [], ◌∷◌, ◌++◌, ◌⊎◌, inl, inr, length, Option, Some, None, sym, ◌∙◌, ap, arith, ℤ, pos, length-append}
-use Rattle.std.specs.Prelude.{option_map, option_to_list}
-use Rattle.std.specs.List.{slice_get, list_all}
-use Rattle.std.proofs.lemmas.Bool.{and_parts, lt-ltb}
+use Rattle.std.proofs.Common.{◌≡◌, refl, ℕ, ◌<◌, zero, suc, true, List, [], ◌∷◌, ◌++◌, ◌⊎◌, inl, inr, length, Option, Some, None, sym, ◌∙◌, ap, arith, ℤ, pos, length-append}
+use Rattle.std.specs.Prelude.{option_to_list}
+use Rattle.std.specs.List.{slice_get}
+use Rattle.std.proofs.lemmas.Bool.{lt-ltb}
 use Rattle.std.proofs.Math.Seq.{get_or-append_seam}
 use Rattle.std.proofs.lemmas.List.{get_or_append_left}
-use Rattle.std.proofs.lemmas.Option.{slice_get-map, slice_get-get_or, slice_get_within, get_or_from_slice_get}
+use Rattle.std.proofs.lemmas.Option.{slice_get-get_or}
 use Rattle.agg_model.specs.declared.key.Key.TheVariants as key
 use Rattle.agg_model.specs.declared.row.Scalar.{Scalar}
 use Rattle.agg_model.specs.declared.row.Scalar.TheVariants as scalar
 use Rattle.agg_model.specs.ValueKeys.{scalar_key}
 use Rattle.agg_evaluation.specs.Rows.{PlacedRow}
-use Rattle.shard_columns.specs.Dictionary.{words_of, as_values, NoRowHas}
+use Rattle.shard_columns.specs.Dictionary.{words_of, NoRowHas}
 use Rattle.shard_columns.specs.Values.{Words}
 use Rattle.terms_agg.specs.declared.content.Content.{Content}
 use Rattle.terms_agg.specs.declared.content.Content.TheVariants.{Wholes, Flags}
 use Rattle.terms_agg.specs.declared.content.Content.TheVariants as hold
 use Rattle.terms_agg.specs.Codes.{word_at, flag_at, key_at, is_place, is_code_at, is_content}
-use Rattle.terms_agg.proofs.Standing.{place-is, flag_number, flag-back, flag-code}
 use Rattle.terms_agg.specs.Prepared.{IsCodeOfValue}
+use Rattle.terms_agg.proofs.Standing.{place-is, flag-code}
 use Rattle.terms_agg.proofs.Words.{one-place, no-place}
-
-pub all-at : {A : Type 0} (p : A → Bool) (xs : List A) (k : ℕ) (x : A) → list_all p xs ≡ true → slice_get xs k ≡ Some x → p x ≡ true
-all-at p [] k x all is = absurd (cc is)
-all-at p (y ∷ ys) zero x all is = let same : y ≡ x = cc is in ap p (sym same) ∙ (and_parts (p y) (list_all p ys) all).0
-all-at p (y ∷ ys) (suc k) x all is = all-at p ys k x (and_parts (p y) (list_all p ys) all).1 is
 
 in_place : (n k : ℕ) → k < n → is_place n (pos k) ≡ true
 in_place n k below = lt-ltb k n below
-
-found_word : (words : Words) (o : ℕ) (found : Option (List ℕ)) (value : Option Scalar) → slice_get words o ≡ found → option_map scalar.Word found ≡ value → (value ≡ None → ⊥)
-    → (is_place (length words) (pos o) ≡ true) × (option_map scalar_key value ≡ Some (key.Word (word_at words (pos o))))
-found_word words o None value is at there = absurd (there (sym at))
-found_word words o (Some w) value is at there =
-    (in_place (length words) o (slice_get_within words o w is), ap (option_map scalar_key) (sym at) ∙ ap (λ (x : List ℕ). Some (key.Word x)) (sym (get_or_from_slice_get words o w [] is)))
-
-none_past : (vs : List Scalar) (place : ℕ) → place < length vs → slice_get vs place ≡ None → ⊥
-none_past [] place below is = absurd (omega arith)
-none_past (v ∷ vs) zero below is = absurd (cc is)
-none_past (v ∷ vs) (suc place) below is = none_past vs place (omega arith) is
-
--- an ordinal is a code, and stands for the key of its value
-pub word-coded : (content : Content) (words : Words) (vs : List Scalar) (place o : ℕ) (c : ℤ) → content ≡ hold.Words → place < length vs → slice_get (as_values words) o ≡ slice_get vs place → c ≡ pos o
-    → (is_code_at content (length words) c ≡ true) × (option_map scalar_key (slice_get vs place) ≡ Some (key_at content words c))
-word-coded content words vs place o c is_words below at same =
-    let found = found_word words o (slice_get words o) (slice_get vs place) refl (sym (slice_get-map scalar.Word words o) ∙ at) (none_past vs place below) in
-    ((λ i. is_code_at (is_words i) (length words) (same i)) ∙ found.0, found.1 ∙ (λ i. Some (key_at (sym is_words i) words (sym same i))))
-
-whole_content : (content : Content) (n : ℤ) → is_content content (scalar.Whole n) ≡ true → content ≡ Wholes
-whole_content Wholes n h = refl
-whole_content Flags n h = absurd (cc h)
-whole_content hold.Words n h = absurd (cc h)
-
-flag_content : (content : Content) (b : Bool) → is_content content (scalar.Flag b) ≡ true → content ≡ Flags
-flag_content Wholes b h = absurd (cc h)
-flag_content Flags b h = refl
-flag_content hold.Words b h = absurd (cc h)
 
 pub word_content : (content : Content) (w : List ℕ) → is_content content (scalar.Word w) ≡ true → content ≡ hold.Words
 word_content Wholes w h = absurd (cc h)
 word_content Flags w h = absurd (cc h)
 word_content hold.Words w h = refl
-
-pub no_word : (content : Content) (w : List ℕ) → is_content content (scalar.Word w) ≡ true → (content ≡ Wholes) ⊎ (content ≡ Flags) → ⊥
-no_word content w h is = elim is [
-  | inl e ↦ absurd (cc (sym e ∙ word_content content w h))
-  | inr e ↦ absurd (cc (sym e ∙ word_content content w h))
-]
-
-pub whole-coded : (content : Content) (words : Words) (n c : ℤ) → is_content content (scalar.Whole n) ≡ true → c ≡ n → (is_code_at content (length words) c ≡ true) × (key_at content words c ≡ key.Whole n)
-whole-coded content words n c h same = let is = whole_content content n h in
-    (ap (λ (x : Content). is_code_at x (length words) c) is, ap (λ (x : Content). key_at x words c) is ∙ ap key.Whole same)
-
-flag_place : (b : Bool) → is_place 2 (flag_number b) ≡ true
-flag_place true = refl
-flag_place false = refl
-
-pub flag-coded : (content : Content) (words : Words) (b : Bool) (c : ℤ) → is_content content (scalar.Flag b) ≡ true → c ≡ flag_number b → (is_code_at content (length words) c ≡ true) × (key_at content words c ≡ key.Flag b)
-flag-coded content words b c h same = let is = flag_content content b h in
-    ((λ i. is_code_at (is i) (length words) (same i)) ∙ flag_place b, (λ i. key_at (is i) words (same i)) ∙ ap key.Flag (flag-back b))
 
 -- ---- more words behind those of the dictionary
 

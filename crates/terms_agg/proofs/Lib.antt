@@ -1,6 +1,7 @@
 pub mod Ascending
 pub mod Coding
 pub mod LastLaws
+pub mod Lending
 pub mod Made
 pub mod NextCode
 pub mod Probing

@@ -21,6 +21,7 @@ use Rattle.terms_agg.specs.declared.content.Content.{Content}
 use Rattle.terms_agg.specs.declared.content.Content.TheVariants.{Wholes, Flags}
 use Rattle.terms_agg.specs.declared.content.Content.TheVariants as hold
 use Rattle.terms_agg.specs.Codes.{word_at, flag_at, key_at, is_place, is_code_at}
+use Rattle.terms_agg.specs.Lent.{flag_number}
 use Rattle.terms_agg.specs.Prepared.{StandsFor}
 use Rattle.terms_agg.proofs.Words.{one-place, no-place}
 
@@ -80,10 +81,6 @@ stands-whole words n = stands Wholes words (probe.Whole n) n (λ c code e. ap ke
 pub place-is : (n : ℕ) (c : ℤ) → is_place n c ≡ true → (k : ℕ) × ((c ≡ pos k) × (k < n))
 place-is n (pos k) h = (k, (refl, ltb-true k n h))
 place-is n (negsuc k) h = absurd (cc h)
-
-abbrev pub flag_number : Bool → ℤ
-flag_number true = pos 1
-flag_number false = pos 0
 
 pub flag-byte : (b : Bool) → pos (bool_byte b) ≡ flag_number b
 flag-byte true = refl

@@ -1,3 +1,4 @@
 pub mod Codes
+pub mod Lent
 pub mod Prepared
 pub mod Trim

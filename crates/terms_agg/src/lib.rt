@@ -9,6 +9,7 @@ mod prepared;
 mod preparing;
 mod row_codes;
 mod row_keys;
+mod row_values;
 mod trimming;
 
 pub use prepared::{

@@ -1,55 +1,35 @@
 //! The codes of a row.
-ghost use Rattle.std.specs.Prelude.{◌≡◌, ◌<◌, ◌+◌, ◌++◌, length, map, take, slice_get, option_map, option_to_list, Some, true, OnOk, IfOk};
+ghost use Rattle.std.specs.Prelude.{◌≡◌, ◌<◌, ◌+◌, ◌++◌, ℕ, length, map, take, option_to_list, true, OnOk};
 ghost use Rattle.std.specs.List.{list_all};
 ghost use Rattle.agg_model.specs.Options.{TermsOptions};
-ghost use Rattle.agg_model.specs.ValueKeys.{scalar_key};
 ghost use Rattle.agg_model.specs.declared.aggregation.Kind.{Kind};
 ghost use Rattle.agg_evaluation.specs.Keys.{keys as keys_of_row};
 ghost use Rattle.agg_evaluation.specs.Rows.{row_of, values_of};
 ghost use Rattle.shard_columns.specs.Built.{IsShard};
-ghost use Rattle.shard_columns.specs.Dictionary.{words_of};
-ghost use Rattle.terms_agg.specs.Codes.{content_in, is_code_at, is_code, key_at, key_of};
+ghost use Rattle.shard_columns.specs.Columns.{Columns};
+ghost use Rattle.terms_agg.specs.Codes.{is_code, key_of};
+ghost use Rattle.terms_agg.specs.Lent.{codes_in, AreLent};
 ghost use Rattle.terms_agg.specs.Prepared.{IsReadyFor, IsReady, keys_of_values};
 
-use crate::content::{Content, content_of_field};
 use crate::prepared::{PreparedTerms, is_allowed};
-use shard_columns::{Cell, Shard};
+use crate::row_values::{RowValues, code_at, row_values, value_count};
+use shard_columns::Shard;
 use std::alloc::AllocError;
-
-/// The code of the value that a row has of a field at this place.
-pub(crate) fn code_at(shard: &Shard, row: u32, field: u32, place: u32) -> i64
-    requires known { field < length shard.now.kinds }
-    requires in_range { row < length shard.now.rows }
-    requires there { place < length (values_of field (row_of shard.now.rows row)) }
-    ensures code { is_code_at (content_in shard.now field) (length (words_of field shard.now.rows)) result ≡ true }
-    ensures key { option_map scalar_key (slice_get (values_of field (row_of shard.now.rows row)) place)
-        ≡ Some (key_at (content_in shard.now field) (words_of field shard.now.rows) result) }
-{
-    match content_of_field(shard, field) {
-        Content::Words => i64::from(shard.ordinal(row, field, place)),
-        Content::Wholes | Content::Flags => match shard.value(row, field, place) {
-            Cell::Whole(number) => number,
-            Cell::Flag(flag) => i64::from(flag),
-            Cell::Word(_) => unreachable!(),
-        },
-    }
-}
 
 // The code of the value at this place, where its key is allowed and is not that of the value before. Values ascend, so that
 // equal ones stand side by side.
-fn next_code(shard: &Shard, prepared: &PreparedTerms, row: u32, place: u32) -> Option<i64>
-    requires built { IsShard shard.now }
-    requires known { prepared.now.field < length shard.now.kinds }
-    requires in_range { row < length shard.now.rows }
-    requires there { place < length (values_of prepared.now.field (row_of shard.now.rows row)) }
-    ensures code { list_all (is_code shard.now prepared.now) (option_to_list result) ≡ true }
-    ensures keys { (t : TermsOptions) → IsReadyFor shard.now t prepared.now →
-        keys_of_values t (take (place + 1) (values_of prepared.now.field (row_of shard.now.rows row)))
-        ≡ keys_of_values t (take place (values_of prepared.now.field (row_of shard.now.rows row)))
-        ++ map (key_of shard.now prepared.now) (option_to_list result) }
+fn next_code(prepared: &PreparedTerms, values: RowValues<'_>, place: usize) -> Option<i64>
+    requires { place < length (codes_in values) }
+    ensures code { (shard : Columns) (row : ℕ) → AreLent shard prepared.now.field row values.entry →
+        list_all (is_code shard prepared.now) (option_to_list result) ≡ true }
+    ensures keys { (shard : Columns) (row : ℕ) → IsShard shard → AreLent shard prepared.now.field row values.entry →
+        (t : TermsOptions) → IsReadyFor shard t prepared.now →
+        keys_of_values t (take (place + 1) (values_of prepared.now.field (row_of shard.rows row)))
+        ≡ keys_of_values t (take place (values_of prepared.now.field (row_of shard.rows row)))
+        ++ map (key_of shard prepared.now) (option_to_list result) }
 {
-    let code = code_at(shard, row, prepared.field, place);
-    if place > 0 && code_at(shard, row, prepared.field, place - 1) == code {
+    let code = code_at(values, place);
+    if place > 0 && code_at(values, place - 1) == code {
         return None;
     }
     if is_allowed(prepared, code) {
@@ -76,7 +56,8 @@ pub fn codes(
         list_all (is_code shard.now prepared.now) codes.new.items ≡ true) }
 {
     codes.clear();
-    let count = shard.value_count(row, prepared.field);
+    let values = row_values(shard, row, prepared.field);
+    let count = value_count(values);
     if count == 0 {
         if let Some(code) = prepared.missing {
             codes.push(code)?;
@@ -84,7 +65,7 @@ pub fn codes(
         return Ok(());
     }
     for place in 0..count {
-        if let Some(code) = next_code(shard, prepared, row, place) {
+        if let Some(code) = next_code(prepared, values, place) {
             codes.push(code)?;
         }
     }
@@ -99,13 +80,14 @@ pub fn count(shard: &Shard, prepared: &PreparedTerms, row: u32) -> u64
     ensures { (kind : Kind) → IsReady shard.now kind prepared.now →
         result ≡ length (keys_of_row shard.now.rows kind (row_of shard.now.rows row)) }
 {
-    let values = shard.value_count(row, prepared.field);
-    if values == 0 {
+    let values = row_values(shard, row, prepared.field);
+    let places = value_count(values);
+    if places == 0 {
         return u64::from(prepared.missing.is_some());
     }
     let mut count = 0;
-    for place in 0..values {
-        if next_code(shard, prepared, row, place).is_some() {
+    for place in 0..places {
+        if next_code(prepared, values, place).is_some() {
             count += 1;
         }
     }

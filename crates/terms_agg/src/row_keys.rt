@@ -4,12 +4,14 @@ ghost use Rattle.agg_model.specs.Options.{TermsOptions};
 ghost use Rattle.agg_evaluation.specs.Keys.{keys as keys_of_row};
 ghost use Rattle.agg_evaluation.specs.Rows.{row_of, values_of};
 ghost use Rattle.shard_columns.specs.Built.{IsShard};
+ghost use Rattle.terms_agg.specs.Lent.{AreLent};
 ghost use Rattle.terms_agg.specs.Prepared.{IsTerms, keys_of_values};
 
 use crate::included::{cell_of, is_included};
 use crate::prepared::key;
 use crate::preparing::prepare;
-use crate::row_codes::{code_at, codes};
+use crate::row_codes::codes;
+use crate::row_values::{RowValues, code_at, row_values};
 use agg_model::{Key, Kind, List, Probe};
 use shard_columns::Shard;
 use std::alloc::{AllocError, Global};
@@ -37,6 +39,7 @@ fn adds_key(
     shard: &Shard,
     row: u32,
     field: u32,
+    values: RowValues<'_>,
     place: u32,
     include: &Option<List<Probe>>,
     exclude: &List<Probe>,
@@ -44,13 +47,14 @@ fn adds_key(
     requires built { IsShard shard.now }
     requires known { field < length shard.now.kinds }
     requires in_range { row < length shard.now.rows }
+    requires lent { AreLent shard.now field row values }
     requires there { place < length (values_of field (row_of shard.now.rows row)) }
     ensures { (t : TermsOptions) → t.include ≡ include.now → t.exclude ≡ exclude.now →
         length (keys_of_values t (take (place + 1) (values_of field (row_of shard.now.rows row))))
         ≡ length (keys_of_values t (take place (values_of field (row_of shard.now.rows row)))) + (if result then 1 else 0) }
 {
-    let code = code_at(shard, row, field, place);
-    if place > 0 && code_at(shard, row, field, place - 1) == code {
+    let code = code_at(values, place as usize);
+    if place > 0 && code_at(values, place as usize - 1) == code {
         return false;
     }
     is_included(shard.value(row, field, place), include, exclude)
@@ -69,9 +73,10 @@ fn count_of_values(
     ensures { (t : TermsOptions) → t.include ≡ include.now → t.exclude ≡ exclude.now →
         result ≡ length (keys_of_values t (values_of field (row_of shard.now.rows row))) }
 {
+    let values = row_values(shard, row, field);
     let mut count = 0;
     for place in 0..shard.value_count(row, field) {
-        if adds_key(shard, row, field, place, include, exclude) {
+        if adds_key(shard, row, field, values, place, include, exclude) {
             count += 1;
         }
     }

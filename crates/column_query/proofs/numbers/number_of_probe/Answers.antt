@@ -43,7 +43,7 @@ pub returns-in-Some : goal.returns-in-Some
 returns-in-Some c =
     let rows = c.args.shard.now.rows in
     let same : to_z w128 (of_z w128 c.from-in-Some.result) ≡ pos c.in-Some.place = to_z-of_z w128 c.from-in-Some.result (search rules) ∙ c.from-in-Some.ensures in
-    subst (λ (n : ℤ). StandsFor rows c.args.field c.args.probe.now (Some n)) (sym same) c.in-Some.ensures.stands
+    subst (λ (n : ℤ). StandsFor rows c.args.field c.args.probe.now (Some n)) (sym same) c.in-Some.ensures
 
 pub returns-in-None : goal.returns-in-None
-returns-in-None c = c.in-None.ensures.stands
+returns-in-None c = c.in-None.ensures

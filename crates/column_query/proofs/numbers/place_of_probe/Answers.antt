@@ -5,11 +5,11 @@ use Rattle.shard_columns.specs.Dictionary.{words_of, NoRowHas}
 use Rattle.column_query.specs.declared.content.Content.TheVariants.{Words}
 use Rattle.column_query.specs.Numbers.{StandsFor}
 use Rattle.column_query.proofs.Standing.{differs, none-stands}
-use Rattle.column_query.proofs.Marking.{word-stands, place-known}
+use Rattle.column_query.proofs.Marking.{word-stands}
 use Rattle.column_query.proofs.numbers.place_of_probe.Goals as goal
 
-pub returns-in-Word-clause-stands : goal.returns-in-Word-clause-stands
-returns-in-Word-clause-stands c =
+pub returns-in-Word : goal.returns-in-Word
+returns-in-Word c =
     let rows = c.args.shard.now.rows in
     let place = c.find_word.result in
     let word : c.as_bytes.result.now ≡ c.in-Word.word = c.as_bytes.ensures.value ∙ c.as_str.ensures in
@@ -18,13 +18,10 @@ returns-in-Word-clause-stands c =
     (subst (λ (w : List ℕ). IfSome place (λ k. slice_get (words_of c.args.field rows) k ≡ Some w)) word c.find_word.ensures.found)
     (subst (λ (w : List ℕ). IfNone place (NoRowHas c.args.field w rows)) word c.find_word.ensures.absent) c.requires)
 
-pub returns-in-Word-clause-known : goal.returns-in-Word-clause-known
-returns-in-Word-clause-known c = place-known c.args.shard.now.rows c.args.field c.as_bytes.result.now c.find_word.result c.find_word.ensures.found
-
-pub returns-in-Whole-clause-stands : goal.returns-in-Whole-clause-stands
-returns-in-Whole-clause-stands c =
+pub returns-in-Whole : goal.returns-in-Whole
+returns-in-Whole c =
     none-stands c.args.shard.now.rows c.args.field Words c.args.probe.now (⊎_elim (λ h. ap (differs Words) h.1) (λ h. ap (differs Words) h.1) c.in-Whole.is) c.requires
 
-pub returns-in-Whole-2-clause-stands : goal.returns-in-Whole-2-clause-stands
-returns-in-Whole-2-clause-stands c =
+pub returns-in-Whole-2 : goal.returns-in-Whole-2
+returns-in-Whole-2 c =
     none-stands c.args.shard.now.rows c.args.field Words c.args.probe.now (⊎_elim (λ h. ap (differs Words) h.1) (λ h. ap (differs Words) h.1) c.in-Whole.is) c.requires

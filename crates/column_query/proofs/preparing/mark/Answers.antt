@@ -1,16 +1,17 @@
-use Rattle.std.proofs.Common.{◌<◌, ℕ, true, length, set, Option, sym, subst}
-use Rattle.std.specs.Prelude.{IfSome}
+use Rattle.std.proofs.Common.{ℤ, true, set, Option, sym, ◌∙◌, subst, rules, arith}
+use mir.Syntax.{w128}
+use Rattle.std.proofs.lemmas.Int.{to_z-of_z}
 use Rattle.column_query.specs.Prepared.{AddsMark}
 use Rattle.column_query.proofs.Marking.{AddsMark-some, AddsMark-none}
 use Rattle.column_query.proofs.preparing.mark.Goals as goal
 
-pub returns-in-Some-clause-adds : goal.returns-in-Some-clause-adds
-returns-in-Some-clause-adds c =
+pub returns-in-Some-place_below-clause-adds : goal.returns-in-Some-place_below-clause-adds
+returns-in-Some-place_below-clause-adds c marked =
     let marks = c.args.marks.now.items in
-    let low = subst (λ (p : Option ℕ). IfSome p (λ n. n < length marks)) c.in-Some.is c.requires in
-    subst (λ (p : Option ℕ). AddsMark marks p (set marks c.in-Some.place true)) (sym c.in-Some.is) (AddsMark-some marks c.in-Some.place low)
+    subst (λ (n : Option ℤ). AddsMark marks n (set marks c.in-Some-place_below.place true)) (sym c.in-Some.is)
+    (AddsMark-some marks c.in-Some.number c.in-Some-place_below.place (sym (to_z-of_z w128 c.in-Some.number (search rules)) ∙ c.in-Some-place_below.ensures.number) (omega (arith, c.in-Some-place_below.ensures.within, c.len.ensures)))
 
-pub returns-in_default-clause-adds : goal.returns-in_default-clause-adds
-returns-in_default-clause-adds c =
+pub returns-in-None-clause-adds : goal.returns-in-None-clause-adds
+returns-in-None-clause-adds c marked =
     let marks = c.args.marks.now.items in
-    subst (λ (p : Option ℕ). AddsMark marks p marks) (sym c.in_default.is) (AddsMark-none marks)
+    subst (λ (n : Option ℤ). AddsMark marks n marks) (sym c.in-None.is) (AddsMark-none marks)

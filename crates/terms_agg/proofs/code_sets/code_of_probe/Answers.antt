@@ -3,7 +3,8 @@ use mir.Syntax.{w128}
 use Rattle.std.proofs.lemmas.Int.{to_z-of_z}
 use Rattle.shard_columns.specs.Dictionary.{words_of, NoRowHas}
 use Rattle.terms_agg.specs.declared.content.Content.TheVariants as hold
-use Rattle.terms_agg.proofs.Standing.{differs, standing, stands-other, stands-whole, stands-flag, stands-word, stands-absent, flag_number, flag-byte}
+use Rattle.terms_agg.specs.Lent.{flag_number}
+use Rattle.terms_agg.proofs.Standing.{differs, standing, stands-other, stands-whole, stands-flag, stands-word, stands-absent, flag-byte}
 use Rattle.terms_agg.proofs.code_sets.code_of_probe.Goals as goal
 
 pub returns-in-Whole : goal.returns-in-Whole
