@@ -381,7 +381,7 @@ fn count_keyed(
         spare.push(codes)?;
         return Ok(added);
     }
-    let groups = group_rows(alloc, shard, &agg.kind, &ready.kind, rows)?;
+    let groups = group_rows(alloc, shard, &agg.kind, &ready.kind, ready.width, rows)?;
     let added = put_groups(alloc, agg, ready, shard, &groups, spare, level)?;
     Ok(added)
 }
