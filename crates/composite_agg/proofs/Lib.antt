@@ -13,3 +13,4 @@ pub mod InRuns
 pub mod RunOrder
 pub mod RunSteps
 mod PageExample
+mod OnlyKeys

@@ -1,5 +1,5 @@
 //! The keys of a row.
-ghost use Rattle.std.specs.Prelude.{◌≡◌, ◌<◌, ◌≤◌, ◌^◌, ◌-◌, IfOk, [], ◌∷◌, length, flat_map, map, min};
+ghost use Rattle.std.specs.Prelude.{◌≡◌, ◌<◌, ◌≤◌, ◌^◌, ◌-◌, IfOk, OnOk, [], ◌∷◌, ◌++◌, length, flat_map, map, min};
 ghost use Rattle.agg_evaluation.specs.Keys.{combinations as combinations_of_keys, distinct_keys, keys as keys_of_row, or_null, source_keys as keys_of_source};
 ghost use Rattle.agg_evaluation.specs.Ceiling.{combination_count, greatest_combinations};
 ghost use Rattle.agg_model.specs.declared.key.Key.TheVariants.{Many};
@@ -23,9 +23,13 @@ pub fn keys(alloc: Global, shard: &Shard, row: u32, kind: &Kind) -> Result<List<
 {
     match kind {
         Kind::Composite { sources, .. } => {
-            if combination_count_of(shard, row, sources.as_slice()) == 0 {
+            let count = combination_count_of(shard, row, sources.as_slice());
+            if count == 0 {
                 // A source without a part leaves no key, however many combinations the others have.
                 return Ok(List::new(alloc));
+            }
+            if count == 1 {
+                return only_key(alloc, shard, row, sources.as_slice());
             }
             let lists = combinations(alloc, shard, row, sources.as_slice())?;
             as_keys(alloc, lists)
@@ -59,6 +63,53 @@ fn combination_count_of(shard: &Shard, row: u32, sources: &[CompositeSource]) ->
         count = count.saturating_mul(source_key_count(shard, row, source));
     }
     count
+}
+
+// The key of a row that has one part for each source, as most rows do: its parts are moved, where `combinations` copies them.
+fn only_key(
+    alloc: Global,
+    shard: &Shard,
+    row: u32,
+    sources: &[CompositeSource],
+) -> Result<List<Key>, AllocError>
+    requires built { IsShard shard.now }
+    requires in_range { row < length shard.now.rows }
+    requires positive { ArePositive sources.now }
+    ensures { IfOk result (λ ks. ks ≡ Many (flat_map (keys_of_source (row_of shard.now.rows row)) sources.now) ∷ []) }
+{
+    let parts = all_parts(alloc, shard, row, sources)?;
+    let mut keys = List::new(alloc);
+    keys.push(Key::Many(parts))?;
+    Ok(keys)
+}
+
+// The parts of all sources in one list.
+fn all_parts(
+    alloc: Global,
+    shard: &Shard,
+    row: u32,
+    sources: &[CompositeSource],
+) -> Result<List<Key>, AllocError>
+    requires built { IsShard shard.now }
+    requires in_range { row < length shard.now.rows }
+    requires positive { ArePositive sources.now }
+    ensures { IfOk result (λ parts. parts ≡ flat_map (keys_of_source (row_of shard.now.rows row)) sources.now) }
+{
+    let mut parts = List::new(alloc);
+    for source in sources {
+        let more = source_keys(alloc, shard, row, source)?;
+        push_all(&mut parts, more)?;
+    }
+    Ok(parts)
+}
+
+fn push_all(parts: &mut List<Key>, more: List<Key>) -> Result<(), AllocError>
+    ensures { OnOk result (parts.new ≡ parts.old ++ more) }
+{
+    for part in more.into_vec() {
+        parts.push(part)?;
+    }
+    Ok(())
 }
 
 // The combinations of the sources' keys, the last source's changing first.

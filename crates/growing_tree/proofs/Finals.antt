@@ -36,7 +36,7 @@ kept-all : (k : Kind) (bs : List Bucket) → keeps_all k ≡ true → kept_bucke
 kept-all (kind.Composite sources size after) bs h = absurd (false≢true h)
 kept-all _ bs h = refl
 
-groups-all : (rows_of : Key → List PlacedRow) (gs : List Gatherer) (k : Kind) (ks : List Key) (bs : List Bucket) → keeps_all k ≡ true → put_groups rows_of gs k ks bs ≡ put_all rows_of gs ks bs
+pub groups-all : (rows_of : Key → List PlacedRow) (gs : List Gatherer) (k : Kind) (ks : List Key) (bs : List Bucket) → keeps_all k ≡ true → put_groups rows_of gs k ks bs ≡ put_all rows_of gs ks bs
 groups-all rows_of gs k [] bs h = refl
 groups-all rows_of gs k (key ∷ ks) bs h = ap (put_groups rows_of gs k ks) (kept-all k (put_rows gs (rows_of key) key bs) h) ∙ groups-all rows_of gs k ks (put_rows gs (rows_of key) key bs) h
 
@@ -58,7 +58,7 @@ one-row all gs k row bs h =
     ∙ ap (λ ks. put_all (group all k (row ∷ [])) gs ks bs) (sym (keys-one all k row))
     ∙ sym (groups-all (group all k (row ∷ [])) gs k (all_keys all k (row ∷ [])) bs h)
 
-ascending-apart : (ks : List Key) → T (is_ascending ks) → AreApart ks
+pub ascending-apart : (ks : List Key) → T (is_ascending ks) → AreApart ks
 ascending-apart [] up = tt
 ascending-apart (k ∷ ks) up = (below-absent k ks (and_left _ _ up), ascending-apart ks (and_right _ _ up))
 

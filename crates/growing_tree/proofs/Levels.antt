@@ -73,7 +73,7 @@ pub level-ready : (shard : Columns) (a : Agg) (r : Ready) → IsReadyFor shard a
 level-ready shard a r h = h [] a r refl refl
 
 module _ (all : List PlacedRow) (a : Agg) where
-  gatherer-level : gatherer_of all a ≡ gatherer_at all (record { name = (out-Agg a).name; kind = (out-Agg a).kind; children = map (gatherer_of all) (out-Agg a).children })
+  pub gatherer-level : gatherer_of all a ≡ gatherer_at all (record { name = (out-Agg a).name; kind = (out-Agg a).kind; children = map (gatherer_of all) (out-Agg a).children })
   gatherer-level = fold_agg-level (gatherer_at all) a
 
   counted-out : (rows : List PlacedRow) (n : Node) (m : Node-F Node Bucket) → out-Node n ≡ m → counted all a rows n ≡ gathered_node all (map (gatherer_of all) (out-Agg a).children) (out-Agg a).kind rows m

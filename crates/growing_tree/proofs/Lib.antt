@@ -16,3 +16,4 @@ pub mod Counting
 pub mod ReadyLaws
 pub mod EmptyCosts
 pub mod Reordered
+pub mod Turns

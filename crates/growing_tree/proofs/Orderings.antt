@@ -28,7 +28,7 @@ module _ (rows_of : Key → List PlacedRow) (gs : List Gatherer) where
   sorted-put : (k : Key) (bs : List Bucket) → T (is_sorted key_cmp (entries bs)) → T (is_sorted key_cmp (entries (put_rows gs (rows_of k) k bs)))
   sorted-put k bs up = subst (λ es. T (is_sorted key_cmp es)) (sym (put_rows-put gs (rows_of k) k bs up)) (is_sorted-put key_cmp key_cmp_total k _ _ up)
 
-  sorted-all : (ks : List Key) (bs : List Bucket) → T (is_sorted key_cmp (entries bs)) → T (is_sorted key_cmp (entries (put_all rows_of gs ks bs)))
+  pub sorted-all : (ks : List Key) (bs : List Bucket) → T (is_sorted key_cmp (entries bs)) → T (is_sorted key_cmp (entries (put_all rows_of gs ks bs)))
   sorted-all [] bs up = up
   sorted-all (k ∷ ks) bs up = sorted-all ks (put_rows gs (rows_of k) k bs) (sorted-put k bs up)
 
@@ -36,7 +36,7 @@ module _ (rows_of : Key → List PlacedRow) (gs : List Gatherer) where
   found-put k q bs up = ap (find key_cmp q) (put_rows-put gs (rows_of k) k bs up) ∙ find-put key_cmp key_cmp_total q k _ _
 
   -- what is found of a key once the keys are put
-  found-all : (ks : List Key) (q : Key) (bs : List Bucket) → AreApart ks → T (is_sorted key_cmp (entries bs))
+  pub found-all : (ks : List Key) (q : Key) (bs : List Bucket) → AreApart ks → T (is_sorted key_cmp (entries bs))
       → find key_cmp q (entries (put_all rows_of gs ks bs)) ≡ cond (has_key q ks) (after q (find key_cmp q (entries bs))) (find key_cmp q (entries bs))
   found-all [] q bs apart up = refl
   found-all (k ∷ ks) q bs apart up =

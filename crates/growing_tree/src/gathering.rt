@@ -1,6 +1,7 @@
 //! More rows in a tree: those that an aggregation counts go into the buckets of their keys, and in each bucket into the trees
 //! of the aggregations below.
 ghost use Rattle.std.specs.Prelude.{◌≡◌, ◌<◌, ◌+◌, All, IfOk, IsTrue, List as AnyList, OnOk, length, map, sum_by};
+ghost use Rattle.std.specs.List.{list_all};
 ghost use Rattle.agg_model.specs.declared.key.Key.{Key};
 ghost use Rattle.agg_model.specs.declared.aggregation.Agg.{out-Agg};
 ghost use Rattle.agg_evaluation.specs.Cost.{node_cost};
@@ -12,15 +13,18 @@ ghost use Rattle.growth_laws.specs.Gathering.{counted, gathered, gathered_bucket
 ghost use Rattle.growing_tree.specs.Codes.{HasFixedKeys};
 ghost use Rattle.growing_tree.specs.Decoded.{decoded};
 ghost use Rattle.growing_tree.specs.Gathered.{decoders, gatherers, key_at, rows_at, shown_children, shown_fixed, shown_keyed, shown_level};
-ghost use Rattle.growing_tree.specs.Readiness.{AreReadyFor, IsReadyFor, is_keyed};
+ghost use Rattle.growing_tree.specs.Readiness.{AreReadyFor, IsReadyFor, is_keyed, is_metric};
 ghost use Rattle.growing_tree.specs.Shown.{HasGathered, IsAlike, put_all};
 ghost use Rattle.growing_tree.specs.Trees.{IsAligned, IsIndexed};
 ghost use Rattle.growing_tree.specs.declared.ready.Ready.{out-Ready};
 
 use crate::beginning::{begin_bucket, bucket_bytes};
 use crate::groups::{Groups, group_rows};
-use crate::kinds::{ascend, has_buckets, has_fixed_keys, place_of, row_codes, take_rows};
+use crate::kinds::{
+    are_metrics, ascend, has_buckets, has_fixed_keys, place_of, row_codes, take_rows,
+};
 use crate::ready::{Ready, ReadyKind};
+use crate::single::{one_row, with_row};
 use crate::sums::sum;
 use crate::tree::{Growing, Level, Tree};
 use agg_model::{Agg, Kind, List};
@@ -334,6 +338,55 @@ fn put_groups(
     Ok(added)
 }
 
+// The same row by row, which needs no groups: metrics take the rows of a bucket one after another as they take them at once. A
+// reverse nested aggregation would not, since one row may lie around several of them.
+#[cycle(gather)]
+fn put_in_turn(
+    alloc: Global,
+    agg: &Agg,
+    ready: &Ready,
+    shard: &Shard,
+    rows: &List<u32>,
+    spare: &mut Vec<Vec<i64>>,
+    level: &mut Level,
+) -> Result<u64, AllocError>
+    requires ready { IsReadyFor shard.now agg.now ready.now }
+    requires keyed { IsTrue (is_keyed (out-Ready ready.now).kind) }
+    requires metrics { IsTrue (list_all (λ a. is_metric (out-Agg a).kind) (out-Agg agg.now).children) }
+    requires built { IsShard shard.now }
+    requires apart { IsApart shard.now.rows }
+    requires in_range { All (λ n. n < length shard.now.rows) rows.now }
+    requires aligned { IsAligned level.old }
+    ensures buckets { OnOk result (shown_level shard.now ready.now level.new
+        ≡ gathered_buckets shard.now.rows (gatherers shard.now (out-Agg agg.now).children) (out-Agg agg.now).kind
+        (rows_at shard.now rows.now) (shown_level shard.now ready.now level.old)) }
+    ensures cost { IfOk result (λ added. sum_by bytes (shown_level shard.now ready.now level.new)
+        ≡ sum_by bytes (shown_level shard.now ready.now level.old) + added) }
+    ensures form { OnOk result (IsAlike level.old level.new) }
+    ensures aligned { IsAligned level.new }
+{
+    let mut codes = spare.pop().unwrap_or(Vec::new(alloc));
+    let mut single = one_row(alloc, 0)?;
+    let mut added = 0;
+    for row in rows.as_slice() {
+        row_codes(shard, &agg.kind, &ready.kind, *row, &mut codes)?;
+        single = with_row(single, *row);
+        let more = put_codes(
+            alloc,
+            agg,
+            ready,
+            shard,
+            &single,
+            spare,
+            codes.as_slice(),
+            level,
+        )?;
+        added = sum(added, more)?;
+    }
+    spare.push(codes)?;
+    Ok(added)
+}
+
 // More rows that the aggregation counts, in the buckets of their keys.
 #[cycle(gather)]
 fn count_keyed(
@@ -381,7 +434,11 @@ fn count_keyed(
         spare.push(codes)?;
         return Ok(added);
     }
-    let groups = group_rows(alloc, shard, &agg.kind, &ready.kind, rows)?;
+    if are_metrics(&agg.children) {
+        let more = put_in_turn(alloc, agg, ready, shard, rows, spare, level)?;
+        return Ok(more);
+    }
+    let groups = group_rows(alloc, shard, &agg.kind, &ready.kind, ready.width, rows)?;
     let added = put_groups(alloc, agg, ready, shard, &groups, spare, level)?;
     Ok(added)
 }

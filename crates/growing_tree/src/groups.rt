@@ -17,6 +17,9 @@ use bucket_places::{Place, Places};
 use shard_columns::Shard;
 use std::alloc::{AllocError, Global};
 
+// A table of so many entries for a row takes about as long as a map.
+const ENTRIES_A_ROW: usize = 16;
+
 /// Codes, and the rows that have each of them.
 #[derive(Drop)]
 pub(crate) struct Groups {
@@ -72,12 +75,25 @@ fn add_all(
     Ok(())
 }
 
-/// The rows by the codes of their keys, in time n log n in the keys of the rows.
+// No code, with an index for those of so many rows: a table where it has no more than a few entries for each of them.
+fn places_for(alloc: Global, width: u32, rows: usize) -> Result<Places, AllocError>
+    ensures { IfOk result (λ places. places ≡ []) }
+{
+    if width as usize / ENTRIES_A_ROW > rows {
+        return Ok(Places::ordered(alloc));
+    }
+    let places = Places::dense(alloc, width)?;
+    Ok(places)
+}
+
+/// The rows by the codes of their keys, in time n log n in the keys of the rows. Of the codes from 0 to below `width` there may
+/// be many.
 pub(crate) fn group_rows(
     alloc: Global,
     shard: &Shard,
     kind: &Kind,
     ready: &ReadyKind,
+    width: u32,
     rows: &List<u32>,
 ) -> Result<Groups, AllocError>
     requires ready { IsKindReady shard.now kind.now ready.now }
@@ -86,7 +102,7 @@ pub(crate) fn group_rows(
     ensures groups { IfOk result (λ g. AreGroups (code_key shard.now ready.now)
         (pairs_of (λ n. keys shard.now.rows kind.now (row_of shard.now.rows n)) rows.now) g.places g.rows.items) }
 {
-    let mut places = Places::ordered(alloc);
+    let mut places = places_for(alloc, width, rows.len())?;
     let mut groups = Vec::new(alloc);
     let mut codes = Vec::new(alloc);
     for row in rows.as_slice() {

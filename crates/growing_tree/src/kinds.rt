@@ -1,6 +1,8 @@
 //! What the kinds of aggregations make of codes and rows.
 ghost use Rattle.std.specs.Prelude.{◌≡◌, ◌<◌, All, IfOk, IsTrue, OnOk, length, map, pos};
+ghost use Rattle.std.specs.List.{list_all};
 ghost use Rattle.std.specs.List.Sorted.{IsStrictlyIncreasing};
+ghost use Rattle.agg_model.specs.declared.aggregation.Agg.{out-Agg};
 ghost use Rattle.agg_evaluation.specs.Cost.{key_bytes};
 ghost use Rattle.agg_evaluation.specs.Rows.{row_of};
 ghost use Rattle.shard_columns.specs.Columns.{Columns};
@@ -15,7 +17,7 @@ ghost use Rattle.growing_tree.specs.Trees.{IsAligned};
 use crate::number::Taken;
 use crate::ready::ReadyKind;
 use crate::tree::Level;
-use agg_model::{Kind, List};
+use agg_model::{Agg, Kind, List};
 use filters_agg::codes as codes_of_filters;
 use histogram_agg::{codes as codes_of_histogram, key_bytes as key_bytes_of_interval};
 use shard_columns::Shard;
@@ -127,6 +129,26 @@ pub(crate) fn take_rows(
         }
         Level::Keyed(_) | Level::Fixed(_) => Err(AllocError),
     }
+}
+
+/// Whether all of the aggregations are metrics.
+pub(crate) fn are_metrics(aggs: &List<Agg>) -> bool
+    ensures { result ≡ list_all (λ a. is_metric (out-Agg a).kind) aggs.now }
+{
+    aggs.as_slice().iter().all(|agg| is_metric_kind(&agg.kind))
+}
+
+fn is_metric_kind(kind: &Kind) -> bool
+    ensures { result ≡ is_metric kind.now }
+{
+    matches!(
+        kind,
+        Kind::Sum { .. }
+            | Kind::Min { .. }
+            | Kind::Max { .. }
+            | Kind::Avg { .. }
+            | Kind::ValueCount { .. }
+    )
 }
 
 // The values of one more row.

@@ -12,6 +12,7 @@ mod kinds;
 mod number;
 mod preparing;
 mod ready;
+mod single;
 mod sums;
 mod tree;
 

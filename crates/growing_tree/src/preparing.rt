@@ -23,7 +23,11 @@ use terms_agg::{code_count, prepare as prepare_terms};
 // or each has few codes, which take no more memory in a table than in a map.
 const MOST_ENTRIES: u64 = 1 << 20;
 
-const FEW_CODES: u64 = 16;
+const FEW_CODES: u32 = 16;
+
+// The table of whole numbers and of intervals, of which it is not known how many there are, is for so many: those from 0 on,
+// or from the offset on. It takes 16 KiB.
+const OPEN_WIDTH: u32 = 4096;
 
 // What an aggregation of the kind needs of the shard.
 fn prepare_kind(alloc: Global, shard: &Shard, kind: &Kind) -> Result<ReadyKind, AllocError>
@@ -100,10 +104,16 @@ fn most_buckets(shard: &Shard, kind: &Kind, ready: &ReadyKind) -> u64
 
 // How many codes a table of each tree is for, where there may be so many trees.
 fn table_width(kind: &ReadyKind, codes: u64, trees: u64) -> u32 {
-    let fits = trees == 1 || codes <= FEW_CODES || codes.saturating_mul(trees) <= MOST_ENTRIES;
-    match kind {
-        ReadyKind::Terms(_) if fits => u32::try_from(codes).unwrap_or(0),
-        _ => 0,
+    let width = match kind {
+        ReadyKind::Terms(_) | ReadyKind::Histogram(_) => u32::try_from(codes).unwrap_or(OPEN_WIDTH),
+        ReadyKind::Filters(_) => u32::try_from(codes).unwrap_or(0),
+        ReadyKind::Single | ReadyKind::Metric | ReadyKind::Composite => 0,
+    };
+    let entries = u64::from(width).saturating_mul(trees);
+    if trees == 1 || width <= FEW_CODES || entries <= MOST_ENTRIES {
+        width
+    } else {
+        0
     }
 }
 

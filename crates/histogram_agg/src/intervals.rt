@@ -1,9 +1,12 @@
 //! The intervals of a histogram.
-ghost use Rattle.std.specs.Prelude.{◌≡◌, ◌<◌};
+ghost use Rattle.std.specs.Prelude.{◌≡◌, ◌<◌, ◌^◌, IfSome};
 ghost use Rattle.agg_model.specs.declared.key.Key.TheVariants.{Whole};
 ghost use Rattle.agg_evaluation.specs.Keys.{interval_start as start_of_interval, is_between as is_between_bounds};
 
 use agg_model::Bounds;
+
+// Numbers below it have 63 bits.
+const NEAR: u64 = 1 << 63;
 
 /// Where the keys of a histogram lie: each is a multiple of the interval above or below the offset, within the hard bounds.
 #[derive(Clone, Copy)]
@@ -15,6 +18,31 @@ pub(crate) struct Spacing {
 
 /// The key of a number: the start of its interval, rounded down for negative numbers too. The interval is not 0.
 pub fn interval_start(interval: u64, offset: u64, number: i64) -> i128
+    requires positive { 0 < interval }
+    ensures { result ≡ start_of_interval interval offset number }
+{
+    if interval < NEAR && offset < NEAR {
+        if let Some(start) = near_start(interval, offset, number) {
+            return start;
+        }
+    }
+    far_start(interval, offset, number)
+}
+
+// The same where the distance has 64 bits: such numbers are divided in a fraction of the time of longer ones.
+fn near_start(interval: u64, offset: u64, number: i64) -> Option<i128>
+    requires positive { 0 < interval }
+    requires small { interval < 2 ^ 63 }
+    requires near { offset < 2 ^ 63 }
+    ensures { IfSome result (λ start. start ≡ start_of_interval interval offset number) }
+{
+    let distance = number.checked_sub(offset as i64)?;
+    let beyond = distance.rem_euclid(interval as i64);
+    Some(i128::from(number) - i128::from(beyond))
+}
+
+// The same for all.
+fn far_start(interval: u64, offset: u64, number: i64) -> i128
     requires positive { 0 < interval }
     ensures { result ≡ start_of_interval interval offset number }
 {

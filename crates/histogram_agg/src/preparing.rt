@@ -23,6 +23,19 @@ pub(crate) fn code_of(interval: u64, offset: u64, number: i64) -> i64
     requires small { interval < 2 ^ 63 }
     ensures { result ≡ int_div_euclid (number -ℤ pos offset) (pos interval) }
 {
+    // Numbers of 64 bits are divided in a fraction of the time of longer ones.
+    match number.checked_sub(offset as i64) {
+        Some(distance) => distance.div_euclid(interval as i64),
+        None => far_code(interval, offset, number),
+    }
+}
+
+// The same where the distance has more than 64 bits.
+fn far_code(interval: u64, offset: u64, number: i64) -> i64
+    requires below { offset < interval }
+    requires small { interval < 2 ^ 63 }
+    ensures { result ≡ int_div_euclid (number -ℤ pos offset) (pos interval) }
+{
     let distance = i128::from(number) - i128::from(offset);
     distance.div_euclid(i128::from(interval)) as i64
 }

@@ -1,4 +1,4 @@
-use Rattle.std.proofs.Common.{sym, ◌∙◌, ap, subst, arith, rules, ◌≡◌, ◌<◌, ◌≤◌, ◌+◌, ◌-◌, ℕ, ℤ, List, [], length, map, take, sum_by, get_or, w64, to_z, of_z, pos}
+use Rattle.std.proofs.Common.{sym, ◌∙◌, ap, subst, arith, rules, ◌≡◌, ◌<◌, ◌≤◌, ◌+◌, ◌-◌, ℕ, ℤ, List, [], ◌∷◌, length, map, take, sum_by, get_or, w64, to_z, of_z, pos}
 use Rattle.std.specs.Prelude.{slice_get, flat_map, option_map}
 use Rattle.std.specs.List.{IsDistinct}
 use Rattle.std.specs.Ordering.{int_eq}
@@ -6,6 +6,7 @@ use Rattle.std.proofs.lemmas.Bool.{false≢true}
 use Rattle.std.proofs.lemmas.Int.{to_z-of_z}
 use Rattle.std.proofs.lemmas.List.{length-map}
 use Rattle.std.proofs.lemmas.Option.{slice_get-get_or, slice_get-map}
+use Rattle.list_laws.proofs.Lists.{map-append}
 use Rattle.agg_model.specs.declared.aggregation.Agg.{out-Agg}
 use Rattle.agg_evaluation.specs.Cost.{key_bytes, node_cost}
 use Rattle.agg_evaluation.specs.Groups.{group, under}
@@ -28,6 +29,7 @@ use Rattle.growing_tree.proofs.Finals.{groups-are, groups-within, many-rows, one
 use Rattle.growing_tree.proofs.Levels.{children-ready, level-ready, counted-none, empties-are, gathered-is}
 use Rattle.growing_tree.proofs.Putting.{number-bytes, put-number}
 use Rattle.growing_tree.proofs.Steps.{found-buckets, found-cost, added-buckets, added-cost, item-at, mapped-at, put_all-more, take-more}
+use Rattle.growing_tree.proofs.Turns.{metrics-steps, one-more}
 use Rattle.growing_tree.proofs.gathering.+gather.Goals as goal
 
 pub gather_children-gather-requires : goal.gather_children-gather-requires
@@ -269,6 +271,41 @@ put_groups-returns-clause-buckets t c = λ rows_of h.
     let all : length (map key_of codes) ≤ c.loop-place.place = omega (arith, length-map codes key_of, many, c.loop-place-test.false) in
     c.loop-place.invariant.buckets rows_of h
     ∙ ap (λ ks. put_all rows_of (gatherers shard (out-Agg c.args.agg.now).children) ks (shown_level shard r c.args.level.now)) (take-full (map key_of codes) c.loop-place.place all)
+
+pub put_in_turn-row_codes-requires-clause-ready : goal.put_in_turn-row_codes-requires-clause-ready
+put_in_turn-row_codes-requires-clause-ready t c = (level-ready c.args.shard.now c.args.agg.now c.args.ready.now c.requires.ready).kind
+
+pub put_in_turn-loop-row-preserved : goal.put_in_turn-loop-row-preserved
+put_in_turn-loop-row-preserved t c =
+    let shard = c.args.shard.now in
+    let a = c.args.agg.now in
+    let k = (out-Agg a).kind in
+    let r = c.args.ready.now in
+    let key_of = key_at shard r in
+    let ds = decoders shard (out-Ready r).children in
+    let gs = gatherers shard (out-Agg a).children in
+    let row_at = row_of shard.rows in
+    let items = c.as_slice-row-items.result.now in
+    let i = c.loop-row.row-index in
+    let row = get_or items i 0 in
+    let l : i < length items = omega (arith, c.loop-row-test.true) in
+    let buckets = shown_level shard r c.args.level.now in
+    let ready = (level-ready shard a r c.requires.ready).kind in
+    let own = codes-own shard k (out-Ready r).kind ready in
+    let keys_are = ap (map key_of) c.as_slice.ensures.value ∙ c.in_ok-row_codes.ensures in
+    let more = c.in_ok-more.ensures.cost in
+    let before = c.loop-row.invariant.cost in
+    let added : c.in_ok-added.added ≡ c.loop-row.added + c.in_ok-more.more = c.in_ok-added.ensures in
+    (record {
+      buckets = c.in_ok-more.ensures.buckets ∙ (λ j. put_all (λ q. map row_at (c.with_row-single.ensures j)) gs (keys_are j) (c.loop-row.invariant.buckets j))
+          ∙ one-more gs (metrics-steps shard.rows (out-Agg a).children c.requires.metrics) shard.rows k (map row_at (take i items)) (row_at row) buckets
+          (keyed-keeps shard k (out-Ready r).kind ready c.requires.keyed) (level-up ds key_of own c.args.level.now c.requires.aligned)
+          ∙ ap (λ rs. gathered_buckets shard.rows gs k rs buckets) (sym (ap (map row_at) (take-more items i row (slice_get-get_or items i 0 l)) ∙ map-append row_at (take i items) (row ∷ [])));
+      cost = omega arith;
+      form = λ bs. c.in_ok-more.ensures.form bs ∙ c.loop-row.invariant.form bs;
+      aligned = λ h. c.in_ok-more.ensures.aligned (c.loop-row.invariant.aligned h);
+      single = ap (λ (rs : List ℕ). length rs) c.with_row-single.ensures;
+    })
 
 pub count_keyed-row_codes-requires-clause-ready : goal.count_keyed-row_codes-requires-clause-ready
 count_keyed-row_codes-requires-clause-ready t c = (level-ready c.args.shard.now c.args.agg.now c.args.ready.now c.requires.ready).kind

@@ -1,11 +1,11 @@
-use Rattle.std.proofs.Common.{◌≡◌, ◌+◌, ◌*◌, List, map, take, sum_by}
+use Rattle.std.proofs.Common.{◌≡◌, ◌+◌, ◌*◌, List, length, map, take, sum_by}
 use denote.Param.Weighed.{most}
 use Rattle.agg_model.specs.declared.aggregation.Agg.{out-Agg, size-Agg}
 use Rattle.agg_model.specs.declared.key.Key.{Key}
 use Rattle.agg_evaluation.specs.Cost.{node_cost}
 use Rattle.agg_evaluation.specs.Rows.{PlacedRow}
 use Rattle.evaluation_laws.proofs.CostLaws.{bytes}
-use Rattle.growth_laws.specs.Gathering.{gathered_children}
+use Rattle.growth_laws.specs.Gathering.{gathered_buckets, gathered_children}
 use Rattle.growing_tree.specs.Gathered.{gatherers, key_at, rows_at, shown_children, shown_level}
 use Rattle.growing_tree.specs.Shown.{IsAlike, put_all}
 use Rattle.growing_tree.specs.Trees.{IsAligned}
@@ -36,33 +36,46 @@ invariant-put_groups-loop-place l = record {
   aligned : IsAligned l.fn.level → IsAligned l.level;
 }
 
+abbrev pub invariant-put_in_turn-loop-row : goal.invariant-put_in_turn-loop-row
+invariant-put_in_turn-loop-row l = record {
+  buckets : shown_level l.shard l.ready l.level
+      ≡ gathered_buckets l.shard.rows (gatherers l.shard (out-Agg l.agg).children) (out-Agg l.agg).kind (rows_at l.shard (take l.row-index l.row-items)) (shown_level l.shard l.ready l.fn.level);
+  cost : sum_by bytes (shown_level l.shard l.ready l.level) ≡ sum_by bytes (shown_level l.shard l.ready l.fn.level) + l.added;
+  form : IsAlike l.fn.level l.level;
+  aligned : IsAligned l.fn.level → IsAligned l.level;
+  single : length l.single ≡ 1;
+}
+
 -- the depth of the aggregation falls at its children; within one level a caller stands above what it calls
 abbrev pub decreases-gather_children : goal.decreases-gather_children
-decreases-gather_children l = 8 * most size-Agg l.aggs.now + 6
+decreases-gather_children l = 9 * most size-Agg l.aggs.now + 7
 
 abbrev pub decreases-gather_bucket : goal.decreases-gather_bucket
-decreases-gather_bucket l = 8 * most size-Agg l.aggs.now + 7
+decreases-gather_bucket l = 9 * most size-Agg l.aggs.now + 8
 
 abbrev pub decreases-put_coded : goal.decreases-put_coded
-decreases-put_coded l = 8 * size-Agg l.agg.now
+decreases-put_coded l = 9 * size-Agg l.agg.now
 
 abbrev pub decreases-put_fixed : goal.decreases-put_fixed
-decreases-put_fixed l = 8 * size-Agg l.agg.now
+decreases-put_fixed l = 9 * size-Agg l.agg.now
 
 abbrev pub decreases-put : goal.decreases-put
-decreases-put l = 8 * size-Agg l.agg.now + 1
+decreases-put l = 9 * size-Agg l.agg.now + 1
 
 abbrev pub decreases-put_codes : goal.decreases-put_codes
-decreases-put_codes l = 8 * size-Agg l.agg.now + 2
+decreases-put_codes l = 9 * size-Agg l.agg.now + 2
 
 abbrev pub decreases-put_groups : goal.decreases-put_groups
-decreases-put_groups l = 8 * size-Agg l.agg.now + 2
+decreases-put_groups l = 9 * size-Agg l.agg.now + 2
+
+abbrev pub decreases-put_in_turn : goal.decreases-put_in_turn
+decreases-put_in_turn l = 9 * size-Agg l.agg.now + 3
 
 abbrev pub decreases-count_keyed : goal.decreases-count_keyed
-decreases-count_keyed l = 8 * size-Agg l.agg.now + 3
+decreases-count_keyed l = 9 * size-Agg l.agg.now + 4
 
 abbrev pub decreases-count : goal.decreases-count
-decreases-count l = 8 * size-Agg l.agg.now + 4
+decreases-count l = 9 * size-Agg l.agg.now + 5
 
 abbrev pub decreases-gather : goal.decreases-gather
-decreases-gather l = 8 * size-Agg l.agg.now + 5
+decreases-gather l = 9 * size-Agg l.agg.now + 6

@@ -4,7 +4,7 @@ use Rattle.std.specs.Int.{int_rem_euclid}
 use Rattle.std.proofs.lemmas.Int.{ints}
 use mir.Syntax.{w128}
 use Rattle.histogram_agg.proofs.Starts.{euclid, rem-low, rem-high}
-use Rattle.histogram_agg.proofs.intervals.interval_start.Goals as goal
+use Rattle.histogram_agg.proofs.intervals.far_start.Goals as goal
 
 pub returns : goal.returns
 returns c =
