@@ -17,7 +17,7 @@ use agg_mapping::OrderedMapping;
 use agg_model::item_refusal::{INDEX_FULL, VERSION_CONFLICT};
 use agg_model::limits::WEIGHT_LIMIT;
 use agg_model::{Action, ActionKind, Applied, Document, ItemRefusal, List, Mapping, Row, Text};
-use document_rows::{ItemFault, root_row_of};
+use document_rows::{ItemFault, Scratch, root_row_with};
 use std::alloc::{AllocError, Global};
 use std::collections::BTreeMap;
 use std::collections::btree_map::Entry;
@@ -251,8 +251,15 @@ impl Store {
     /// live document, and then `INDEX_FULL`, exactly where the weights of the live documents would add up to
     /// `WEIGHT_LIMIT` or more. A document weighs one for each of its rows, one for each of its values, and the bytes of
     /// its words. After a refusal, and after want of memory, the store is as before.
+    ///
+    /// The scratch is kept from one action to the next, for the reading of their sources.
     #[tactic(auto, unfolding(agg_reading::specs::Store::applied))]
-    pub fn apply(&mut self, mapping: &Mapping, action: Action) -> Result<Applied, ItemFault>
+    pub fn apply_with(
+        &mut self,
+        mapping: &Mapping,
+        action: Action,
+        scratch: &mut Scratch,
+    ) -> Result<Applied, ItemFault>
         requires { IsOrdered mapping.now }
         ensures applied { Gives (λ what. (what, self.new)) result (applied mapping.now action self.old) }
         ensures as_before { OnErr result (self.new ≡ self.old) }
@@ -262,10 +269,20 @@ impl Store {
             ActionKind::Index | ActionKind::Create => {
                 let alloc = *self.slots.allocator();
                 let mapping = OrderedMapping::of(mapping);
-                let root = root_row_of(alloc, &mapping, action.source.as_slice())?;
+                let root = root_row_with(alloc, &mapping, action.source.as_slice(), scratch)?;
                 self.put(action, root)
             }
         }
+    }
+
+    /// The same with a scratch of its own, for a single action.
+    pub fn apply(&mut self, mapping: &Mapping, action: Action) -> Result<Applied, ItemFault>
+        requires { IsOrdered mapping.now }
+        ensures applied { Gives (λ what. (what, self.new)) result (applied mapping.now action self.old) }
+        ensures as_before { OnErr result (self.new ≡ self.old) }
+    {
+        let mut scratch = Scratch::new(*self.slots.allocator());
+        self.apply_with(mapping, action, &mut scratch)
     }
 
     /// One list for each shard with the live documents that its routing chooses ('_routing field' of Elasticsearch

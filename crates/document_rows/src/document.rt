@@ -1,6 +1,6 @@
 //! Documents as rows.
 
-ghost use Rattle.serde_json.specs.View.{view, members_view};
+ghost use Rattle.lent_json.specs.View.{view, members_view};
 ghost use Rattle.agg_reading.specs.Document.{document_value_at, document_at};
 ghost use Rattle.document_rows.specs.Faults.{Gives};
 ghost use Rattle.document_rows.specs.States.{root_at};
@@ -12,17 +12,16 @@ use crate::walk::{Walked, members};
 use agg_mapping::OrderedMapping;
 use agg_model::item_refusal::SOURCE_NOT_OBJECT;
 use agg_model::{Mapping, Row};
-use json_walk::reading;
-use serde_json::{Map, Value};
+use lent_json::{Lent, Scratch, reading};
 use std::alloc::Global;
 
 /// The root row that the members of an object give.
 fn row_of_members(
     alloc: Global,
     mapping: &OrderedMapping<'_>,
-    found: &Map<String, Value>,
+    found: &Vec<(&str, Lent<'_>)>,
 ) -> Result<Row, ItemFault>
-    ensures { Gives (λ r. r) result (root_at mapping.now (members_view found.now.entries)) }
+    ensures { Gives (λ r. r) result (root_at mapping.now (members_view found.now.items)) }
 {
     let mut walked = Walked {
         row: RowDraft::new(alloc),
@@ -35,11 +34,11 @@ fn row_of_members(
 
 /// The root row that a value gives: `SOURCE_NOT_OBJECT` where it is none.
 #[tactic(auto, unfolding(agg_reading::specs::Document::document_value_at, agg_reading::specs::Json::object_at))]
-fn row_of(alloc: Global, mapping: &OrderedMapping<'_>, value: &Value) -> Result<Row, ItemFault>
+fn row_of(alloc: Global, mapping: &OrderedMapping<'_>, value: &Lent<'_>) -> Result<Row, ItemFault>
     ensures { Gives (λ r. r) result (document_value_at mapping.now (view value.now)) }
 {
     match value {
-        Value::Object(found) => row_of_members(alloc, mapping, found),
+        Lent::Object(found) => row_of_members(alloc, mapping, found),
         _ => refuse(alloc, SOURCE_NOT_OBJECT, ""),
     }
 }
@@ -55,7 +54,24 @@ fn row_of(alloc: Global, mapping: &OrderedMapping<'_>, value: &Value) -> Result<
 ///
 /// It takes time in proportion to the bytes of the source, and for each member the comparison of its path, with the names
 /// around it, to as many paths as the logarithm of the size of the mapping.
+///
+/// The scratch is kept from one source to the next. It grows to the longest, and nothing else of a source stays in it.
 #[tactic(auto, unfolding(agg_reading::specs::Document::document_at))]
+pub fn root_row_with(
+    alloc: Global,
+    mapping: &OrderedMapping<'_>,
+    source: &[u8],
+    scratch: &mut Scratch,
+) -> Result<Row, ItemFault>
+    ensures row { Gives (λ r. r) result (document_at mapping.now source.now) }
+{
+    match reading(alloc, source, scratch)? {
+        Some(value) => row_of(alloc, mapping, &value),
+        None => refuse(alloc, SOURCE_NOT_OBJECT, ""),
+    }
+}
+
+/// The same with a scratch of its own, for a single source.
 pub fn root_row_of(
     alloc: Global,
     mapping: &OrderedMapping<'_>,
@@ -63,8 +79,6 @@ pub fn root_row_of(
 ) -> Result<Row, ItemFault>
     ensures row { Gives (λ r. r) result (document_at mapping.now source.now) }
 {
-    match reading(alloc, source)? {
-        Some(value) => row_of(alloc, mapping, &value),
-        None => refuse(alloc, SOURCE_NOT_OBJECT, ""),
-    }
+    let mut scratch = Scratch::new(alloc);
+    root_row_with(alloc, mapping, source, &mut scratch)
 }

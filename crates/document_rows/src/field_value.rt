@@ -1,7 +1,7 @@
 //! The values that a document gives a field. A refusal has the path of the member.
 
 ghost use Rattle.std.specs.Prelude.{◌≡◌};
-ghost use Rattle.serde_json.specs.View.{view};
+ghost use Rattle.lent_json.specs.View.{view};
 ghost use Rattle.agg_reading.specs.Scalars.{whole, word};
 ghost use Rattle.agg_reading.specs.Document.{number_value, word_value, is_ignored, document_flag, scalar_at};
 ghost use Rattle.document_rows.specs.Faults.{Gives};
@@ -11,8 +11,8 @@ use crate::refusal::refuse;
 use agg_model::item_refusal::{KEYWORD_TOO_LONG, NUMBER_OUT_OF_RANGE, WRONG_FIELD_TYPE};
 use agg_model::limits::MAX_KEYWORD;
 use agg_model::{FieldKind, Scalar};
-use json_walk::{fits_kind, flag, is_longer, whole, word};
-use serde_json::Value;
+use json_walk::{fits_kind, is_longer};
+use lent_json::{Lent, flag, whole, word};
 use std::alloc::Global;
 
 /// The value of a whole-number field: `WRONG_FIELD_TYPE` where the value is no whole number or decimal text,
@@ -21,7 +21,7 @@ fn number(
     alloc: Global,
     kind: FieldKind,
     path: &str,
-    value: &Value,
+    value: &Lent<'_>,
 ) -> Result<Option<Scalar>, ItemFault>
     ensures { Gives (λ x. x) result (number_value kind path.now (whole (view value.now))) }
 {
@@ -50,7 +50,7 @@ fn keyword(
     alloc: Global,
     above: Option<u32>,
     path: &str,
-    value: &Value,
+    value: &Lent<'_>,
 ) -> Result<Option<Scalar>, ItemFault>
     ensures { Gives (λ x. x) result (word_value above path.now (word (view value.now))) }
 {
@@ -67,11 +67,11 @@ fn keyword(
 }
 
 /// The boolean of a value; the empty text counts as false.
-fn document_flag(value: &Value) -> Option<bool>
+fn document_flag(value: &Lent<'_>) -> Option<bool>
     ensures { result ≡ document_flag (view value.now) }
 {
     match value {
-        Value::String(text) if text.is_empty() => Some(false),
+        Lent::String(text) if text.is_empty() => Some(false),
         _ => flag(value),
     }
 }
@@ -85,7 +85,7 @@ pub fn scalar(
     kind: FieldKind,
     above: Option<u32>,
     path: &str,
-    value: &Value,
+    value: &Lent<'_>,
 ) -> Result<Option<Scalar>, ItemFault>
     ensures { Gives (λ x. x) result (scalar_at kind above path.now (view value.now)) }
 {

@@ -14,6 +14,7 @@ mod tests;
 mod values;
 mod walk;
 
-pub use document::root_row_of;
+pub use document::{root_row_of, root_row_with};
 pub use fault::ItemFault;
+pub use lent_json::Scratch;
 pub use refusal::refuse;

@@ -3,7 +3,7 @@
 
 ghost use Rattle.std.specs.Prelude.{◌≡◌, ◌++◌, ◌∷◌, ◌<◌, [], OnOk, length, string_bytes};
 ghost use Rattle.serde_json.specs.Data.{object};
-ghost use Rattle.serde_json.specs.View.{view, items_view, members_view};
+ghost use Rattle.lent_json.specs.View.{view, items_view, members_view};
 ghost use Rattle.agg_reading.specs.Document.{with_scalar, leaf_at, value_at, items_at, members_at, member_at};
 ghost use Rattle.document_rows.specs.Faults.{Gives};
 ghost use Rattle.document_rows.specs.Roles.{IsRoleIn};
@@ -21,7 +21,7 @@ use agg_model::item_refusal::{
 };
 use agg_model::limits::{MAX_FIELD_VALUES, MAX_NESTED_OBJECTS};
 use agg_reading::Role;
-use serde_json::{Map, Value};
+use lent_json::Lent;
 use std::alloc::Global;
 use std::mem;
 
@@ -60,7 +60,7 @@ fn with_scalar(
 
 /// A value that is neither null nor a list nor an object: `WRONG_FIELD_TYPE` where the path is no field.
 #[tactic(auto, unfolding(agg_reading::specs::Document::leaf_at))]
-fn leaf(alloc: Global, role: Role, walked: &mut Walked, value: &Value) -> Result<(), ItemFault>
+fn leaf(alloc: Global, role: Role, walked: &mut Walked, value: &Lent<'_>) -> Result<(), ItemFault>
     ensures value { Gives (λ _. state_of walked.new) result (leaf_at role (string_bytes walked.old.path) (state_of walked.old) (view value.now)) }
     ensures path { OnOk result (string_bytes walked.new.path ≡ string_bytes walked.old.path) }
 {
@@ -86,7 +86,7 @@ fn value(
     role: Role,
     context: u32,
     walked: &mut Walked,
-    value: &Value,
+    value: &Lent<'_>,
 ) -> Result<(), ItemFault>
     requires role { IsRoleIn mapping.now role }
     ensures value { Gives (λ _. state_of walked.new) result
@@ -94,10 +94,10 @@ fn value(
     ensures path { OnOk result (string_bytes walked.new.path ≡ string_bytes walked.old.path) }
 {
     match value {
-        Value::Null => Ok(()),
-        Value::Array(found) => items(alloc, &*mapping, role, context, walked, found),
-        Value::Object(found) => object(alloc, &*mapping, role, context, walked, found),
-        Value::Bool(_) | Value::Number(_) | Value::String(_) => leaf(alloc, role, walked, value),
+        Lent::Null => Ok(()),
+        Lent::Array(found) => items(alloc, &*mapping, role, context, walked, found),
+        Lent::Object(found) => object(alloc, &*mapping, role, context, walked, found),
+        Lent::Bool(_) | Lent::Number(_) | Lent::String(_) => leaf(alloc, role, walked, value),
     }
 }
 
@@ -109,7 +109,7 @@ fn items(
     role: Role,
     context: u32,
     walked: &mut Walked,
-    items: &Vec<Value>,
+    items: &Vec<Lent<'_>>,
 ) -> Result<(), ItemFault>
     requires role { IsRoleIn mapping.now role }
     ensures value { Gives (λ _. state_of walked.new) result
@@ -130,11 +130,11 @@ fn object(
     role: Role,
     context: u32,
     walked: &mut Walked,
-    members: &Map<String, Value>,
+    members: &Vec<(&str, Lent<'_>)>,
 ) -> Result<(), ItemFault>
     requires role { IsRoleIn mapping.now role }
     ensures value { Gives (λ _. state_of walked.new) result
-        (value_at mapping.now role context (string_bytes walked.old.path) (state_of walked.old) (object (members_view members.now.entries))) }
+        (value_at mapping.now role context (string_bytes walked.old.path) (state_of walked.old) (object (members_view members.now.items))) }
     ensures path { OnOk result (string_bytes walked.new.path ≡ string_bytes walked.old.path) }
 {
     match role {
@@ -152,10 +152,10 @@ fn inner(
     mapping: &OrderedMapping<'_>,
     context: u32,
     walked: &mut Walked,
-    found: &Map<String, Value>,
+    found: &Vec<(&str, Lent<'_>)>,
 ) -> Result<(), ItemFault>
     ensures value { Gives (λ _. state_of walked.new) result
-        (members_at mapping.now context (string_bytes walked.old.path ++ 46 ∷ []) (state_of walked.old) (members_view found.now.entries)) }
+        (members_at mapping.now context (string_bytes walked.old.path ++ 46 ∷ []) (state_of walked.old) (members_view found.now.items)) }
     ensures path { OnOk result (string_bytes walked.new.path ≡ string_bytes walked.old.path) }
 {
     let end = walked.path.len();
@@ -174,11 +174,11 @@ fn nested(
     mapping: &OrderedMapping<'_>,
     place: u32,
     walked: &mut Walked,
-    members: &Map<String, Value>,
+    members: &Vec<(&str, Lent<'_>)>,
 ) -> Result<(), ItemFault>
     requires { place < length mapping.now.nested }
     ensures value { Gives (λ _. state_of walked.new) result
-        (nested_at mapping.now place (string_bytes walked.old.path) (state_of walked.old) (members_view members.now.entries)) }
+        (nested_at mapping.now place (string_bytes walked.old.path) (state_of walked.old) (members_view members.now.items)) }
     ensures path { OnOk result (string_bytes walked.new.path ≡ string_bytes walked.old.path) }
 {
     if walked.met >= MAX_NESTED_OBJECTS {
@@ -200,7 +200,7 @@ fn member(
     mapping: &OrderedMapping<'_>,
     context: u32,
     walked: &mut Walked,
-    found: &Value,
+    found: &Lent<'_>,
 ) -> Result<(), ItemFault>
     ensures value { Gives (λ _. state_of walked.new) result
         (member_at mapping.now context (string_bytes walked.old.path) (state_of walked.old) (view found.now)) }
@@ -217,6 +217,13 @@ fn member(
     }
 }
 
+/// The text of a name, which is UTF-8 wherever it stands.
+fn text_of<'a>(name: &&'a str) -> &'a str
+    ensures { result.now ≡ name.now.now }
+{
+    *name
+}
+
 /// The members of an object whose members have paths that begin with where the walk stands.
 #[cycle(walk)]
 pub(crate) fn members(
@@ -224,15 +231,15 @@ pub(crate) fn members(
     mapping: &OrderedMapping<'_>,
     context: u32,
     walked: &mut Walked,
-    members: &Map<String, Value>,
+    members: &Vec<(&str, Lent<'_>)>,
 ) -> Result<(), ItemFault>
     ensures value { Gives (λ _. state_of walked.new) result
-        (members_at mapping.now context (string_bytes walked.old.path) (state_of walked.old) (members_view members.now.entries)) }
+        (members_at mapping.now context (string_bytes walked.old.path) (state_of walked.old) (members_view members.now.items)) }
     ensures path { OnOk result (string_bytes walked.new.path ≡ string_bytes walked.old.path) }
 {
     let end = walked.path.len();
     for (name, value) in members {
-        walked.path.push_str(name.as_str())?;
+        walked.path.push_str(text_of(name))?;
         member(alloc, &*mapping, context, &mut *walked, value)?;
         walked.path.truncate(end);
     }

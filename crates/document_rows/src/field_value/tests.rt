@@ -1,7 +1,7 @@
 use crate::fault::ItemFault;
 use crate::field_value::scalar;
 use agg_model::{FieldKind, Scalar, Text};
-use json_walk::reading;
+use lent_json::{Scratch, reading};
 use std::alloc::Global;
 use std::test::Fail;
 
@@ -11,7 +11,8 @@ fn refusal(
     above: Option<u32>,
     json: &[u8],
 ) -> Result<Option<u8>, Fail> {
-    let Some(value) = reading(alloc, json)? else {
+    let mut scratch = Scratch::new(alloc);
+    let Some(value) = reading(alloc, json, &mut scratch)? else {
         return Ok(Some(0));
     };
     match scalar(alloc, kind, above, "a.b", &value) {
@@ -34,7 +35,8 @@ fn has_value(
     json: &[u8],
     wanted: &Option<Scalar>,
 ) -> Result<bool, Fail> {
-    let Some(value) = reading(alloc, json)? else {
+    let mut scratch = Scratch::new(alloc);
+    let Some(value) = reading(alloc, json, &mut scratch)? else {
         return Ok(false);
     };
     match scalar(alloc, kind, above, "a.b", &value) {

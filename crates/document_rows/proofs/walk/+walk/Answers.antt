@@ -9,7 +9,7 @@ pub members-truncate-requires : goal.members-truncate-requires
 members-truncate-requires t c = λ within.
     let path = string_bytes c.member.new.walked.path in
     let boundary = subst (IsCharBoundary path) (sym (c.loop-name.invariant.end ∙ ap length (sym c.loop-name.invariant.path)))
-    (IsCharBoundary-at_seam path (string_bytes c.loop-name.walked.path) c.as_str.result.now (c.in_ok-member.ensures.path ∙ c.in_ok-push_str.ensures.bytes) c.as_str.utf8) in
+    (IsCharBoundary-at_seam path (string_bytes c.loop-name.walked.path) c.text_of.result.now (c.in_ok-member.ensures.path ∙ c.in_ok-push_str.ensures.bytes) c.text_of.utf8) in
     (boundary.0, λ above_0. boundary.1)
 
 pub nested-finish-requires : goal.nested-finish-requires

@@ -1,0 +1,4 @@
+pub mod NoJson
+pub mod Ordered
+pub mod Turns
+pub mod Views
