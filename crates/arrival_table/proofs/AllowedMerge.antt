@@ -1,5 +1,5 @@
 -- The steps of a batch in hand keep the rule, since each is a move: its results are taken and the merged one is put.
-use Rattle.std.proofs.Common.{◌≡◌, ◌≢◌, ℕ, ◌+◌, ◌/◌, ◌<◌, ◌≤◌, true, false, cond, ⊎_elim, List, [], ◌∷◌, length, set, sym, refl, ap, ◌∙◌, subst, arith}
+use Rattle.std.proofs.Common.{◌≡◌, ◌≢◌, ℕ, ◌+◌, ◌/◌, ◌<◌, ◌≤◌, ◌&&◌, ltb, true, false, cond, ⊎_elim, List, [], ◌∷◌, length, set, sym, refl, ap, ◌∙◌, subst, arith}
 use Rattle.std.proofs.lemmas.Bool.{false≢true}
 use mathlib.Core.Option.{Option, none, some}
 use lib.ListN.{get_elem?}
@@ -16,19 +16,23 @@ use Rattle.arrival_moves.specs.AfterMove.{reached_item, after_take_result, after
 use Rattle.arrival_moves.specs.Fairness.{IsOfSearch}
 use Rattle.arrival_moves.specs.Guards.{may_put_merged}
 use Rattle.arrival_moves.specs.Hands.{find_item}
-use Rattle.arrival_moves.specs.Items.{is_batch, is_due, is_at_slot}
+use Rattle.arrival_moves.specs.Items.{in_item, is_batch, is_due, is_at_slot}
+use Rattle.arrival_moves.specs.Labels.{task_times}
 use Rattle.arrival_moves.specs.Moves.{ArrivalState, take_result, put_merged, run, move_label}
 use Rattle.arrival_moves.specs.Plans.{task_count, tasks_of, place_of, IsPlan}
-use Rattle.arrival_moves.specs.Slots.{Slot, fresh, reached, holds, emptied}
+use Rattle.arrival_moves.specs.Slots.{Slot, fresh, reached, holds, emptied, in_slot}
+use Rattle.arrival_table.specs.Holding.{AreNew, found_item, item_or, taken_in}
 use Rattle.arrival_table.specs.Outs.{knows, now_has_out}
 use Rattle.arrival_table.specs.Steps.{IsReached, IsOutcomeAt, TakesResult, ReachesBatch, PutsMerged, batch_slot}
 use Rattle.arrival_moves.proofs.Alone.{due_there}
-use Rattle.arrival_moves.proofs.Batches.{held_real, fresh_batch}
+use Rattle.arrival_moves.proofs.Batches.{held_real, fresh_batch, hands_has}
 use Rattle.arrival_moves.proofs.Cases.{found_is, find_again, exchanged_again}
 use Rattle.arrival_moves.proofs.LabelsFit.{batch_found, due_range, due_now, batch_first}
 use Rattle.place_laws.proofs.Places.{at_set, set_else, set_here}
 use Rattle.arrival_moves.proofs.Places.{place_within}
-use Rattle.arrival_moves.proofs.Runs.{kept_run, move_item_is}
+use Rattle.arrival_moves.proofs.OneIf.{one_if_le}
+use Rattle.arrival_moves.proofs.Runs.{IsKept, kept_run, move_item_is}
+use Rattle.place_laws.proofs.Sums.{sum_by_has}
 use Rattle.arrival_table.proofs.Allowed.{again, desk_there, desks_now, load_stays, outcome_stays}
 use Rattle.arrival_table.proofs.Lists.{set_word}
 use Rattle.arrival_table.proofs.Outs.{out_taken, out_given}
@@ -54,6 +58,26 @@ batch_at_slot q b (Closed z) h = absurd (false≢true h)
 pub label_is : (s : ArrivalState) (act : Label → ArrivalState) (o : Option Slot) (l : Label) → o ≡ some (holds l) → move_label s act o ≡ act l
 unfolding move_label
 label_is s act o l e = ap (move_label s act) e
+
+-- an item stands for what was taken into it
+taken_le : (k : ℕ) (x : Item) → task_times k (taken_in x) ≤ in_item (task_times k) x
+taken_le k (Claimed j) = omega arith
+taken_le k (Loaded z) = omega arith
+taken_le k (Arrived z) = omega arith
+taken_le k (Put z) = omega arith
+taken_le k (Batch z) = omega arith
+taken_le k (Closed z) = omega arith
+
+-- each task is at one place, so none that is taken is among those that were
+pub are_new : (p : Plan) (good : IsPlan p) (b : ArrivalState) → IsKept p b → (i q t : ℕ) (v : View) (x : Item) (l : Label) → get_elem? b.desks i ≡ some v → find_item (is_batch q (t / p.batch)) v.hand ≡ some x
+    → get_elem? b.results (place_of p q t) ≡ some (holds l) → AreNew q (t / p.batch) v l
+are_new p good b f i q t v x l there found full k =
+    let is : found_item (is_batch q (t / p.batch)) v ≡ x = ap item_or found in
+    let once = f.tasks.once k in let most = one_if_le (ltb k b.claimed && ltb k (task_count p)) in
+    let hand = hands_has (in_item (task_times k)) b.desks i v (is_batch q (t / p.batch)) x there found in
+    let slot = sum_by_has (in_slot (task_times k)) b.results (place_of p q t) (holds l) full in
+    let low = taken_le k x in
+    subst (λ (y : Item). task_times k (taken_in y) + task_times k l ≤ 1) (sym is) (omega (arith, once, most, hand, slot, low))
 
 module _ {A R : Type 0} (load : A → Label) (outcome : R → Label) (p : Plan) (good : IsPlan p) where
   abbrev M : Type 0
@@ -82,7 +106,16 @@ module _ {A R : Type 0} (load : A → Label) (outcome : R → Label) (p : Plan) 
               (λ (y : (k ≢ j) × (get_elem? b.results k ≡ some z)). outcome_stays load outcome p good s.homes ts (task_count p + k) z (set_else s.homes at (task_count p + k) none (λ u. y.0 (omega arith))) (r.1.results k z y.1)) (at_set b.results j k emptied z e);
           batches = λ k z e. outcome_stays load outcome p good s.homes ts (task_count p + task_count p + k) z (set_else s.homes at (task_count p + task_count p + k) none (λ u. omega arith)) (r.1.batches k z e);
         }) (out_taken s.homes s.views id at (Outcome y) me.0 d r.2 here old.1 refl),
-        (x, found, y, refl, range, ap (λ m. length m.tasks) old.2 ∙ full.2, subst (IsOfSearch p q) (sym old.2) full.3),
+        (
+          x,
+          found,
+          y,
+          refl,
+          range,
+          ap (λ m. length m.tasks) old.2 ∙ full.2,
+          subst (IsOfSearch p q) (sym old.2) full.3,
+          subst (AreNew q (t / p.batch) v) (sym old.2) (are_new p good b f id q t v x l there found full.1),
+        ),
       )
 
   -- the desk comes to the slot of its batch, and then the merged result is in it

@@ -1,5 +1,5 @@
 -- What a contract reads of a desk's hand.
-use Rattle.std.specs.Prelude.{◌≡◌, ℕ, Bool, false, List, []}
+use Rattle.std.specs.Prelude.{◌≡◌, ◌≤◌, ℕ, ◌+◌, Bool, false, List, []}
 use mathlib.Core.Option.{Option, none, some}
 use Rattle.arrival_moves.specs.declared.item.Item.{Item}
 use Rattle.arrival_moves.specs.declared.item.Item.TheVariants.{Claimed, Arrived, Batch}
@@ -7,7 +7,7 @@ use Rattle.arrival_moves.specs.declared.label.Label.{Label}
 use Rattle.arrival_moves.specs.declared.view.View.{View}
 use Rattle.arrival_moves.specs.Hands.{find_item, HasItem}
 use Rattle.arrival_moves.specs.Items.{is_arrived, is_batch, is_at_slot, is_marked}
-use Rattle.arrival_moves.specs.Labels.{no_label}
+use Rattle.arrival_moves.specs.Labels.{no_label, task_times}
 
 -- the first item that is meant, where the desk has one
 abbrev pub item_or : Option Item → Item
@@ -51,3 +51,7 @@ taken_in _ = no_label
 
 abbrev pub taken_label : ℕ → ℕ → View → Label
 taken_label q b v = taken_in (found_item (is_batch q b) v)
+
+-- no task of l stands twice in it, or among the results of the batch that were taken before
+abbrev pub AreNew : ℕ → ℕ → View → Label → Type 0
+AreNew q b v l = (k : ℕ) → task_times k (taken_label q b v) + task_times k l ≤ 1

@@ -20,6 +20,7 @@ use Rattle.arrival_moves.specs.Lists.{contains}
 use Rattle.arrival_moves.specs.Moves.{ArrivalState, Move, run}
 use Rattle.arrival_moves.specs.Plans.{task_count, search_of, tasks_of, place_of}
 use Rattle.arrival_moves.specs.Slots.{Slot, fresh, holds}
+use Rattle.arrival_table.specs.Holding.{AreNew}
 use Rattle.arrival_table.specs.Outs.{OutOnce, knows, now_knows, now_has_out}
 
 -- the words of the table: the claim word, ticket words, count words, stop words
@@ -94,12 +95,13 @@ module _ {A R : Type 0} (load : A → Label) (outcome : R → Label) where
   abbrev pub Counts : Plan → ℕ → ℕ → StepTells
   Counts p q t s v n w = (w ≡ (now_knows v.0 (after_count p v.0.view q t (n + 1)), v.1)) × (n ≤ MAX_TASKS)
 
-  -- the result of a due ticket comes with its slot; it stands for one task of the search
+  -- the result of a due ticket comes with its slot; it stands for one task of the search, which was not taken before
   abbrev pub TakesResult : Plan → ℕ → ℕ → StepTells
   TakesResult p q t s v n w =
       (x : Item) × (find_item (is_batch q (t / p.batch)) v.0.view.hand ≡ some x) × (y : R)
       × (w ≡ (now_has_out v.0 (after_take_result p v.0.view q t x (outcome y)) (result_slot p q t), (result_slot p q t, Outcome y) ∷ v.1))
       × (t < tasks_of p q) × (length (outcome y).tasks ≡ 1) × IsOfSearch p q (outcome y)
+      × AreNew q (t / p.batch) v.0.view (outcome y)
 
   -- the desk is at the empty slot of the batch's merged result
   abbrev pub ReachesBatch : Plan → ℕ → ℕ → StepTells

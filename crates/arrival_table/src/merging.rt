@@ -3,7 +3,7 @@ ghost use Rattle.std.specs.Prelude.{◌≡◌, ◌/◌, [], length};
 ghost use Rattle.arrival_moves.specs.AfterMove.{after_put_merged};
 ghost use Rattle.arrival_moves.specs.Fairness.{IsOfSearch};
 ghost use Rattle.arrival_table.specs.Calls.{IsDue, HasTakenResult, IsMergedOf};
-ghost use Rattle.arrival_table.specs.Holding.{HasBatch, due_tickets};
+ghost use Rattle.arrival_table.specs.Holding.{AreNew, HasBatch, due_tickets};
 ghost use Rattle.arrival_table.specs.Models.{IsOf, with_view};
 
 use crate::cell::{Cell, Labelled};
@@ -23,6 +23,7 @@ impl<A: Labelled, R: Labelled> Arrivals<A, R> {
         requires due { IsDue self.now.plan search ticket desk.old.view }
         ensures one { length (R.label result).tasks ≡ 1 }
         ensures search { IsOfSearch self.now.plan search (R.label result) }
+        ensures new { AreNew search (ticket / self.now.plan.batch) desk.old.view (R.label result) }
         ensures desk { HasTakenResult self.now.plan search ticket (R.label result) desk.old desk.new }
     {
         self.table
@@ -41,13 +42,15 @@ impl<A: Labelled, R: Labelled> Arrivals<A, R> {
         }
     }
 
-    /// The result of a ticket of a batch that this desk counted last. It stands for one task of the search.
+    /// The result of a ticket of a batch that this desk counted last. It stands for one task of the search, for which none
+    /// stands that was taken from the batch before.
     pub fn take_result(&self, desk: &mut Desk<A, R>, search: u32, ticket: u32) -> R
         requires of { IsOf self.now desk.old }
         requires batch { HasBatch search (ticket / self.now.plan.batch) desk.old.view }
         requires due { IsDue self.now.plan search ticket desk.old.view }
         ensures one { length (R.label result).tasks ≡ 1 }
         ensures search { IsOfSearch self.now.plan search (R.label result) }
+        ensures new { AreNew search (ticket / self.now.plan.batch) desk.old.view (R.label result) }
         ensures desk { HasTakenResult self.now.plan search ticket (R.label result) desk.old desk.new }
     {
         self.take_result_by::<Brand>(desk, search, ticket)

@@ -1,0 +1,5 @@
+pub mod Joining
+pub mod Among
+pub mod Parts
+pub mod Beginning
+pub mod Merging

@@ -1,0 +1,6 @@
+-- What lies in the slots while workers share tasks.
+pub mod Pools
+pub mod Runs
+pub mod Passes
+pub mod Carried
+pub mod Sets

@@ -1,0 +1,16 @@
+//! Which searches loads and results belong to.
+ghost use Rattle.pool_results.specs.Pools.{Pool};
+
+use std::marker::Brand;
+
+/// The call that loads and results belong to: its words, index, searches and ceilings. Contracts alone see it.
+pub trait PoolCall {
+    ghost pool: { Pool };
+}
+
+// A call at `Brand` picks it.
+impl PoolCall for Brand {
+    ghost use Rattle.pool_results.specs.Pools.{no_pool};
+
+    ghost pool = { no_pool };
+}
