@@ -8,16 +8,17 @@ ghost use Rattle.agg_bulk.specs.Loading.{loading_of};
 
 use agg_documents::Store;
 use agg_model::{Action, Copying, Item, ItemEnd, List, Mapping};
-use document_rows::ItemFault;
+use document_rows::{ItemFault, Scratch};
 use std::alloc::{AllocError, Global};
 
-/// Does one bulk action, and adds its item.
+/// Does one bulk action, and adds its item. The scratch is kept from one action to the next.
 pub(crate) fn apply(
     alloc: Global,
     mapping: &Mapping,
     store: &mut Store,
     items: &mut List<Item>,
     action: Action,
+    scratch: &mut Scratch,
 ) -> Result<(), AllocError>
     requires { IsOrdered mapping.now }
     ensures { OnOk result ((index : IndexLine) →
@@ -25,7 +26,7 @@ pub(crate) fn apply(
 {
     let kind = action.kind;
     let id = action.id.copy(alloc)?;
-    let end = match store.apply(mapping, action) {
+    let end = match store.apply_with(mapping, action, scratch) {
         Ok(applied) => ItemEnd::Applied(applied),
         Err(ItemFault::Refused(refusal)) => ItemEnd::Refused(refusal),
         Err(ItemFault::Memory) => return Err(AllocError),

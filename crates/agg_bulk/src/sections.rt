@@ -22,6 +22,7 @@ use agg_mapping::{MapFault, index_line_of};
 use agg_model::script_refusal::{BAD_INDEX_LINE, MISSING_SECTION};
 use agg_model::{Item, List};
 use agg_reading::IndexLine;
+use document_rows::Scratch;
 use script_lines::{ScriptFault, ScriptRefusal, is_empty_line, refused_here, take_line};
 use std::alloc::Global;
 
@@ -99,10 +100,18 @@ fn bulk_actions<S: Source>(
     ensures kept { OnOk result (kept lines.new ≡ None) }
     ensures same_source { source_name lines.new ≡ source_name lines.old }
 {
+    let mut scratch = Scratch::new(alloc);
     let mut store = Store::new(alloc);
     let mut items = List::new(alloc);
     while let Some(action) = next_action(alloc, lines, index.name.as_str(), items.len())? {
-        apply(alloc, &index.mapping, &mut store, &mut items, action)?;
+        apply(
+            alloc,
+            &index.mapping,
+            &mut store,
+            &mut items,
+            action,
+            &mut scratch,
+        )?;
     }
     Ok(Sections {
         index,
