@@ -23,7 +23,7 @@ fn bytes_of(shards: &[Shard]) -> u64
 }
 
 /// What the columns of an index are charged with at the breaker of fielddata, in bytes: what they weigh with its
-/// overhead, rounded up.
+/// overhead, rounded up. It is below 2^54.
 pub fn columns_charge(index: &Index) -> u64
     ensures charge { result ≡ columns_charge (index_of index.now) }
     ensures bound { result < 2 ^ 54 }

@@ -123,7 +123,9 @@ fn bulk_actions<S: Source>(
 /// Reads the first two sections of a script, from its start: the index line, an empty line, and bulk actions up to the
 /// next empty line.
 ///
-/// Where the source fails, the whole lines of what was read are refused as a script.
+/// A script that breaks a rule is refused with one of `agg_model::script_refusal`, at the first line that breaks one. Where
+/// the source fails, the whole lines of what was read are refused as a script. A bulk action that is refused is an item, and
+/// changes nothing.
 pub fn load_sections<S: Source>(
     alloc: Global,
     lines: &mut Lines<'_, S>,

@@ -12,8 +12,9 @@ use shard_columns::Index;
 use std::alloc::{AllocError, Global};
 use std::thread::{Threads, map_indices};
 
-/// The ceiling of a search over all shards of an index: the sum of the ceilings of its tasks. None where one of them has
-/// none, or where the sum is above 2^50. The search is made for the mapping of the index.
+/// The ceiling of a search over all shards of an index, in bytes: the sum of the ceilings of its tasks. None where one of them
+/// has none, or where the sum is above 2^50. The search is made for the mapping of the index. It takes the time of `ceiling` for
+/// each shard, the memory of one, and fails only where memory is wanting.
 pub fn search_ceiling(
     alloc: Global,
     index: &Index,

@@ -87,8 +87,9 @@ fn append_document(script: &mut String, draws: &mut Draws, id: u32) -> Result<()
     Ok(())
 }
 
-/// The script of that many documents and shards, with numbers that are drawn from the seed. It takes time and memory in
-/// proportion to the number of documents.
+/// The script of that many documents and shards, with numbers that are drawn from the seed. It takes any number of both; the
+/// words of the program give at most `MAX_GENERATED_DOCUMENTS` and `MAX_GENERATED_SHARDS`. It takes time and memory in
+/// proportion to the number of documents, and fails only where memory is wanting.
 pub fn make(alloc: Global, generate: &Generate) -> Result<Bytes, AllocError>
     ensures { IfOk result (λ script. script ≡ generated generate.now) }
 {

@@ -1,5 +1,6 @@
 //! The lines that the program prints, each exactly the text that its definition gives: the answers to bulk actions,
-//! refusals, breakers' exceptions, settings lines, statistics, and the last line of a run that ends early.
+//! refusals, breakers' exceptions, settings lines, statistics, and the last line of a run that ends early. Each call fails only
+//! where memory is wanting.
 #![tactic(auto)]
 
 mod answers;

@@ -24,6 +24,7 @@ pub enum FinalFault {
         /// `/` before each name of the aggregations on the way to the first such number.
         path: Text,
     },
+    /// Memory ran out.
     Memory,
 }
 
@@ -36,6 +37,9 @@ impl From<AllocError> for FinalFault {
 }
 
 /// The final answer to a search that is made for a mapping, given the whole of the shard answers.
+///
+/// `TooManyBuckets` is an answer that would have more buckets than `max_buckets`; any other with a printed number outside signed
+/// 64 bits is `SumRange`, with the path of the first one. `Memory` may come in the place of any answer.
 pub fn finish(
     alloc: Global,
     search: &Search,

@@ -29,7 +29,8 @@ fn write_ended<K: Sink>(sink: &mut K, text: &Text) -> Result<(), Failed>
     write_all(sink, b"\n")
 }
 
-/// Writes the text of a line that is no answer to a search, with its newline. No listener is told of it.
+/// Writes the text of a line that is no answer to a search, with its newline. No listener is told of it. Where the sink fails, a
+/// front of the line stands that is not all of it, and the answer is `Stop::Write`. It takes no memory.
 pub fn write_line<K: Sink, L: Listener>(
     sink: &mut K,
     audience: &mut Audience<L>,

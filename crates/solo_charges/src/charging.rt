@@ -35,7 +35,8 @@ pub fn make_room(words: &Words, pass: &mut Pass)
     set_ceiling(words, pass, CEILING);
 }
 
-/// Charges up to 2^62 bytes at the child and at the parent; 0 bytes are no charge.
+/// Charges up to 2^62 bytes at the child and at the parent; 0 bytes are no charge. Where a breaker refuses, the pass holds what
+/// it held before.
 pub fn charge_bytes(words: &Words, pass: &mut Pass, child: Child, bytes: u64) -> Result<(), Tripped>
     requires alone { IsAlone words.now pass.old }
     requires few { bytes ≤ 2 ^ 62 }
@@ -44,6 +45,7 @@ pub fn charge_bytes(words: &Words, pass: &mut Pass, child: Child, bytes: u64) ->
         EndsAs before pass.new.view (run words.now.limits r (charge_of child bytes)) result }
     ensures others { (x : AnyWhich) → x ≢ which_of child → x ≢ which.Parent →
         hold_of pass.new.view x ≡ hold_of pass.old.view x }
+    ensures kept { OnErr result ((x : AnyWhich) → hold_of pass.new.view x ≡ hold_of pass.old.view x) }
 {
     if bytes == 0 {
         return Ok(());
