@@ -1,0 +1,12 @@
+//! One worker: it claims tasks until there is none more, runs or skips each, and merges the batches that it completes. Workers
+//! share words and a table, with no lock, and none waits for another.
+#![tactic(auto)]
+
+mod delivering;
+mod gate;
+mod merging;
+mod running;
+mod working;
+
+pub use gate::{Gate, OpenGate, Point};
+pub use working::work;
