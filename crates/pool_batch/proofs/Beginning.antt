@@ -1,5 +1,5 @@
 -- The first result of a batch, and one more.
-use Rattle.std.specs.Prelude.{◌≡◌, refl, ◌⊎◌, ◌≤◌, ◌<◌, ℕ, ◌+◌, ◌*◌, ◌==◌, Bool, true, false, ◌||◌, List, [], ◌∷◌, ◌++◌, map, length, sum_by, option_to_list, is_some, Option, Some, None}
+use Rattle.std.specs.Prelude.{◌≡◌, refl, ◌≤◌, ◌<◌, ℕ, ◌+◌, ◌==◌, Bool, true, false, ◌||◌, List, [], ◌∷◌, ◌++◌, map, length, sum_by, option_to_list, is_some, Option, Some, None}
 use Rattle.std.specs.List.{AllByRecursion}
 use Rattle.std.proofs.Common.{sym, ◌∙◌, ap, subst, arith, ⊎_elim}
 use Rattle.std.proofs.lemmas.List.{map-append}
@@ -9,10 +9,8 @@ use Rattle.agg_evaluation.proofs.TreeLaws.{shard_answer-is_result}
 use Rattle.agg_evaluation.specs.Cost.{cost}
 use Rattle.agg_evaluation.specs.Shard.{shard_answer}
 use Rattle.agg_model.specs.declared.breaker.Which.{Which}
-use Rattle.agg_model.specs.declared.breaker.Which.TheVariants.{Request, Fielddata, Inflight, Parent}
+use Rattle.agg_model.specs.declared.breaker.Which.TheVariants.{Request}
 use Rattle.agg_model.specs.declared.breaker.Tripped.{Tripped}
-use Rattle.agg_model.specs.declared.outcome.Failure.{Failure}
-use Rattle.agg_model.specs.declared.partial.Partial.{Partial}
 use Rattle.agg_spec.specs.Index.{rows_in}
 use Rattle.agg_spec.specs.Outcome.{shard_answers}
 use Rattle.agg_spec.specs.Rises.{merge_charge}
@@ -23,13 +21,13 @@ use Rattle.breaker_words.specs.AfterStep.{after_join}
 use Rattle.breaker_words.specs.Breakers.{counter_value}
 use Rattle.breaker_words.specs.Passes.{PassModel, with_view}
 use Rattle.breaker_words.specs.Views.{granted_of, hold_of}
-use Rattle.pool_results.specs.Carried.{AreRuns, IsCarried, PeakFits, whole_unless_none, is_stopped as is_stopped_work, has_failed as has_failed_work}
+use Rattle.pool_results.specs.Carried.{AreRuns, IsCarried, PeakFits, whole_unless_none, is_stopped as is_stopped_work}
 use Rattle.pool_results.specs.Passes.{IsPassOf}
 use Rattle.pool_results.specs.Pools.{Pool, cost_at, gross_at, search_at, shard_count}
-use Rattle.pool_results.specs.Runs.{failures_in, failure_by, left_by, left_in, shards_in}
+use Rattle.pool_results.specs.Runs.{failures_in, left_by, left_in, shards_in}
 use Rattle.pool_results.specs.declared.shard_run.ShardRun.{ShardRun}
 use Rattle.pool_results.specs.declared.work.Work.{Work}
-use Rattle.pool_batch.specs.Gathered.{IsAdded, IsGathered, IsKept, first_of, has_failed, is_stopped, taken_of, with_work}
+use Rattle.pool_batch.specs.Gathered.{IsAdded, IsGathered, IsKept, first_of, is_stopped, taken_of, with_work}
 use Rattle.pool_batch.specs.declared.taken.Taken.{Taken}
 use Rattle.pool_batch.proofs.Joining.{all-append, at-sum, failures-append, back-empty, front-empty, granted-both, joined-passes, left-append, shards-append}
 

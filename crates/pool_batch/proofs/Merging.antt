@@ -1,5 +1,5 @@
 -- What the merge of a batch makes of its pass.
-use Rattle.std.specs.Prelude.{◌≡◌, ◌≢◌, refl, ◌⊎◌, ◌≤◌, ◌<◌, ℕ, zero, suc, ◌+◌, ◌*◌, ◌-◌, max, Bool, true, false, ◌||◌, List, [], ◌∷◌, ◌++◌, map, length, sum, sum_by, option_to_list, is_some, Option, Some, None, IsTrue}
+use Rattle.std.specs.Prelude.{◌≡◌, ◌≢◌, refl, ◌⊎◌, ◌≤◌, ℕ, zero, suc, ◌+◌, ◌*◌, max, Bool, true, false, ◌||◌, List, [], ◌∷◌, ◌++◌, map, length, sum_by, is_some, Option, Some, None, IsTrue}
 use Rattle.std.specs.List.{AllByRecursion}
 use Rattle.std.proofs.Common.{sym, ◌∙◌, ap, subst, arith, inl, inr, ⊎_elim}
 use Rattle.std.proofs.lemmas.List.{length-map}
@@ -28,11 +28,10 @@ use Rattle.breaker_words.specs.Accounts.{account, empty_account}
 use Rattle.breaker_words.specs.Breakers.{counter_value}
 use Rattle.breaker_words.specs.Passes.{IsOf, PassModel}
 use Rattle.breaker_words.specs.Views.{granted_of, hold_of, most_of, seen_of, trips_of}
-use Rattle.breaker_words.specs.declared.trial.Trial.TheVariants.{Rest}
 use Rattle.breaker_words.specs.declared.view.View.{View}
-use Rattle.pool_results.specs.Carried.{AreRuns, IsCarried, whole_unless_none, is_stopped as is_stopped_work}
+use Rattle.pool_results.specs.Carried.{IsCarried, whole_unless_none, is_stopped as is_stopped_work}
 use Rattle.pool_results.specs.Passes.{IsPassOf, IsSeen, is_charged}
-use Rattle.pool_results.specs.Pools.{IsPool, Pool, ceiling_at, cost_at, gross_at, peak_at, search_at, shard_count}
+use Rattle.pool_results.specs.Pools.{IsPool, Pool, cost_at, gross_at, peak_at, search_at}
 use Rattle.pool_results.specs.Runs.{failures_in, failure_by, left_by, left_in, shards_in, times_at, told_by}
 use Rattle.pool_results.specs.declared.shard_run.ShardRun.{ShardRun}
 use Rattle.pool_results.specs.declared.work.Work.{Work}

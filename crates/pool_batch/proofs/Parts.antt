@@ -1,5 +1,5 @@
 -- The answers of shards that stand each once are parts of a merge.
-use Rattle.std.specs.Prelude.{◌≡◌, refl, ◌≤◌, ◌<◌, ℕ, ◌+◌, ◌*◌, ◌&&◌, ◌≤ℤ◌, ℤ, pos, unsigned_abs, take, true, List, [], ◌∷◌, ◌++◌, map, length, sum_by, IsTrue}
+use Rattle.std.specs.Prelude.{◌≡◌, refl, ◌≤◌, ◌<◌, ℕ, ◌*◌, ◌&&◌, ◌≤ℤ◌, ℤ, pos, unsigned_abs, take, true, List, [], ◌∷◌, ◌++◌, map, length, sum_by, IsTrue}
 use Rattle.std.specs.List.{AllByRecursion, list_all}
 use Rattle.std.proofs.Common.{sym, ◌∙◌, ap, subst, arith}
 use Rattle.std.proofs.lemmas.Int.{ints}
@@ -8,19 +8,17 @@ use Rattle.std.proofs.lemmas.List.Sums.{sum_by-append, sum_by-cons}
 use Rattle.list_laws.proofs.Booleans.{true_is}
 use Rattle.agg_evaluation.proofs.TreeLaws.{shard_answer-is_result}
 use Rattle.agg_evaluation.specs.Cost.{cost}
-use Rattle.agg_evaluation.specs.Rows.{PlacedRow}
 use Rattle.agg_evaluation.specs.Shard.{int_sum, shard_answer}
 use Rattle.agg_evaluation.specs.Trace.{peak, trace}
 use Rattle.agg_evaluation.specs.Trees.{is_result_of, numbers_fit}
 use Rattle.agg_evaluation.specs.Whole.{whole}
-use Rattle.agg_model.specs.declared.aggregation.Search.{Search}
 use Rattle.agg_model.specs.declared.partial.Partial.{Partial}
-use Rattle.agg_spec.specs.Index.{Index, rows_in}
+use Rattle.agg_spec.specs.Index.{rows_in}
 use Rattle.agg_spec.specs.Outcome.{shard_answers}
 use Rattle.batch_reduce.specs.Parts.{AreParts, cost_of_parts}
 use Rattle.evaluation_laws.proofs.TraceLaws.{trace-total}
 use Rattle.growth_laws.proofs.Sums.{sum-peak}
-use Rattle.pool_results.specs.Pools.{AreAmong, IsPool, IsTask, Pool, ceiling_at, cost_at, peak_at, search_at, shard_count}
+use Rattle.pool_results.specs.Pools.{AreAmong, IsPool, Pool, ceiling_at, cost_at, peak_at, search_at, shard_count}
 
 among-part : (p : Pool) (a ns b : List ℕ) → AreAmong p (a ++ ns ++ b) → AreAmong p ns
 among-part p a ns b all f = let whole = all f in let one = sum_by-append f (a ++ ns) b in let two = sum_by-append f a ns in omega (arith, whole, one, two)

@@ -1,6 +1,6 @@
 -- Results of a batch that were taken one after another, and their one pass ('Search API': `batched_reduce_size`; 'Circuit breaker
 -- settings').
-use Rattle.std.specs.Prelude.{◌≡◌, ◌⊎◌, ◌≤◌, ◌+◌, ◌==◌, ℕ, Bool, true, false, ◌||◌, List, [], ◌∷◌, ◌++◌, cond, is_some, option_to_list, sum_by, Option, Some, None}
+use Rattle.std.specs.Prelude.{◌≡◌, ◌⊎◌, ◌≤◌, ℕ, Bool, true, false, ◌||◌, List, [], ◌++◌, is_some, option_to_list, sum_by, Option, Some, None}
 use Rattle.std.specs.List.{AllByRecursion}
 use Rattle.agg_evaluation.specs.Cost.{cost}
 use Rattle.agg_model.specs.declared.breaker.Which.{Which}

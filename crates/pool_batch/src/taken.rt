@@ -80,7 +80,8 @@ impl Taken {
             memory,
             skipped,
         } = work;
-        let _whole = self.runs.append(&mut runs);
+        // It takes no memory, and lists as short as these are always joined.
+        let _joined = self.runs.append(&mut runs);
         self.refused = self.refused.or(refused);
         self.memory = self.memory || memory;
         self.skipped = self.skipped || skipped;

@@ -1,7 +1,7 @@
 -- The pass of a task after its end, and what its result keeps.
-use Rattle.std.specs.Prelude.{◌≡◌, ◌≢◌, refl, ◌⊎◌, ◌≤◌, ◌<◌, ℕ, ◌+◌, ◌*◌, ℤ, pos, ◌+ℤ◌, ◌≤ℤ◌, unsigned_abs, Bool, true, false, List, [], ◌∷◌, map, length, sum_by, take, Option, Some, None, IsTrue}
+use Rattle.std.specs.Prelude.{◌≡◌, ◌≢◌, refl, ◌≤◌, ℕ, ◌+◌, ◌*◌, ℤ, pos, ◌+ℤ◌, ◌≤ℤ◌, unsigned_abs, Bool, true, false, List, [], ◌∷◌, map, sum_by, take, Option, Some, None, IsTrue}
 use Rattle.std.specs.List.{AllByRecursion}
-use Rattle.std.proofs.Common.{sym, ◌∙◌, ap, subst, arith, inl, inr, ⊎_elim}
+use Rattle.std.proofs.Common.{sym, ◌∙◌, ap, subst, arith, inl, ⊎_elim}
 use Rattle.std.proofs.lemmas.Int.{ints}
 use Rattle.std.proofs.lemmas.List.Sums.{sum_by-cons}
 use Rattle.agg_evaluation.proofs.SearchLaws.{whole-alone}
@@ -11,7 +11,6 @@ use Rattle.agg_evaluation.specs.Rows.{PlacedRow}
 use Rattle.agg_evaluation.specs.Shard.{shard_answer}
 use Rattle.agg_evaluation.specs.Trace.{peak, trace}
 use Rattle.agg_model.specs.declared.aggregation.Search.{Search}
-use Rattle.agg_model.specs.declared.breaker.Limits.{Limits}
 use Rattle.agg_model.specs.declared.breaker.Tripped.{Tripped}
 use Rattle.agg_model.specs.declared.breaker.Which.{Which}
 use Rattle.agg_model.specs.declared.breaker.Which.TheVariants.{Request, Fielddata, Inflight, Parent}
@@ -24,7 +23,7 @@ use Rattle.breaker_tree.specs.Charge.{IsAtRestAgain}
 use Rattle.breaker_words.specs.Accounts.{account, empty_account}
 use Rattle.breaker_words.specs.Breakers.{counter_value}
 use Rattle.breaker_words.specs.Passes.{IsOf, PassModel}
-use Rattle.breaker_words.specs.Views.{granted_of, hold_of, most_of, seen_of, trips_of, view_of}
+use Rattle.breaker_words.specs.Views.{granted_of, hold_of, most_of, trips_of, view_of}
 use Rattle.breaker_words.specs.declared.view.View.{View}
 use Rattle.collect_tree.specs.Ends.{IfDone, IfMemory, IfRefused}
 use Rattle.collect_tree.specs.declared.ending.TaskEnd.{TaskEnd}
@@ -32,16 +31,15 @@ use Rattle.collect_tree.specs.declared.ending.TaskEnd.TheVariants as task
 use Rattle.evaluation_laws.proofs.TraceLaws.{trace-never_negative}
 use Rattle.growth_laws.proofs.Sums.{gross-charged, sum-peak}
 use Rattle.growth_laws.specs.Amounts.{amounts, charged}
-use Rattle.pool_results.specs.Carried.{AreRuns, IsCarried, PeakFits}
+use Rattle.pool_results.specs.Carried.{AreRuns, IsCarried}
 use Rattle.pool_results.specs.Passes.{IsFresh, IsPassOf, IsSeen, is_charged}
 use Rattle.pool_results.specs.Pools.{IsTask, Pool, ceiling_at, cost_at, gross_at, peak_at, search_at}
-use Rattle.pool_results.specs.Runs.{shards_in, times_at, told_by}
+use Rattle.pool_results.specs.Runs.{times_at, told_by}
 use Rattle.pool_results.specs.declared.shard_run.ShardRun.{ShardRun}
-use Rattle.pool_results.specs.declared.work.Work.{Work}
 use Rattle.pool_task.specs.Ended.{ran, work_after}
 use Rattle.task_charges.proofs.Ending.{most-amounts, most-trace}
 use Rattle.task_charges.specs.Charged.{standing_at}
-use Rattle.task_charges.specs.Ended.{IsBelowPeak, IsDone, IsGivenUp, IsRefused, HasGivenBack}
+use Rattle.task_charges.specs.Ended.{IsBelowPeak, IsDone, IsGivenUp, IsRefused}
 
 -- a whole number that is not negative, and its size
 size-low : (z : ℤ) (n : ℕ) → pos 0 ≤ℤ z → z ≤ℤ pos n → unsigned_abs z ≤ n

@@ -1,14 +1,12 @@
 -- The tasks of a pool: each has its ceiling, and the numbers of its answers fit.
-use Rattle.std.specs.Prelude.{◌≡◌, refl, ◌≤◌, ◌<◌, ℕ, zero, suc, ◌+◌, ◌*◌, true, Bool, List, [], ◌∷◌, ◌++◌, map, flat_map, length, Option, Some, None, slice_get, slice_index, slice_index_or, IsTrue}
-use Rattle.std.specs.List.{list_all}
-use Rattle.std.proofs.Common.{sym, ◌∙◌, ap, subst, arith}
+use Rattle.std.specs.Prelude.{◌≡◌, refl, ◌≤◌, ℕ, zero, suc, ◌+◌, ◌*◌, true, Bool, List, [], ◌∷◌, ◌++◌, map, flat_map, length, Option, Some, slice_get, slice_index, slice_index_or, IsTrue}
+use Rattle.std.proofs.Common.{sym, ◌∙◌, ap, arith}
 use Rattle.std.proofs.Math.Nat.{suc-mul}
 use Rattle.agg_cost.proofs.EachTask.{all-at}
-use Rattle.agg_cost.proofs.Summing.{by-mapping, get-map, here, one-shard, search-made}
-use Rattle.agg_cost.specs.Searches.{kinds_of, task_ceilings}
+use Rattle.agg_cost.proofs.Summing.{by-mapping, get-map, one-shard, search-made}
+use Rattle.agg_cost.specs.Searches.{kinds_of}
 use Rattle.agg_evaluation.specs.Ceiling.{ceiling}
 use Rattle.agg_evaluation.specs.Cost.{cost}
-use Rattle.agg_evaluation.specs.Rows.{PlacedRow}
 use Rattle.agg_evaluation.specs.SearchFits.{search_fits}
 use Rattle.agg_evaluation.specs.Shard.{shard_answer}
 use Rattle.agg_model.specs.declared.aggregation.Search.{Search}

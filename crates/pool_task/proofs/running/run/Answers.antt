@@ -1,5 +1,5 @@
-use Rattle.std.proofs.Common.{◌≡◌, ◌<◌, ◌≤◌, ℕ, List, length, ap, refl, sym, subst, ◌∙◌, arith}
-use Rattle.std.specs.Prelude.{Bool, Some, slice_get, take}
+use Rattle.std.proofs.Common.{◌≡◌, ◌<◌, ℕ, List, length, ap, sym, subst, ◌∙◌, arith}
+use Rattle.std.specs.Prelude.{Some, slice_get, take}
 use Rattle.agg_cost.proofs.Summing.{here}
 use Rattle.agg_evaluation.specs.Rows.{PlacedRow}
 use Rattle.agg_evaluation.specs.Shard.{shard_answer}
@@ -10,7 +10,7 @@ use Rattle.breaker_words.specs.Passes.{IsOf, WordsModel}
 use Rattle.collect_tree.specs.Ends.{IfDone, IfMemory, IfRefused}
 use Rattle.growth_laws.specs.Amounts.{amounts}
 use Rattle.pool_results.specs.Carried.{IsCarried}
-use Rattle.pool_results.specs.Pools.{ceiling_at, search_at, shard_count}
+use Rattle.pool_results.specs.Pools.{ceiling_at, search_at}
 use Rattle.shard_columns.specs.Columns.{Columns}
 use Rattle.task_charges.specs.Ended.{IsDone, IsGivenUp, IsRefused}
 use Rattle.pool_task.proofs.Ending.{carried-after, fresh-cap, fresh-hold}

@@ -1,4 +1,4 @@
-use Rattle.std.proofs.Common.{◌≡◌, ◌∷◌, [], true, false, List, sym, subst}
+use Rattle.std.proofs.Common.{true, false, List, sym, subst}
 use Rattle.std.specs.Prelude.{None}
 use Rattle.pool_results.specs.Carried.{IsCarried}
 use Rattle.pool_results.specs.declared.shard_run.ShardRun.{ShardRun}
