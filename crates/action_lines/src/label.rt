@@ -1,7 +1,7 @@
 //! Ids and routings.
 
 ghost use Rattle.std.specs.Prelude.{◌≡◌, IfOk, Some};
-ghost use Rattle.serde_json.specs.View.{view, members_view};
+ghost use Rattle.lent_json.specs.View.{view, members_view};
 ghost use Rattle.agg_reading.specs.Reading.{Gives};
 ghost use Rattle.agg_reading.specs.Action.{label_of, label_in, id_or, routing_or};
 
@@ -10,16 +10,16 @@ use crate::members::set_member;
 use agg_model::limits::MAX_ID;
 use agg_model::{ActionKind, Copying, Text};
 use agg_reading::RequestFault;
-use serde_json::{Map, Value};
+use lent_json::Lent;
 use std::alloc::{AllocError, Global};
 
 /// A text, or a whole number as its decimal text. Any other value is refused.
-fn label_of(alloc: Global, value: &Value) -> Result<Text, RequestFault>
+fn label_of(alloc: Global, value: &Lent<'_>) -> Result<Text, RequestFault>
     ensures { Gives Some result (label_of (Some (view value.now))) }
 {
     match value {
-        Value::String(text) => Ok(Text::of(alloc, text.as_str())?),
-        Value::Number(number) => match number.as_i128() {
+        Lent::String(text) => Ok(Text::of(alloc, text)?),
+        Lent::Number(number) => match number.as_i128() {
             Some(n) => Ok(Text::from_string(n.to_string(alloc)?)),
             None => refuse(alloc, MALFORMED),
         },
@@ -29,12 +29,12 @@ fn label_of(alloc: Global, value: &Value) -> Result<Text, RequestFault>
 
 /// The text or whole number in the member of this name; none where it is absent or `null`.
 #[tactic(auto, unfolding(agg_reading::specs::Action::label_in))]
-pub(crate) fn label_in(
+pub(crate) fn label_in<'a>(
     alloc: Global,
     name: &str,
-    members: &Map<String, Value>,
+    members: &[(&'a str, Lent<'a>)],
 ) -> Result<Option<Text>, RequestFault>
-    ensures { Gives (λ x. x) result (label_in name.now (members_view members.now.entries)) }
+    ensures { Gives (λ x. x) result (label_in name.now (members_view members.now)) }
 {
     match set_member(members, name) {
         None => Ok(None),

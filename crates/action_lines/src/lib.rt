@@ -10,4 +10,4 @@ mod members;
 #[cfg(test)]
 mod tests;
 
-pub use action::action_of;
+pub use action::{action_of, action_with};

@@ -8,7 +8,7 @@ ghost use Rattle.script_lines.specs.Steps.{place_of};
 ghost use Rattle.script_lines.specs.declared.fault.ScriptFault.TheVariants.{Read};
 ghost use Rattle.agg_bulk.specs.Loading.{GoesOn, Steps, after_line, after_heading, after_action, is_action_fault, fault_at};
 
-use action_lines::action_of;
+use action_lines::action_with;
 use agg_base::{Lines, Source};
 use agg_model::limits::MAX_ACTIONS;
 use agg_model::script_refusal::{
@@ -16,6 +16,7 @@ use agg_model::script_refusal::{
 };
 use agg_model::{Action, ActionKind, Bytes};
 use agg_reading::{Heading, RequestFault};
+use document_rows::Scratch;
 use script_lines::{ScriptFault, ScriptRefusal, is_empty_line, refused, refused_here, take_line};
 use std::alloc::Global;
 
@@ -39,12 +40,14 @@ fn refused_action<S: Source>(lines: &Lines<'_, S>, fault: RequestFault) -> Scrip
     }
 }
 
-/// Reads the line of one more action, where `taken` came before it, or the empty line that ends the bulk section.
+/// Reads the line of one more action, where `taken` came before it, or the empty line that ends the bulk section. The
+/// scratch is kept from one line to the next.
 fn next_heading<S: Source>(
     alloc: Global,
     lines: &mut Lines<'_, S>,
     index: &str,
     taken: usize,
+    scratch: &mut Scratch,
 ) -> Result<Option<Heading>, ScriptFault>
     requires { kept lines.old ≡ None }
     ensures script { (bytes : List ℕ) (now : Loading) → now.index.name ≡ index.now → now.actions ≡ taken →
@@ -64,7 +67,7 @@ fn next_heading<S: Source>(
     if taken >= MAX_ACTIONS {
         return Err(refused_here(alloc, lines, TOO_MANY_DOCUMENTS));
     }
-    match action_of(alloc, index, taken as u64, line.as_slice()) {
+    match action_with(alloc, index, taken as u64, line.as_slice(), scratch) {
         Ok(heading) => Ok(Some(heading)),
         Err(fault) => Err(refused_action(lines, fault)),
     }
@@ -129,12 +132,14 @@ fn source<S: Source>(
     source_line(alloc, lines)
 }
 
-/// Reads one more action, where `taken` came before it, or the empty line that ends the bulk section.
+/// Reads one more action, where `taken` came before it, or the empty line that ends the bulk section. The scratch is kept
+/// from one action to the next.
 pub(crate) fn next_action<S: Source>(
     alloc: Global,
     lines: &mut Lines<'_, S>,
     index: &str,
     taken: usize,
+    scratch: &mut Scratch,
 ) -> Result<Option<Action>, ScriptFault>
     requires { kept lines.old ≡ None }
     ensures script { (bytes : List ℕ) (now : Loading) → now.index.name ≡ index.now → now.actions ≡ taken →
@@ -147,7 +152,7 @@ pub(crate) fn next_action<S: Source>(
     ensures kept { OnOk result (kept lines.new ≡ None) }
     ensures same_source { source_name lines.new ≡ source_name lines.old }
 {
-    let Some(heading) = next_heading(alloc, lines, index, taken)? else {
+    let Some(heading) = next_heading(alloc, lines, index, taken, scratch)? else {
         return Ok(None);
     };
     let source = source(alloc, lines, heading.kind)?;

@@ -103,7 +103,13 @@ fn bulk_actions<S: Source>(
     let mut scratch = Scratch::new(alloc);
     let mut store = Store::new(alloc);
     let mut items = List::new(alloc);
-    while let Some(action) = next_action(alloc, lines, index.name.as_str(), items.len())? {
+    while let Some(action) = next_action(
+        alloc,
+        lines,
+        index.name.as_str(),
+        items.len(),
+        &mut scratch,
+    )? {
         apply(
             alloc,
             &index.mapping,

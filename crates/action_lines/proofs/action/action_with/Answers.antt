@@ -1,10 +1,10 @@
 use Rattle.std.proofs.Common.{option_map, sym, ◌∙◌, ap}
-use Rattle.serde_json.specs.View.{view}
+use Rattle.lent_json.specs.View.{view}
 use Rattle.agg_reading.specs.Action.{action_at, action_value_at}
 use Rattle.agg_reading.specs.Json.{reading}
 use Rattle.agg_reading.proofs.LineRefusals.{an_action}
 use Rattle.action_lines.proofs.Refused.{never_no_json}
-use Rattle.action_lines.proofs.action.action_of.Goals as goal
+use Rattle.action_lines.proofs.action.action_with.Goals as goal
 
 pub returns-in-Some-clause-json : goal.returns-in-Some-clause-json
 unfolding action_at
