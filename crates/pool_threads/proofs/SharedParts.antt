@@ -1,6 +1,5 @@
 -- Threads may share a partial result by reference. For a type that contains itself this is shown of one layer first, where what it
 -- contains may be shared.
-use denote.RattleType.{RattleType}
 use denote.Hole.FixSend.{Syncs, fix_sync}
 use denote.Param.Send.{IsSync, sendable}
 use denote.Param.SendFields.{as_row_sync, declared_sync, variants_sync}

@@ -2,7 +2,7 @@
 use denote.RattleType.{RattleType}
 use denote.Param.Send.{IsSend, IsSync, sendable, whole-keyless}
 use denote.Param.SendFields.{as_row_send, as_row_sync, declared_send, declared_sync}
-use Rattle.std.proofs.Crossing.{crosses, frees}
+use Rattle.std.proofs.Crossing.{crosses}
 use Rattle.std.proofs.collections.LinkedList.TheSendSync as linked
 use Rattle.std.proofs.alloc.Global.TheSendSync as heap
 use Rattle.std.specs.contracts.option.Option as Optional
