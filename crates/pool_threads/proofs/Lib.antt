@@ -1,0 +1,3 @@
+pub mod SentParts
+pub mod SharedParts
+pub mod Tables
