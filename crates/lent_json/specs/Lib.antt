@@ -1,2 +1,3 @@
+-- What a lent value stands for.
 pub mod Members
 pub mod View

@@ -1,1 +1,2 @@
+-- A batch of results on its way to one result.
 pub mod Gathered

@@ -1,2 +1,3 @@
+-- A task of a pool, and what becomes of it.
 pub mod Pooled
 pub mod Ended

@@ -1,1 +1,2 @@
+-- Workers on threads.
 pub mod Workers

@@ -1,2 +1,3 @@
+-- A worker's plan, and its steps.
 pub mod Plans
 pub mod Steps
