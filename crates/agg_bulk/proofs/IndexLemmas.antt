@@ -10,7 +10,7 @@ use Rattle.agg_spec.specs.Requests.{loaded_index}
 use Rattle.shard_columns.specs.Index.{rows_by_shard}
 use Rattle.shard_columns.specs.declared.index.Index.{Index as Built}
 use Rattle.agg_reading.specs.declared.parts.IndexLine.{IndexLine}
-use Rattle.agg_bulk.specs.Indexing.{index_of}
+use Rattle.index_laws.specs.Indexes.{index_of}
 use Rattle.agg_bulk.specs.Loading.{loaded_of}
 use Rattle.agg_reading.specs.Routing.{shard_of}
 use Rattle.agg_reading.specs.Store.{Store, live_documents, shards_of}

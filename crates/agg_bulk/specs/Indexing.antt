@@ -7,17 +7,12 @@ use Rattle.agg_base.specs.declared.source.Source.{Ghosts}
 use Rattle.agg_model.specs.Lines.{lines}
 use Rattle.agg_reading.specs.Lines.{Place}
 use Rattle.agg_reading.specs.Script.{Loaded, loaded}
-use Rattle.agg_spec.specs.Index.{Index}
 use Rattle.agg_spec.specs.Requests.{loaded_index}
+use Rattle.index_laws.specs.Indexes.{index_of}
 use Rattle.script_lines.specs.Steps.{place_of}
 use Rattle.script_lines.specs.declared.fault.ScriptFault.{ScriptFault}
-use Rattle.shard_columns.specs.Index.{rows_by_shard}
-use Rattle.shard_columns.specs.declared.index.Index.{Index as Built}
 use Rattle.agg_bulk.specs.Loading.{GoesOnAt, Ends}
 use Rattle.agg_bulk.specs.declared.index.LoadedIndex.{LoadedIndex}
-
-abbrev pub index_of : Built → Index
-index_of index = record { name = index.name; mapping = index.mapping; shards = rows_by_shard index.shards }
 
 -- The index and the items are those that the script loads, and what is left of it stands behind them: they are loaded in front of
 -- whatever follows.

@@ -7,7 +7,8 @@ ghost use Rattle.agg_spec.specs.Requests.{loaded_index};
 ghost use Rattle.fitting_laws.specs.Stores.{IsIndexed};
 ghost use Rattle.script_lines.specs.Steps.{place_of};
 ghost use Rattle.script_lines.specs.declared.fault.ScriptFault.TheVariants.{Read};
-ghost use Rattle.agg_bulk.specs.Indexing.{index_of, Indexes};
+ghost use Rattle.agg_bulk.specs.Indexing.{Indexes};
+ghost use Rattle.index_laws.specs.Indexes.{index_of};
 ghost use Rattle.agg_bulk.specs.Loading.{loaded_of};
 
 use crate::sections::{Sections, load_sections};

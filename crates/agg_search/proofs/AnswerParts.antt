@@ -19,7 +19,7 @@ use Rattle.fitting_laws.proofs.Aparts.{documents_apart}
 use Rattle.shard_columns.specs.Built.{IsBuiltFrom, IsShardOf}
 use Rattle.shard_columns.specs.Columns.{Columns}
 use Rattle.shard_columns.specs.declared.index.Index.{Index as ShardIndex}
-use Rattle.agg_search.specs.Defined.{index_of}
+use Rattle.index_laws.specs.Indexes.{index_of}
 use Rattle.agg_search.proofs.Batching.{rows-count}
 use Rattle.agg_search.proofs.Parts.{AreAmong, among-left, finish-some}
 

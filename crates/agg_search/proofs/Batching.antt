@@ -18,7 +18,7 @@ use Rattle.agg_model.specs.declared.partial.Partial.{Partial}
 use Rattle.agg_spec.proofs.SoloLaws.{batches-append}
 use Rattle.agg_spec.specs.Charges.{Run, run}
 use Rattle.agg_spec.specs.Index.{Index, rows_in, shard_numbers}
-use Rattle.agg_spec.specs.Outcome.{shard_answers, whole_of}
+use Rattle.agg_spec.specs.Outcome.{shard_answers, whole_of, whole_unless_none}
 use Rattle.agg_spec.specs.Reduction.{Going, Task, after_batch, after_batches, after_last, after_tasks, batches, begun, merge_steps, merged, reduced, task_of, tasks_of, unless_ended}
 use Rattle.batch_reduce.specs.Parts.{AreParts}
 use Rattle.breaker_words.specs.declared.view.View.{View}
@@ -27,8 +27,7 @@ use Rattle.solo_charges.specs.Standing.{Before, StandsAt}
 use Rattle.agg_spec.specs.Failures.{has_failed, unfailed}
 use Rattle.shard_columns.specs.Columns.{Columns}
 use Rattle.shard_columns.specs.declared.index.Index.{Index as ShardIndex}
-use Rattle.agg_search.specs.Answering.{whole_unless_none}
-use Rattle.agg_search.specs.Defined.{index_of}
+use Rattle.index_laws.specs.Indexes.{index_of}
 use Rattle.agg_search.specs.Progressing.{Follows, IsAt, IsStopped, StopsIn, going_at}
 use Rattle.agg_search.specs.Reached.{HasReached}
 use Rattle.agg_search.specs.Reducing.{IsReduced, Reduces, StopsReducing}

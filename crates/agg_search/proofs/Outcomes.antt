@@ -18,7 +18,7 @@ use Rattle.agg_reading.specs.declared.fault.RequestFault.TheVariants as fault
 use Rattle.agg_spec.specs.BucketCount.{total_buckets}
 use Rattle.agg_spec.specs.Failures.{AreAscending, total_failure, unfailed}
 use Rattle.agg_spec.specs.Index.{Index, field_kinds}
-use Rattle.agg_spec.specs.Outcome.{Request, answer_of, answer_outcome, line_in_range, outcome, outcome_of_shards, request_outcome, running, running_search, whole_of}
+use Rattle.agg_spec.specs.Outcome.{Request, answer_of, answer_outcome, line_in_range, outcome, outcome_of_shards, request_outcome, running, running_search, whole_of, whole_unless_none}
 use Rattle.agg_spec.specs.RangeCheck.{out_of_range}
 use Rattle.agg_spec.specs.Response.{response_line}
 use Rattle.agg_model.specs.declared.breaker.Child.TheVariants as child
@@ -31,7 +31,7 @@ use Rattle.agg_spec.specs.Solo.{body_charged, outcome_with, responded, response_
 use Rattle.breaker_words.specs.declared.view.View.{View}
 use Rattle.solo_charges.specs.Ends.{IsEnded}
 use Rattle.solo_charges.specs.Standing.{Before, StandsAt}
-use Rattle.agg_search.specs.Answering.{IsOutcome, StopsSearching, StopsSolving, whole_unless_none}
+use Rattle.agg_search.specs.Answering.{IsOutcome, StopsSearching, StopsSolving}
 use Rattle.agg_search.specs.Progressing.{IsStopped}
 use Rattle.agg_search.specs.Reducing.{IsReduced, StopsReducing}
 use Rattle.agg_search.specs.Stops.{IfRefused}

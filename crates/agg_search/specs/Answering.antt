@@ -1,26 +1,20 @@
 -- How one search by one worker is answered, and what it makes of the worker's pass.
-use Rattle.std.specs.Prelude.{◌≡◌, ◌⊎◌, ℕ, List, [], ◌∷◌, Option, Some, None}
+use Rattle.std.specs.Prelude.{◌≡◌, ◌⊎◌, List}
 use Rattle.agg_model.specs.declared.aggregation.Search.{Search}
 use Rattle.agg_model.specs.declared.breaker.Tripped.{Tripped}
 use Rattle.agg_model.specs.declared.outcome.Answered.{Answered}
 use Rattle.agg_model.specs.declared.outcome.Failure.{Failure}
 use Rattle.agg_model.specs.declared.outcome.Outcome.{Outcome}
 use Rattle.agg_model.specs.declared.outcome.Outcome.TheVariants as ended
-use Rattle.agg_model.specs.declared.partial.Partial.{Partial}
 use Rattle.agg_model.specs.declared.settings.Settings.{Settings}
 use Rattle.agg_spec.specs.Charges.{Run}
 use Rattle.agg_spec.specs.Index.{Index}
-use Rattle.agg_spec.specs.Outcome.{Request, running_search, whole_of}
+use Rattle.agg_spec.specs.Outcome.{Request, running_search}
 use Rattle.agg_spec.specs.Reduction.{Going}
 use Rattle.agg_spec.specs.Solo.{after_request, outcome_with, searched, solo_answer, solo_run}
 use Rattle.breaker_words.specs.declared.view.View.{View}
 use Rattle.solo_charges.specs.Standing.{Before, StandsAt}
 use Rattle.agg_search.specs.Progressing.{IsStopped}
-
--- the whole of the shards that are left
-abbrev pub whole_unless_none : Index → Search → List ℕ → Option Partial
-whole_unless_none index search [] = None
-whole_unless_none index search (shard ∷ left) = Some (whole_of index search (shard ∷ left))
 
 -- the definitions' search of this request stands where the pass does, and comes to this outcome with these failures
 pub record IsOutcome (settings : Settings) (index : Index) (request : Request) (before : Before) (u : View) (g : Going)

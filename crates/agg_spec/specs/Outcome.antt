@@ -1,6 +1,6 @@
 -- The outcome of a search by the whole reduction: all shards that did not fail, in order, with no breaker and no memory limit
 -- ('Search API').
-use Rattle.std.specs.Prelude.{ℕ, nat_lt, true, false, List, [], map, length, Option, Some, None, Result, Ok, Err}
+use Rattle.std.specs.Prelude.{ℕ, nat_lt, true, false, List, [], ◌∷◌, map, length, Option, Some, None, Result, Ok, Err}
 use Rattle.agg_model.specs.declared.answer.Answer.{Answer}
 use Rattle.agg_model.specs.declared.partial.Partial.{Partial}
 use Rattle.agg_model.specs.declared.aggregation.Search.{Search}
@@ -31,6 +31,11 @@ shard_answers index search shards = map (λ shard. shard_answer search (rows_in 
 -- their whole
 abbrev pub whole_of : Index → Search → List ℕ → Partial
 whole_of index search shards = whole search (shard_answers index search shards)
+
+-- none where no shard is left
+abbrev pub whole_unless_none : Index → Search → List ℕ → Option Partial
+whole_unless_none index search [] = None
+whole_unless_none index search (shard ∷ left) = Some (whole_of index search (shard ∷ left))
 
 abbrev pub answer_of : Index → Search → List ℕ → Answer
 answer_of index search shards = final search (whole_of index search shards)

@@ -7,3 +7,4 @@ pub mod Occurrences
 pub mod Permutations
 pub mod StableSort
 pub mod Each
+pub mod Among

@@ -131,3 +131,13 @@ filter_map-there h f g there (x ∷ xs) = λ i. cons_option (there x i) (filter_
 pub length-flat_map : {A B : Type 0} (f : A → List B) (xs : List A) → length (flat_map f xs) ≡ sum_by (λ x. length (f x)) xs
 length-flat_map f [] = refl
 length-flat_map f (x ∷ xs) = omega (arith, length-append (f x) (flat_map f xs), length-flat_map f xs, sum_by-cons (λ x. length (f x)) x xs)
+
+-- a list of images, in two parts
+pub map-apart : {A B : Type 0} (f : A → B) (xs : List A) (before rest : List B) → map f xs ≡ before ++ rest → (a : List A) × ((b : List A) × ((xs ≡ a ++ b) × ((before ≡ map f a) × (rest ≡ map f b))))
+map-apart f xs [] rest e = ([], (xs, (refl, (refl, sym e))))
+map-apart f [] (y ∷ before) rest e = absurd (let no : ⊥ = cc in no)
+map-apart f (x ∷ xs) (y ∷ before) rest e =
+    let first : f x ≡ y = cc in
+    let others : map f xs ≡ before ++ rest = cc in
+    let found = map-apart f xs before rest others in
+    (x ∷ found.0, (found.1.0, (ap (λ ys. x ∷ ys) found.1.1.0, ((λ i. sym first i ∷ found.1.1.1.0 i), found.1.1.1.1))))

@@ -7,9 +7,10 @@ use Rattle.std.proofs.lemmas.Bool.{eq-eqb, ne_eqb}
 use Rattle.std.proofs.lemmas.List.Sums.{sum_by-cons, sum_by-le-sum_by}
 use mathlib.Core.Logic.{dite}
 use native.Mathlib.Decide.{ℕ_discrete}
+use Rattle.list_laws.specs.Among.{AreAmong}
 use Rattle.agg_model.specs.declared.breaker.Tripped.{Tripped}
 use Rattle.arrival_moves.specs.Lists.{one_if, times}
-use Rattle.pool_results.specs.Pools.{AreAmong, Pool, shard_count}
+use Rattle.pool_results.specs.Pools.{Pool, shard_count}
 use Rattle.pool_results.specs.Runs.{left_by, left_in, shards_in}
 use Rattle.pool_results.specs.declared.shard_run.ShardRun.{ShardRun}
 
@@ -73,7 +74,7 @@ counted f n (s ∷ ns) h =
         spread x y z = add-mul x y z
 
 -- so those that stand each once are among all
-pub among-all : (p : Pool) (ns : List ℕ) → AllByRecursion (λ s. s < shard_count p) ns → ((s : ℕ) → times s ns ≤ 1) → AreAmong p ns
+pub among-all : (p : Pool) (ns : List ℕ) → AllByRecursion (λ s. s < shard_count p) ns → ((s : ℕ) → times s ns ≤ 1) → AreAmong (shard_count p) ns
 among-all p ns low apart f =
     let is = counted f (shard_count p) ns low in
     let le = sum_by-le-sum_by (λ k. times k ns * f k) f (range_with_len 0 (shard_count p)) (λ k. at-most (times k ns) (f k) (apart k)) in
@@ -93,5 +94,5 @@ left-sum f (r ∷ rs) = by_refusal (left-sum f rs) r.refused
     by_refusal rest None = let a = sum_by-cons f r.shard (left_in rs) in let b = sum_by-cons f r.shard (shards_in rs) in omega (arith, rest, a, b)
     by_refusal rest (Some t) = let b = sum_by-cons f r.shard (shards_in rs) in omega (arith, rest, b)
 
-pub left-among : (p : Pool) (rs : List ShardRun) → AreAmong p (shards_in rs) → AreAmong p (left_in rs)
+pub left-among : (p : Pool) (rs : List ShardRun) → AreAmong (shard_count p) (shards_in rs) → AreAmong (shard_count p) (left_in rs)
 left-among p rs among f = let all = among f in let some = left-sum f rs in omega (arith, all, some)

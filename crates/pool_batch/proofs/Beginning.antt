@@ -12,7 +12,7 @@ use Rattle.agg_model.specs.declared.breaker.Which.{Which}
 use Rattle.agg_model.specs.declared.breaker.Which.TheVariants.{Request}
 use Rattle.agg_model.specs.declared.breaker.Tripped.{Tripped}
 use Rattle.agg_spec.specs.Index.{rows_in}
-use Rattle.agg_spec.specs.Outcome.{shard_answers}
+use Rattle.agg_spec.specs.Outcome.{shard_answers, whole_unless_none}
 use Rattle.agg_spec.specs.Rises.{merge_charge}
 use Rattle.arrival_moves.proofs.OneIf.{one_if_le}
 use Rattle.arrival_moves.specs.Lists.{times}
@@ -21,7 +21,7 @@ use Rattle.breaker_words.specs.AfterStep.{after_join}
 use Rattle.breaker_words.specs.Breakers.{counter_value}
 use Rattle.breaker_words.specs.Passes.{PassModel, with_view}
 use Rattle.breaker_words.specs.Views.{granted_of, hold_of}
-use Rattle.pool_results.specs.Carried.{AreRuns, IsCarried, PeakFits, whole_unless_none, is_stopped as is_stopped_work}
+use Rattle.pool_results.specs.Carried.{AreRuns, IsCarried, PeakFits, is_stopped as is_stopped_work}
 use Rattle.pool_results.specs.Passes.{IsPassOf}
 use Rattle.pool_results.specs.Pools.{Pool, cost_at, gross_at, search_at, shard_count}
 use Rattle.pool_results.specs.Runs.{failures_in, left_by, left_in, shards_in}

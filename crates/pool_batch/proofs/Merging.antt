@@ -16,7 +16,7 @@ use Rattle.agg_model.specs.declared.breaker.Which.TheVariants.{Request, Fielddat
 use Rattle.agg_model.specs.declared.partial.Partial.{Partial}
 use Rattle.agg_spec.specs.Charges.{amount_at as told_at, one_at}
 use Rattle.agg_spec.specs.Index.{rows_in}
-use Rattle.agg_spec.specs.Outcome.{shard_answers, whole_of}
+use Rattle.agg_spec.specs.Outcome.{shard_answers, whole_of, whole_unless_none}
 use Rattle.agg_spec.specs.Rises.{merge_charge}
 use Rattle.batch_reduce.specs.Ends.{IfDone, IfMemory, IfRefused, IsNotRefused, cost_of_end}
 use Rattle.batch_reduce.specs.Parts.{AreParts, cost_of_parts}
@@ -29,7 +29,7 @@ use Rattle.breaker_words.specs.Breakers.{counter_value}
 use Rattle.breaker_words.specs.Passes.{IsOf, PassModel}
 use Rattle.breaker_words.specs.Views.{granted_of, hold_of, most_of, seen_of, trips_of}
 use Rattle.breaker_words.specs.declared.view.View.{View}
-use Rattle.pool_results.specs.Carried.{IsCarried, whole_unless_none, is_stopped as is_stopped_work}
+use Rattle.pool_results.specs.Carried.{IsCarried, is_stopped as is_stopped_work}
 use Rattle.pool_results.specs.Passes.{IsPassOf, IsSeen, is_charged}
 use Rattle.pool_results.specs.Pools.{IsPool, Pool, cost_at, gross_at, peak_at, search_at}
 use Rattle.pool_results.specs.Runs.{failures_in, failure_by, left_by, left_in, shards_in, times_at, told_by}

@@ -4,8 +4,11 @@ use Rattle.std.specs.List.{AllByRecursion, list_all}
 use Rattle.std.proofs.Common.{sym, ◌∙◌, ap, subst, arith}
 use Rattle.std.proofs.lemmas.Int.{ints}
 use Rattle.std.proofs.lemmas.List.{take_all}
-use Rattle.std.proofs.lemmas.List.Sums.{sum_by-append, sum_by-cons}
+use Rattle.std.proofs.lemmas.List.Sums.{sum_by-cons}
+use Rattle.list_laws.specs.Among.{AreAmong}
+use Rattle.list_laws.proofs.Among.{among-part}
 use Rattle.list_laws.proofs.Booleans.{true_is}
+use Rattle.list_laws.proofs.Lists.{map-apart}
 use Rattle.agg_evaluation.proofs.TreeLaws.{shard_answer-is_result}
 use Rattle.agg_evaluation.specs.Cost.{cost}
 use Rattle.agg_evaluation.specs.Shard.{int_sum, shard_answer}
@@ -18,20 +21,7 @@ use Rattle.agg_spec.specs.Outcome.{shard_answers}
 use Rattle.batch_reduce.specs.Parts.{AreParts, cost_of_parts}
 use Rattle.evaluation_laws.proofs.TraceLaws.{trace-total}
 use Rattle.growth_laws.proofs.Sums.{sum-peak}
-use Rattle.pool_results.specs.Pools.{AreAmong, IsPool, Pool, ceiling_at, cost_at, peak_at, search_at, shard_count}
-
-among-part : (p : Pool) (a ns b : List ℕ) → AreAmong p (a ++ ns ++ b) → AreAmong p ns
-among-part p a ns b all f = let whole = all f in let one = sum_by-append f (a ++ ns) b in let two = sum_by-append f a ns in omega (arith, whole, one, two)
-
--- a list of images, in two parts
-map-apart : {A B : Type 0} (f : A → B) (xs : List A) (before rest : List B) → map f xs ≡ before ++ rest → (a : List A) × ((b : List A) × ((xs ≡ a ++ b) × ((before ≡ map f a) × (rest ≡ map f b))))
-map-apart f xs [] rest e = ([], (xs, (refl, (refl, sym e))))
-map-apart f [] (y ∷ before) rest e = absurd (let no : ⊥ = cc in no)
-map-apart f (x ∷ xs) (y ∷ before) rest e =
-    let first : f x ≡ y = cc in
-    let others : map f xs ≡ before ++ rest = cc in
-    let found = map-apart f xs before rest others in
-    (x ∷ found.0, (found.1.0, (ap (λ ys. x ∷ ys) found.1.1.0, ((λ i. sym first i ∷ found.1.1.1.0 i), found.1.1.1.1))))
+use Rattle.pool_results.specs.Pools.{IsPool, Pool, ceiling_at, cost_at, peak_at, search_at, shard_count}
 
 module _ (p : Pool) (good : IsPool p) (q : ℕ) (there : q < length p.searches) where
   abbrev answers : List ℕ → List Partial
@@ -41,16 +31,16 @@ module _ (p : Pool) (good : IsPool p) (q : ℕ) (there : q < length p.searches) 
   all-results [] = refl
   all-results (n ∷ ns) = ap (λ b. b && list_all (is_result_of (search_at p q)) (answers ns)) (true_is _ (shard_answer-is_result (search_at p q) (rows_in p.index n))) ∙ all-results ns
 
-  pub answers-parts : (ns : List ℕ) → AreAmong p ns → AreParts (search_at p q) (answers ns)
+  pub answers-parts : (ns : List ℕ) → AreAmong (shard_count p) ns → AreParts (search_at p q) (answers ns)
   answers-parts ns among = record {
     results = all-results ns;
     fit = λ before some after e.
         (let f = λ (shard : ℕ). shard_answer (search_at p q) (rows_in p.index shard) in
         let two = map-apart f ns (before ++ some) after e in
         let one = map-apart f two.0 before some (sym two.1.1.1.0) in
-        let within = subst (AreAmong p) (two.1.1.0 ∙ ap (λ xs. xs ++ two.1.0) one.1.1.0) among in
+        let within = subst (AreAmong (shard_count p)) (two.1.1.0 ∙ ap (λ xs. xs ++ two.1.0) one.1.1.0) among in
         subst (λ ps. IsTrue (numbers_fit (whole (search_at p q) ps))) (sym one.1.1.1.1)
-        (good.fit q one.1.0 there (among-part p one.0 one.1.0 two.1.0 within)));
+        (good.fit q one.1.0 there (among-part (shard_count p) one.0 one.1.0 two.1.0 within)));
   }
 
   -- their costs, by shard

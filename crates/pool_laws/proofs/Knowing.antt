@@ -1,18 +1,18 @@
 -- What is known of an index, of the searches that are made for it, and of their ceilings, is all that workers ask of a pool.
-use Rattle.std.specs.Prelude.{◌≡◌, refl, ◌≤◌, ◌<◌, ◌*◌, ℕ, zero, suc, true, Bool, List, [], ◌∷◌, length, slice_get, sum_by, Some, IsTrue}
-use Rattle.std.specs.List.{range_with_len}
+use Rattle.std.specs.Prelude.{◌≡◌, refl, ◌≤◌, ◌<◌, ◌*◌, ℕ, zero, suc, true, Bool, List, [], ◌∷◌, length, slice_get, Some, IsTrue}
 use Rattle.std.proofs.Common.{sym, subst, arith}
 use Rattle.agg_cost.proofs.EachTask.{all-at}
 use Rattle.agg_evaluation.specs.SearchFits.{search_fits}
 use Rattle.agg_evaluation.specs.Trees.{numbers_fit}
 use Rattle.agg_model.specs.declared.aggregation.Search.{Search}
-use Rattle.agg_search.proofs.Parts.{AreAmong, fit-some}
+use Rattle.list_laws.specs.Among.{AreAmong}
+use Rattle.index_laws.proofs.SomeShards.{fit-some}
 use Rattle.agg_spec.specs.Index.{Index}
 use Rattle.agg_spec.specs.Outcome.{whole_of}
 use Rattle.pool_results.specs.Pools.{IsPool, IsTask, Pool, ceiling_at, cost_at, no_search, search_at, shard_count}
-use Rattle.pool_results.specs.Pools as pools
 use Rattle.pool_task.proofs.Pooling.{ceiling-answer, ceiling-some, get-index, shards-are}
-use Rattle.pool_task.specs.Pooled.{IsPoolOf, index_of}
+use Rattle.pool_task.specs.Pooled.{IsPoolOf}
+use Rattle.index_laws.specs.Indexes.{index_of}
 use Rattle.shard_columns.specs.declared.index.Index.{Index as ShardIndex}
 
 -- there is an item at each place
@@ -41,11 +41,11 @@ module _ (index : ShardIndex) (p : Pool) (pool : IsPoolOf index p) where
       let a = there p.searches q t.search in let b = there index.shards s (low-shard s t.shard) in
       ceiling-answer index p pool q s a.0 b.0 a.1 b.1
 
-  known-fit : (q : ℕ) (shards : List ℕ) → q < length p.searches → pools.AreAmong p shards → IsTrue (numbers_fit (whole_of p.index (search_at p q) shards))
+  known-fit : (q : ℕ) (shards : List ℕ) → q < length p.searches → AreAmong (shard_count p) shards → IsTrue (numbers_fit (whole_of p.index (search_at p q) shards))
   known-fit q shards low among =
       let a = there p.searches q low in
       let made = is-true (all-at (search_fits index.mapping) p.searches q a.0 (true-is pool.made) a.1) in
-      let within : AreAmong (length index.shards) shards = subst (λ n. (f : ℕ → ℕ) → sum_by f shards ≤ sum_by f (range_with_len 0 n)) (shards-are index p pool) among in
+      let within : AreAmong (length index.shards) shards = subst (λ n. AreAmong n shards) (shards-are index p pool) among in
       subst (λ (ix : Index). IsTrue (numbers_fit (whole_of ix (search_at p q) shards))) (sym pool.index_is)
       (subst (λ (z : Search). IsTrue (numbers_fit (whole_of (index_of index) z shards))) (sym (get-index no_search p.searches q a.0 a.1)) (fit-some index a.0 made shards within))
 

@@ -1,13 +1,10 @@
 -- What a result stands for, and what holds of it and its pass, wherever it lies ('Search API': `batched_reduce_size`,
 -- `allow_partial_search_results`; 'Circuit breaker settings').
-use Rattle.std.specs.Prelude.{◌≡◌, ◌≤◌, ◌<◌, ℕ, ◌+◌, Bool, true, false, ◌||◌, List, [], ◌∷◌, map, length, sum_by, option_to_list, is_some, Option, Some, None}
+use Rattle.std.specs.Prelude.{◌≡◌, ◌≤◌, ◌<◌, ℕ, ◌+◌, Bool, true, false, ◌||◌, List, [], map, length, sum_by, option_to_list, is_some, None}
 use Rattle.std.specs.List.{AllByRecursion}
 use Rattle.agg_evaluation.specs.Cost.{cost}
-use Rattle.agg_model.specs.declared.aggregation.Search.{Search}
 use Rattle.agg_model.specs.declared.breaker.Which.{Which}
-use Rattle.agg_model.specs.declared.partial.Partial.{Partial}
-use Rattle.agg_spec.specs.Index.{Index}
-use Rattle.agg_spec.specs.Outcome.{whole_of}
+use Rattle.agg_spec.specs.Outcome.{whole_unless_none}
 use Rattle.agg_spec.specs.Rises.{merge_charge}
 use Rattle.arrival_moves.specs.declared.label.Label.{Label}
 use Rattle.batch_reduce.specs.Reduced.{at_both}
@@ -30,11 +27,6 @@ is_stopped w = has_failed w || w.skipped
 
 abbrev pub label_of : Pool → Work → Label
 label_of p w = record { tasks = map (task_number p w.search) (shards_in w.runs); failed = has_failed w; skipped = w.skipped }
-
--- the whole of the shards that are left
-abbrev pub whole_unless_none : Index → Search → List ℕ → Option Partial
-whole_unless_none index search [] = None
-whole_unless_none index search (shard ∷ left) = Some (whole_of index search (shard ∷ left))
 
 -- the task of the shard had room
 pub record PeakFits (p : Pool) (q s : ℕ) : Type 0 where

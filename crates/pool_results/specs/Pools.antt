@@ -1,6 +1,6 @@
 -- The tasks of some searches on the shards of an index: search by search, and shard by shard within each ('Search API').
-use Rattle.std.specs.Prelude.{◌≤◌, ◌<◌, ℕ, ◌+◌, ◌*◌, false, List, [], length, sum_by, slice_index, slice_index_or, unsigned_abs, IsTrue}
-use Rattle.std.specs.List.{range_with_len}
+use Rattle.std.specs.Prelude.{◌≤◌, ◌<◌, ℕ, ◌+◌, ◌*◌, false, List, [], length, slice_index, slice_index_or, unsigned_abs, IsTrue}
+use Rattle.list_laws.specs.Among.{AreAmong}
 use Rattle.agg_evaluation.specs.Cost.{cost}
 use Rattle.agg_evaluation.specs.Shard.{shard_answer}
 use Rattle.agg_evaluation.specs.Trace.{gross, peak}
@@ -61,12 +61,8 @@ module _ (p : Pool) where
   abbrev pub cost_at : ℕ → ℕ → ℕ
   cost_at q s = cost (shard_answer (search_at q) (rows_in p.index s))
 
-  -- these numbers stand each at most once in the list of all shards
-  abbrev pub AreAmong : List ℕ → Type 0
-  AreAmong shards = (f : ℕ → ℕ) → sum_by f shards ≤ sum_by f (range_with_len 0 shard_count)
-
   -- ceilings are ceilings, and whatever shards a search's answers are added up of, their numbers fit
   pub record IsPool : Type 0 where
     pub some : (q s : ℕ) → IsTask q s → 1 ≤ ceiling_at q s
     pub answers : (q s : ℕ) → IsTask q s → 2 * cost_at q s ≤ ceiling_at q s
-    pub fit : (q : ℕ) (shards : List ℕ) → q < length p.searches → AreAmong shards → IsTrue (numbers_fit (whole_of p.index (search_at q) shards))
+    pub fit : (q : ℕ) (shards : List ℕ) → q < length p.searches → AreAmong shard_count shards → IsTrue (numbers_fit (whole_of p.index (search_at q) shards))

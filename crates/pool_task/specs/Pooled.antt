@@ -3,14 +3,10 @@ use Rattle.std.specs.Prelude.{◌≡◌, IsTrue, Some, map}
 use Rattle.std.specs.List.{list_all}
 use Rattle.agg_cost.specs.Searches.{kinds_of, task_ceilings}
 use Rattle.agg_evaluation.specs.SearchFits.{search_fits}
-use Rattle.agg_spec.specs.Index.{Index}
+use Rattle.index_laws.specs.Indexes.{index_of}
 use Rattle.pool_results.specs.Pools.{Pool}
 use Rattle.shard_columns.specs.Index.{rows_by_shard}
 use Rattle.shard_columns.specs.declared.index.Index.{Index as ShardIndex}
-
--- an index of shards as the definitions of answers see it
-abbrev pub index_of : ShardIndex → Index
-index_of index = record { name = index.name; mapping = index.mapping; shards = rows_by_shard index.shards }
 
 -- the searches are made for the index, and each task has its ceiling
 pub record IsPoolOf (index : ShardIndex) (p : Pool) : Type 0 where

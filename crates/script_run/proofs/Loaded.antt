@@ -1,7 +1,8 @@
 -- What was written of a script that was loaded, by how its third section ended.
 use Rattle.std.specs.Prelude.{◌≡◌, ◌≤◌, ℕ, Bool, List, [], ◌∷◌, ◌++◌, take, Option, Some, None, is_some, option_map, Ok, Err}
 use Rattle.std.proofs.Common.{inl, inr, refl, ◌∙◌, sym, ap, subst}
-use Rattle.agg_bulk.specs.Indexing.{IsLoaded, index_of}
+use Rattle.agg_bulk.specs.Indexing.{IsLoaded}
+use Rattle.index_laws.specs.Indexes.{index_of}
 use Rattle.agg_bulk.specs.declared.index.LoadedIndex.{LoadedIndex}
 use Rattle.agg_listen.specs.Hearing.{Hearing}
 use Rattle.agg_model.specs.Lines.{Line as InputLine, lines}

@@ -1,0 +1,2 @@
+-- An index of shards, as the definitions see it.
+pub mod Indexes
