@@ -37,7 +37,9 @@ use Rattle.agg_search.specs.declared.stop.Stop.{Stop}
 use Rattle.agg_search.specs.declared.stop.Stop.TheVariants as stop
 use Rattle.agg_search.proofs.Following.{batches-inert, follow-then, follows-as, stop-then, stopped-stays, stops-as}
 use Rattle.agg_search.proofs.Numbers.{drop-map, drop-range, range-append, range-push, take-map, take-range, take-range-all}
-use Rattle.agg_search.proofs.Parts.{AreAmong, among-left, among-part, batch-parts, result-parts, whole-joined}
+use Rattle.list_laws.specs.Among.{AreAmong}
+use Rattle.list_laws.proofs.Among.{among-part}
+use Rattle.agg_search.proofs.Parts.{among-left, batch-parts, result-parts, whole-joined}
 
 -- numbers among some first ones are among more of them
 pub among-more : (m n : ℕ) (ns : List ℕ) → m ≤ n → AreAmong m ns → AreAmong n ns
