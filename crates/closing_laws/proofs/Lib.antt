@@ -1,0 +1,13 @@
+pub mod Each
+pub mod Rearranged
+pub mod Shards
+pub mod Sums
+pub mod Left
+pub mod Charges
+pub mod Batches
+pub mod Plans
+pub mod Works
+pub mod WorkBatches
+pub mod WorkCharges
+pub mod WorkLeft
+pub mod Skipped
