@@ -1,0 +1,2 @@
+-- The tasks of a pool that is opened.
+pub mod Tasks
