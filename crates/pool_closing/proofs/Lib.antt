@@ -1,0 +1,10 @@
+pub mod Passes
+pub mod Adding
+pub mod Taking
+pub mod Ending
+pub mod Searches
+pub mod Known
+pub mod Running
+pub mod Whole
+pub mod Returns
+pub mod Ended
