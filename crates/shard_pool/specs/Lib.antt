@@ -1,0 +1,2 @@
+-- A pool of searches over an index.
+pub mod PoolOf
