@@ -6,9 +6,11 @@ use mathlib.Core.Option.{some}
 use lib.ListN.{get_elem?}
 use Rattle.agg_model.specs.declared.breaker.Limits.{Limits}
 use Rattle.agg_model.specs.declared.breaker.Which.{Which}
+use Rattle.agg_model.specs.declared.breaker.Which.TheVariants.{Request, Fielddata, Inflight, Parent}
 use Rattle.breaker_words.specs.declared.view.View.{View}
 use Rattle.agg_model.specs.Breakers.{which_of, limit_of}
 use Rattle.breaker_words.specs.Accounts.{children_in}
+use Rattle.breaker_words.specs.Breakers.{counter_value}
 use Rattle.breaker_words.specs.Views.{hold_of, granted_of, trips_of, most_of, seen_of, spent_view}
 use Rattle.breaker_words.specs.Trials.{HasAmount, child_standing, child_only, standing_of, in_force_of}
 use Rattle.breaker_words.specs.Moves.{BreakerState}
@@ -50,3 +52,5 @@ pub record IsBounded (l : Limits) (v : View) : Type 0 where
   pub holds : (x : Which) → hold_of v x ≤ limit_of l x
   pub granted : (x : Which) → granted_of v x ≤ 18446744073709551615
   pub trips : (x : Which) → trips_of v x ≤ 18446744073709551615
+  -- each charge counts at the parent too
+  pub together : granted_of v Parent ≡ counter_value (granted_of v Request + granted_of v Fielddata + granted_of v Inflight)

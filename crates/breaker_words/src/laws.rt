@@ -32,7 +32,8 @@ pub fn holds_within_limits()
     ensures { (l : Limits) (ms : List Move) (x : Which) → sum_by (λ v. hold_of v x) (run l ms).passes ≤ limit_of l x }
 {}
 
-/// Each pass holds no more than the limits, and its granted totals and trips are at most 2^64 - 1.
+/// Each pass holds no more than the limits, its granted totals and trips are at most 2^64 - 1, and what it was granted at the parent
+/// is what it was granted at the children together, up to there.
 pub fn each_pass_is_bounded()
     ensures { (l : Limits) (ms : List Move) (i : ℕ) (v : View) → get_elem? (run l ms).passes i ≡ some v → IsBounded l v }
 {}

@@ -329,6 +329,9 @@ module _ (p : Pool) (size : ℕ) (old : View) (rs : List Result) (joined : PassM
       by_which Fielddata = let e = other-granted Fielddata (λ z. cc) (λ z. cc) in let d = c.before.granted Fielddata in omega (arith, e, d)
       by_which Inflight = let e = other-granted Inflight (λ z. cc) (λ z. cc) in let d = c.before.granted Inflight in omega (arith, e, d)
 
+  risen : (x : Which) → granted_of old x ≤ granted_of new.view x
+  risen x = let a = c.given.granted x in let b = c.taken.joined.granted x in let d = c.after.granted x in let e = c.before.granted x in omega (arith, a, b, d, e)
+
   pub has-run : (before : PassModel) → before.view ≡ old → HasRun p size before new es
   has-run before is = subst (λ (v : View). HasRun p size (record { table = before.table; view = v }) new es) (sym is) (record {
     of = c.of;
@@ -339,6 +342,7 @@ module _ (p : Pool) (size : ℕ) (old : View) (rs : List Result) (joined : PassM
     most = most;
     trips = tripped;
     granted = granted;
+    risen = risen;
     other_trips = other-tripped;
     other_granted = other-granted;
   })

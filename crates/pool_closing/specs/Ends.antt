@@ -116,6 +116,8 @@ pub record HasRun (p : Pool) (size : ℕ) (old new : PassModel) (ends : List Sea
   pub most : (x : Which) → most_of new.view x ≤ most_of old.view x + at_both (2 * over_tasks p (peak_at p)) x
   pub trips : (x : Which) → HasTripped ends x (trips_of old.view x) (trips_of new.view x)
   pub granted : all_quiet ends ≡ true → HasGranted p size old.view new.view
+  -- whatever ended, no granted total fell
+  pub risen : (x : Which) → granted_of old.view x ≤ granted_of new.view x
   -- the other breakers' totals are as they were
   pub other_trips : (x : Which) → x ≢ Request → x ≢ Parent → trips_of new.view x ≡ trips_of old.view x
   pub other_granted : (x : Which) → x ≢ Request → x ≢ Parent → granted_of new.view x ≡ granted_of old.view x

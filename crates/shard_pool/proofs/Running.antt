@@ -61,6 +61,7 @@ run-from p size old new k ends run = record {
   most = run.most;
   trips = run.trips;
   granted = λ quiet. (let all = run.granted quiet in record { more = all.more; least = all.least; exactly = all.exactly; is = all.is });
+  risen = run.risen;
   other_trips = run.other_trips;
   other_granted = run.other_granted;
 }
