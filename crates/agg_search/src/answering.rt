@@ -26,8 +26,9 @@ fn total_failure(failures: &List<Failure>) -> Tripped
 }
 
 /// What the whole of the shards that are left comes to: the response, with the search of the page behind it, or why there is
-/// none.
-pub(crate) fn outcome_of(
+/// none. `max_buckets` is the most buckets of an answer; the failures are the shards that are left out, by ascending number; where no shard is left
+/// there is no whole. It fails only where memory is wanting.
+pub fn outcome_of(
     alloc: Global,
     index: &Index,
     search: Search,

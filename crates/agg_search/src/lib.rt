@@ -13,5 +13,7 @@ mod solo;
 mod stop;
 mod tasks;
 
+pub use answering::outcome_of;
 pub use pages::search_pages;
-pub use solo::search_solo;
+pub use paging::Found;
+pub use solo::{Page, search_solo};
