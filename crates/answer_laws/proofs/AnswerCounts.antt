@@ -23,7 +23,7 @@ use Rattle.agg_spec.specs.Written.{Line, answer, bulk, answer_lines, round_lines
 use Rattle.agg_spec.specs.Output.{HasAnswers}
 
 module _ (index : Index) (columns : ℕ) where
-  abbrev Formed : Settings → List Request → List Round → Bool → Type 0
+  abbrev pub Formed : Settings → List Request → List Round → Bool → Type 0
   Formed settings requests rounds b = elim b [ true ↦ ArePages index columns requests rounds | false ↦ AreWaves index columns settings.width requests rounds ]
 
   each-length : (settings : Settings) (ceiling : ℕ) (requests : List Request) (refusals : List (Option Tripped)) (answers : List Answered)

@@ -29,3 +29,8 @@ pub mod Untripped
 mod RoomExamples
 pub mod WaveCounts
 pub mod LineCounts
+pub mod WavesWithRoom
+pub mod PlainAnswers
+pub mod PlainRounds
+pub mod Completing
+pub mod InputsWithRoom

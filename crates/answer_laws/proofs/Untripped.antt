@@ -1,7 +1,7 @@
 -- A search whose charges are all granted is answered by the whole reduction, with no shard left out.
 use Rattle.std.specs.Prelude.{◌≡◌, refl, ℕ, ◌+◌, ◌*◌, ◌&&◌, Bool, true, false, List, [], ◌∷◌, map, Option, Some, None}
 use Rattle.std.specs.List.{AllByRecursion, list_all}
-use Rattle.std.proofs.Common.{◌∙◌, ap, sym, subst, inl, inr, arith}
+use Rattle.std.proofs.Common.{◌∙◌, ap, sym, inl, inr, arith}
 use Rattle.agg_model.specs.declared.breaker.Child.{Child}
 use Rattle.agg_model.specs.declared.breaker.Child.TheVariants as child
 use Rattle.agg_model.specs.declared.breaker.Limits.{Limits}
@@ -18,11 +18,9 @@ use Rattle.agg_spec.specs.Index.{Index}
 use Rattle.agg_spec.specs.Outcome.{Request, outcome, running_search}
 use Rattle.agg_spec.specs.Reduction.{Going, Task, task_steps, tasks_of, task_ended, task_refused, unless_ended, after_task, after_tasks, after_batch, after_batches, after_last, begun, batches, merge_steps}
 use Rattle.agg_spec.specs.Rounds.{Round, plain_answer}
-use Rattle.agg_spec.specs.Statistics.{is_solo}
-use Rattle.agg_spec.specs.Answers.{IsSolo, IsAllowed}
-use Rattle.agg_spec.specs.Complete.{IsPlain, WaveFits, NoneTrips, HasRoom}
+use Rattle.agg_spec.specs.Answers.{IsSolo}
+use Rattle.agg_spec.specs.Complete.{IsPlain, NoneTrips}
 use Rattle.agg_spec.specs.Written.{has_memory}
-use Rattle.answer_laws.proofs.AnswerCounts.{AllowedBy}
 use Rattle.agg_spec.specs.Solo.{idle, body_charged, searched, response_steps, outcome_with, outcome_unless, solo_run, solo_answer}
 
 -- no breaker refused a charge
@@ -156,9 +154,6 @@ module _ (settings : Settings) (index : Index) where
 
 -- a round of one worker that has room is answered so, unless memory runs out
 module _ (index : Index) (columns : ℕ) where
-  abbrev RoomBy : Round → Bool → Type 0
-  RoomBy round b = elim b [ true ↦ NoneTrips index columns round | false ↦ WaveFits index columns round ]
-
   answers-plain : (settings : Settings) (requests : List Request) (answers : List Answered) → IsSolo index columns settings requests answers
       → AllByRecursion (λ r. (solo_run settings index (idle columns) r).run.trips ≡ no_amounts) requests → list_all (λ (a : Answered). has_memory a.outcome) answers ≡ true
       → answers ≡ map (plain_answer index settings) requests
@@ -171,7 +166,6 @@ module _ (index : Index) (columns : ℕ) where
   answers-plain settings (r ∷ []) (a ∷ b ∷ answers) may room printed = absurd may
   answers-plain settings (r ∷ q ∷ requests) answers may room printed = absurd may
 
-  pub round-plain : (round : Round) → is_solo round.settings ≡ true → HasRoom index columns round → IsAllowed index columns round
+  pub solo-plain : (round : Round) → NoneTrips index columns round → IsSolo index columns round.settings round.requests round.answers
       → list_all (λ (a : Answered). has_memory a.outcome) round.answers ≡ true → IsPlain index columns round
-  round-plain round solo room may printed =
-      answers-plain round.settings round.requests round.answers (subst (AllowedBy index columns round) solo may) (subst (RoomBy round) solo room) printed
+  solo-plain round room may printed = answers-plain round.settings round.requests round.answers may room printed

@@ -13,18 +13,18 @@ ghost use Rattle.agg_evaluation.specs.SearchFits.{search_fits};
 ghost use Rattle.agg_settings.specs.Changes.{changed};
 ghost use Rattle.agg_spec.specs.Answers.{ArePages, Change, IsAllowed, Recent};
 ghost use Rattle.agg_spec.specs.Charges.{lowered, no_amounts, Run};
-ghost use Rattle.agg_spec.specs.Complete.{HasRoom, IsPlain};
+ghost use Rattle.agg_spec.specs.Complete.{HasRoom, HasRoomFor, IsPlain, ScriptFits};
 ghost use Rattle.agg_spec.specs.Failures.{AreFailures, unfailed};
 ghost use Rattle.agg_spec.specs.Index.{Index};
 ghost use Rattle.agg_spec.specs.Outcome.{answer_of, Request, response_length};
-ghost use Rattle.agg_spec.specs.Output.{HasAnswers, IsOutput};
+ghost use Rattle.agg_spec.specs.Output.{answered, EndsWell, HasAnswers, IsOutput, IsWhole, IsWholeOf};
 ghost use Rattle.agg_spec.specs.Pages.{is_paged};
 ghost use Rattle.agg_spec.specs.Reduction.{after_batches, after_last, after_tasks, begun, merge_steps, Task, task_of, task_steps};
 ghost use Rattle.agg_spec.specs.Requests.{LoadedScript, Segment};
-ghost use Rattle.agg_spec.specs.Rounds.{plain_answer, Round};
+ghost use Rattle.agg_spec.specs.Rounds.{all_quiet, plain_answer, Round};
 ghost use Rattle.agg_spec.specs.Solo.{after_requests, idle, outcome_with, solo_answer, solo_run};
-ghost use Rattle.agg_spec.specs.Statistics.{is_solo};
-ghost use Rattle.agg_spec.specs.Written.{answer, has_memory, Line};
+ghost use Rattle.agg_spec.specs.Written.{all_printed, answer, has_memory, Line};
+ghost use Rattle.answer_laws.specs.Completing.{ArePlain, AreQuiet, HaveRoom, IsAlone, KeepsAlone};
 ghost use Rattle.answer_laws.specs.Held.{costs_of, GivesBackHeld, HoldsMore, HoldsResults, IsPaid};
 ghost use Rattle.answer_laws.specs.LineCounts.{entry_count, KeepsWaves};
 ghost use Rattle.answer_laws.specs.Reduced.{TellsTheWhole};
@@ -129,12 +129,57 @@ pub fn rounds_of_a_scan_have_all_groups()
 {}
 
 /// Where one worker runs one search at a time, a search of which no breaker refuses a charge is answered by the whole
-/// reduction with no shard left out. So is each search of an allowed round that has room and in which none wants memory.
+/// reduction with no shard left out. So is, with any number of workers, each search of an allowed round that has room and in
+/// which none wants memory. Such answers tell of no refusal by a breaker.
 pub fn searches_that_have_room_are_answered_in_full()
     ensures search { (settings : Settings) (index : Index) (columns : ℕ) (request : Request) →
         (solo_run settings index (idle columns) request).run.trips ≡ no_amounts →
         solo_answer settings index (idle columns) request ≡ plain_answer index settings request }
-    ensures round { (index : Index) (columns : ℕ) (round : Round) → IsTrue (is_solo round.settings) →
-        HasRoom index columns round → IsAllowed index columns round →
+    ensures round { (index : Index) (columns : ℕ) (round : Round) → HasRoom index columns round → IsAllowed index columns round →
         IsTrue (list_all (λ a. has_memory a.outcome) round.answers) → IsPlain index columns round }
+    ensures quiet { (index : Index) (columns : ℕ) (round : Round) → IsPlain index columns round →
+        IsTrue (all_quiet round.answers) }
+{}
+
+/// Where each round of a script has room and no search wants memory, each search of the script is answered by the whole
+/// reduction with no shard left out, with any number of workers and whatever the settings lines change. No answer is then a
+/// breaker exception, and none tells of a failed shard. There is one list of such lines.
+pub fn scripts_that_have_room_are_answered_in_full()
+    ensures rounds { (change : Change) (words : Settings) (script : LoadedScript) (segments : List Segment) (written : List Line)
+        (at_end : Recent) (has : HasAnswers change words script segments written at_end) → IsTrue (all_printed written) →
+        HaveRoom script has.rounds → ArePlain script has.rounds }
+    ensures answers { (change : Change) (words : Settings) (script : LoadedScript) (segments : List Segment) (written : List Line)
+        (at_end : Recent) (has : HasAnswers change words script segments written at_end) → IsTrue (all_printed written) →
+        HaveRoom script has.rounds → AreQuiet written }
+    ensures alike { (change : Change) (words : Settings) (script : LoadedScript) (segments : List Segment) (one other : List Line)
+        (one_end other_end : Recent) (has : HasAnswers change words script segments one one_end)
+        (also : HasAnswers change words script segments other other_end) → IsTrue (all_printed one) → IsTrue (all_printed other) →
+        HaveRoom script has.rounds → HaveRoom script also.rounds → one ≡ other }
+{}
+
+/// A script that is loaded and not refused has whole outputs of status 0 alone: all its searches are answered, and the
+/// statistics follow. Where its rounds have room and no search wants memory, these are the lines of plain rounds, so that no
+/// answer is a breaker exception, and none tells of a failed shard.
+pub fn a_script_that_is_not_refused_is_answered_to_its_end()
+    ensures status { (change : Change) (words : Settings) (script : LoadedScript) (status : ℕ) (written : List Line) →
+        script.refused ≡ None → IsWholeOf change words (answered script) status written →
+        (status ≡ 0) × EndsWell change words script written }
+    ensures rounds { (change : Change) (words : Settings) (script : LoadedScript) (written : List Line)
+        (ends : EndsWell change words script written) → IsTrue (all_printed written) →
+        HaveRoom script ends.answered.rounds → ArePlain script ends.answered.rounds }
+    ensures answers { (change : Change) (words : Settings) (script : LoadedScript) (written : List Line)
+        (ends : EndsWell change words script written) → IsTrue (all_printed written) →
+        HaveRoom script ends.answered.rounds → AreQuiet written }
+{}
+
+/// Where one worker runs one search at a time and asks for no pages, the input alone tells whether there is room: a whole output
+/// for it in which no search wants memory has status 0, and all its rounds are plain.
+pub fn inputs_that_have_room_are_answered_in_full()
+    ensures output { (change : Change) (words : Settings) (input : List ℕ) (status : ℕ) (written : List Line) →
+        KeepsAlone change words → IsAlone words → HasRoomFor change words input →
+        IsWhole change (Ok words) input status written → IsTrue (all_printed written) → (status ≡ 0) × AreQuiet written }
+    ensures rounds { (change : Change) (words : Settings) (script : LoadedScript) (written : List Line) →
+        KeepsAlone change words → IsAlone words → ScriptFits change words (answered script) →
+        (ends : EndsWell change words script written) → IsTrue (all_printed written) → ArePlain script ends.answered.rounds }
+    ensures kept { (words : Settings) → KeepsAlone changed words }
 {}
