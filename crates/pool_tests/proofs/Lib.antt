@@ -1,0 +1,3 @@
+-- Proofs of what the tests call.
+pub mod Indexes
+pub mod Rooms

@@ -1,0 +1,61 @@
+//! How a search of a pool is to end.
+use crate::parts::{Counts, counts_of, merged};
+use agg_model::{Failure, Tripped, Which};
+use shard_pool::SearchEnd;
+use std::alloc::{AllocError, Global};
+
+/// How a search is to end.
+#[derive(Clone, Copy)]
+pub(crate) enum Wanted {
+    /// With these counts of all shards.
+    Whole(Counts),
+    /// By a refusal at this total, in bytes.
+    Stopped(u64),
+    /// Without these shards, each of which was refused at this total, and with these counts of the others.
+    Without(&'static [u32], u64, Counts),
+}
+
+/// Whether these shards, and no others, were refused as told.
+fn are_left_out(failures: &[Failure], shards: &[u32], tripped: Tripped) -> bool {
+    failures.len() == shards.len()
+        && failures.iter().zip(shards).all(|(failure, shard)| failure.shard == *shard
+            && failure.tripped == tripped)
+}
+
+/// Whether a search ended so, where the request breaker has this limit. Its parts are merged to one.
+pub(crate) fn has_ended(
+    alloc: Global,
+    end: SearchEnd,
+    limit: u64,
+    wanted: Wanted,
+) -> Result<bool, AllocError> {
+    let SearchEnd {
+        parts,
+        refused,
+        memory,
+        failures,
+    } = end;
+    let refusal_at = |total| Tripped {
+        which: Which::Request,
+        wanted: total,
+        limit,
+    };
+    let counts = merged(alloc, parts)?.map(|whole| counts_of(&whole));
+    let failures = failures.as_slice();
+    Ok(
+        !memory
+            && match wanted {
+                Wanted::Whole(all) => {
+                    counts == Some(all) && refused.is_none() && failures.is_empty()
+                }
+                Wanted::Stopped(total) => {
+                    counts.is_none() && refused == Some(refusal_at(total)) && failures.is_empty()
+                }
+                Wanted::Without(shards, total, others) => {
+                    counts == Some(others)
+                        && refused.is_none()
+                        && are_left_out(failures, shards, refusal_at(total))
+                }
+            },
+    )
+}

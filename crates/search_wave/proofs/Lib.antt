@@ -1,0 +1,5 @@
+pub mod Ends
+pub mod Asked
+pub mod Requests
+pub mod Following
+pub mod Whole

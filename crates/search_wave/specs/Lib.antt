@@ -1,0 +1,2 @@
+-- Searches that many workers answer.
+pub mod Pages

@@ -1,0 +1,2 @@
+-- The charges of the bodies of searches that are answered side by side.
+pub mod Charged

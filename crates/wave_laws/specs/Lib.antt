@@ -1,0 +1,3 @@
+-- Searches that are answered side by side.
+pub mod Waves
+pub mod Ran
