@@ -1,5 +1,5 @@
-//! The whole program over a source and a sink: the words, the script, and its answers line by line, by one worker. `run` is the
-//! top call; it answers the exit status, which `main` gives to the process.
+//! The whole program over a source and a sink: the words, the script, and its answers line by line, by as many workers as the words
+//! say. `run` is the top call; it answers the exit status, which `main` gives to the process.
 #![tactic(auto)]
 
 mod arguments;

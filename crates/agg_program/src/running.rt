@@ -1,5 +1,5 @@
 //! The top call.
-ghost use Rattle.std.specs.Prelude.{◌≡◌, ℕ, List as Items, Some, None, IfOk, IfSome, IfNone, IsNone, IsErr, Ok, false};
+ghost use Rattle.std.specs.Prelude.{◌≡◌, ℕ, List as Items, Some, None, IfOk, IfSome, IfNone, IsNone, IsErr, Ok, true};
 ghost use Rattle.std.specs.Io.KnownBytes.{IsAtEnd};
 ghost use Rattle.agg_base.specs.Outside.{Rose};
 ghost use Rattle.agg_model.specs.declared.settings.Settings.{Settings};
@@ -15,12 +15,14 @@ use agg_base::{Sink, Source};
 use agg_listen::{Audience, Listener};
 use agg_model::{List, Text};
 use script_run::Status;
-use solo_answerer::Worker;
 use std::alloc::{AllocError, Global};
 use std::env::Args;
 use std::io;
+use std::thread::Threads;
+use wave_answerer::Team;
 
-/// Runs the program over a source and a sink, with one worker and one search at a time, and answers its exit status.
+/// Runs the program over a source and a sink, with as many workers and searches at a time as the words say, and answers its exit
+/// status.
 ///
 /// - 0: the input was read to its end, and all lines were written.
 /// - 2: the words are not in the grammar; nothing is read.
@@ -31,7 +33,8 @@ use std::io;
 /// - 7: memory ran out; whole lines of the output were written.
 ///
 /// Each listener of the audience is told of each answer to a search once its line was written whole.
-pub fn run<S: Source, K: Sink, L: Listener>(
+pub fn run<R: Threads + Sync, S: Source, K: Sink, L: Listener>(
+    rt: &R,
     alloc: Global,
     words: &[Text],
     source: &mut S,
@@ -39,19 +42,20 @@ pub fn run<S: Source, K: Sink, L: Listener>(
     audience: &mut Audience<L>,
 ) -> u8
     // What was written and read, where the source and the sink tell their bytes: an output that is defined for these words, this
-    // input and what was read of it.
+    // input and what was read of it. So for every number of workers and every order in which they come, each search is answered by the
+    // whole reduction of the shards that did not fail, or by a refusal of a breaker that saw a total above its limit.
     ensures output { (input before : Items ℕ) → S.left source.old ≡ Some input → K.written sink.old ≡ Some before →
-        Runs false words.now input (S.left source.new) result (so_far (Some before) audience.old) (so_far (K.written sink.new) audience.new) }
+        Runs true words.now input (S.left source.new) result (so_far (Some before) audience.old) (so_far (K.written sink.new) audience.new) }
 
     // Why each status comes.
-    ensures finished { result ≡ 0 → (settings : Settings) → settings_of false words.now ≡ Ok settings →
+    ensures finished { result ≡ 0 → (settings : Settings) → settings_of true words.now ≡ Ok settings →
         settings.generate ≡ None → IsAtEnd (S.left source.new) }
-    ensures usage { result ≡ 2 → IsErr (settings_of false words.now) }
-    ensures refused { IsErr (settings_of false words.now) → IsOfRefusedWords result }
+    ensures usage { result ≡ 2 → IsErr (settings_of true words.now) }
+    ensures refused { IsErr (settings_of true words.now) → IsOfRefusedWords result }
     ensures read_fault { result ≡ 3 → Rose (S.faults source.old) (S.faults source.new) }
     ensures write_fault { result ≡ 4 → Rose (K.faults sink.old) (K.faults sink.new) }
 {
-    script_run::run::<S, K, L, Worker>(alloc, false, words, source, sink, audience)
+    script_run::run::<R, S, K, L, Team>(rt, alloc, true, words, source, sink, audience)
 }
 
 // The words, and one who listens.
@@ -83,7 +87,8 @@ pub struct Ended<L: Listener> {
 /// status is 7.
 ///
 /// The listener is told of each answer to a search once its line was written whole.
-pub fn run_arguments<S: Source, K: Sink, L: Listener>(
+pub fn run_arguments<R: Threads + Sync, S: Source, K: Sink, L: Listener>(
+    rt: &R,
     alloc: Global,
     arguments: io::Result<Args>,
     source: &mut S,
@@ -93,7 +98,7 @@ pub fn run_arguments<S: Source, K: Sink, L: Listener>(
     // What was written and read, and what the listener heard.
     ensures output { (words : Items (Items ℕ)) (input before : Items ℕ) → words_given arguments ≡ Some words →
         S.left source.old ≡ Some input → K.written sink.old ≡ Some before →
-        IfSome result.audience (λ heard. Runs false words input (S.left source.new) result.status
+        IfSome result.audience (λ heard. Runs true words input (S.left source.new) result.status
         (so_far (Some before) (alone (L.standing listener))) (so_far (K.written sink.new) heard)) }
 
     // Where there was no memory for the words.
@@ -104,16 +109,16 @@ pub fn run_arguments<S: Source, K: Sink, L: Listener>(
 
     // Why each status comes.
     ensures finished { result.status ≡ 0 → (words : Items (Items ℕ)) → words_given arguments ≡ Some words → (settings : Settings) →
-        settings_of false words ≡ Ok settings → settings.generate ≡ None → IsAtEnd (S.left source.new) }
-    ensures usage { result.status ≡ 2 → (words : Items (Items ℕ)) → words_given arguments ≡ Some words → IsErr (settings_of false words) }
-    ensures refused { (words : Items (Items ℕ)) → words_given arguments ≡ Some words → IsErr (settings_of false words) →
+        settings_of true words ≡ Ok settings → settings.generate ≡ None → IsAtEnd (S.left source.new) }
+    ensures usage { result.status ≡ 2 → (words : Items (Items ℕ)) → words_given arguments ≡ Some words → IsErr (settings_of true words) }
+    ensures refused { (words : Items (Items ℕ)) → words_given arguments ≡ Some words → IsErr (settings_of true words) →
         IsOfRefusedWords result.status }
     ensures read_fault { result.status ≡ 3 → Rose (S.faults source.old) (S.faults source.new) }
     ensures write_fault { result.status ≡ 4 → Rose (K.faults sink.old) (K.faults sink.new) }
 {
     match prepare(alloc, arguments, listener) {
         Ok((words, mut audience)) => {
-            let status = run(alloc, words.as_slice(), source, sink, &mut audience);
+            let status = run(rt, alloc, words.as_slice(), source, sink, &mut audience);
             Ended {
                 status,
                 audience: Some(audience),

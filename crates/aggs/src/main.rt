@@ -9,6 +9,7 @@ use std::process::ExitCode;
 
 fn main(rt: HostRuntime) -> ExitCode {
     let ended = run_arguments(
+        &rt,
         rt.alloc(),
         env::args(&rt),
         &mut StdSource::new(rt.stdin()),

@@ -7,6 +7,7 @@ use crate::runs::{
 use std::alloc::Global;
 use std::process::Abort;
 use std::test::Fail;
+use std::thread::Threads;
 
 /// More calls than any of the runs below has.
 const MANY: u64 = 10_000;
@@ -44,7 +45,12 @@ const CASES: [Case; 2] = [
 
 /// Lets one read after another fail, and answers how many could. What was read is answered: the later the read that fails, the
 /// more lines there are, and at the end all but the last one.
-fn failed_reads(rt: &impl Abort, alloc: Global, case: Case, piece: usize) -> Result<u64, Fail> {
+fn failed_reads<R: Abort + Threads + Sync>(
+    rt: &R,
+    alloc: Global,
+    case: Case,
+    piece: usize,
+) -> Result<u64, Fail> {
     let all = case.output.as_bytes();
     let mut lines = 0usize;
     for call in 0..MANY {
@@ -53,7 +59,7 @@ fn failed_reads(rt: &impl Abort, alloc: Global, case: Case, piece: usize) -> Res
             write: None,
         };
         let input = joined(alloc, INDEX, case.rest)?;
-        let (status, written) = answered(alloc, input, piece.max(1), faults)?;
+        let (status, written) = answered(rt, alloc, input, piece.max(1), faults)?;
         if status != 3 {
             assert_eq!(rt; status, case.status);
             assert!(rt; written.as_slice() == all);
@@ -68,7 +74,12 @@ fn failed_reads(rt: &impl Abort, alloc: Global, case: Case, piece: usize) -> Res
 }
 
 /// Lets one write after another fail, and answers how many could.
-fn failed_writes(rt: &impl Abort, alloc: Global, case: Case, piece: usize) -> Result<u64, Fail> {
+fn failed_writes<R: Abort + Threads + Sync>(
+    rt: &R,
+    alloc: Global,
+    case: Case,
+    piece: usize,
+) -> Result<u64, Fail> {
     let all = case.output.as_bytes();
     for call in 0..MANY {
         let faults = FailedCalls {
@@ -76,7 +87,7 @@ fn failed_writes(rt: &impl Abort, alloc: Global, case: Case, piece: usize) -> Re
             write: Some(call),
         };
         let input = joined(alloc, INDEX, case.rest)?;
-        let (status, written) = answered(alloc, input, piece.max(1), faults)?;
+        let (status, written) = answered(rt, alloc, input, piece.max(1), faults)?;
         if status != 4 {
             assert_eq!(rt; status, case.status);
             assert!(rt; written.as_slice() == all);

@@ -7,6 +7,7 @@ use agg_model::{Bytes, List, Text};
 use agg_program::run;
 use std::alloc::{AllocError, Global};
 use std::test::Fail;
+use std::thread::Threads;
 
 pub(crate) const INDEX: &str =
     r#"{"index":"i","mappings":{"properties":{"b":{"type":"boolean"},"n":{"type":"long"},"t":{"type":"keyword"}}},"settings":{"number_of_shards":1}}"#;
@@ -77,7 +78,8 @@ fn audience_with_room(alloc: Global, rooms: &[u32]) -> Result<Audience<ListListe
 }
 
 /// The status of a run without words over memory, in pieces of so many bytes, and what it wrote.
-pub(crate) fn answered(
+pub(crate) fn answered<R: Threads + Sync>(
+    rt: &R,
     alloc: Global,
     input: Bytes,
     piece: usize,
@@ -88,7 +90,7 @@ pub(crate) fn answered(
     let mut source = MemorySource::new(input, piece, failing(alloc, faults.read)?);
     let mut sink = MemorySink::new(alloc, 1_000_000, piece, failing(alloc, faults.write)?)?;
     let mut audience = audience_with_room(alloc, &[])?;
-    let status = run(alloc, &[], &mut source, &mut sink, &mut audience);
+    let status = run(rt, alloc, &[], &mut source, &mut sink, &mut audience);
     Ok((status, Bytes::of(alloc, sink.written())?))
 }
 
@@ -111,7 +113,7 @@ pub(crate) fn line_count(bytes: &[u8]) -> usize {
 fn two_bodies_are_answered_in_pieces_of_any_length(rt: HostRuntime) -> Result<(), Fail> {
     for piece in [1usize, 7, 65_536] {
         let input = joined(rt.alloc(), INDEX, TWO_BODIES)?;
-        let (status, written) = answered(rt.alloc(), input, piece.max(1), NO_FAULT)?;
+        let (status, written) = answered(&rt, rt.alloc(), input, piece.max(1), NO_FAULT)?;
         assert_eq!(rt; status, 0);
         assert!(rt; written.as_slice() == TWO_ANSWERS.as_bytes());
     }
@@ -125,7 +127,14 @@ fn words_outside_the_grammar_end_the_run(rt: HostRuntime) -> Result<(), Fail> {
     let mut sink = MemorySink::new(rt.alloc(), 100, 10, List::new(rt.alloc()))?;
     let words = [Text::of(rt.alloc(), "--workers")?];
     let mut audience = audience_with_room(rt.alloc(), &[8])?;
-    let status = run(rt.alloc(), &words, &mut source, &mut sink, &mut audience);
+    let status = run(
+        &rt,
+        rt.alloc(),
+        &words,
+        &mut source,
+        &mut sink,
+        &mut audience,
+    );
     assert_eq!(rt; status, 2);
     assert_eq!(rt; audience.listeners().len(), 1);
     assert_eq!(rt; audience.listeners()[0].entry(0), None);
@@ -141,7 +150,7 @@ fn listeners_hear_of_the_answers_and_leave_without_room(rt: HostRuntime) -> Resu
         let mut source = MemorySource::new(input, 65_536, List::new(rt.alloc()));
         let mut sink = MemorySink::new(rt.alloc(), 10_000, 65_536, List::new(rt.alloc()))?;
         let mut audience = audience_with_room(rt.alloc(), &rooms)?;
-        let status = run(rt.alloc(), &[], &mut source, &mut sink, &mut audience);
+        let status = run(&rt, rt.alloc(), &[], &mut source, &mut sink, &mut audience);
         assert_eq!(rt; status, 0);
         assert!(rt; sink.written() == ONE_ANSWER.as_bytes());
         assert_eq!(rt; audience.listeners().len(), left);
@@ -166,7 +175,7 @@ fn where_memory_runs_out_whole_lines_are_written(rt: HostRuntime) -> Result<(), 
     let mut source = MemorySource::new(input, 65_536, List::new(rt.alloc()));
     let mut sink = MemorySink::new(rt.alloc(), 10_000, 65_536, List::new(rt.alloc()))?;
     let mut audience = audience_with_room(rt.alloc(), &[])?;
-    let status = run(rt.alloc(), &[], &mut source, &mut sink, &mut audience);
+    let status = run(&rt, rt.alloc(), &[], &mut source, &mut sink, &mut audience);
     if status == 7 {
         assert!(rt; are_first_lines(sink.written(), ONE_ANSWER.as_bytes()));
     } else {

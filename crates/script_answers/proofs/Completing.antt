@@ -171,7 +171,8 @@ module _ (index : Index) (columns : ℕ) where
   quiet-told o failures quiet =
       nothing-added _ _ (quiet-exception (unfailed index failures) o failures quiet) (ap (λ (fs : List Failure). sum_of_amounts (map (λ (f : Failure). one_at f.tripped.which) fs)) (quiet-failures o failures quiet))
 
-  quiet-answers : (answers : List Answered) → IsTrue (all_quiet answers) → sum_of_amounts (map (told_trips index) answers) ≡ no_amounts
+  -- answers that tell of no refusal tell of no trips
+  pub quiet-answers : (answers : List Answered) → IsTrue (all_quiet answers) → sum_of_amounts (map (told_trips index) answers) ≡ no_amounts
   quiet-answers [] quiet = refl
   quiet-answers (a ∷ rest) quiet =
       let parts = both (is_quiet a.outcome a.failures) (all_quiet rest) quiet in

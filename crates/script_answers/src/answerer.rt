@@ -1,5 +1,6 @@
 //! What is asked of one who answers the searches of a script.
 ghost use Rattle.std.specs.Prelude.{◌≡◌, ◌≤◌, ℕ, List as Items, length, map, IfOk};
+ghost use Rattle.std.specs.Thread.{IsSync};
 ghost use Rattle.agg_model.specs.declared.settings.Settings.{Settings};
 ghost use Rattle.agg_spec.specs.Answers.{Recent};
 ghost use Rattle.agg_spec.specs.Index.{Index};
@@ -11,6 +12,7 @@ ghost use Rattle.script_answers.specs.Answering.{AnswersRound, MayBe, Reopens};
 
 use agg_model::{Answered, Bytes, List, Settings, Totals, Tripped};
 use std::alloc::{AllocError, Global};
+use std::thread::Threads;
 
 /// What new settings come to.
 #[derive(Clone, Copy, Debug, PartialEq, Eq)]
@@ -42,8 +44,14 @@ pub trait Answerer: Drop {
         ensures { result ≡ in_force self.now };
 
     /// Answers searches, as many as a wave has or fewer: one answer for each in their order, or with `scan` the pages of each.
-    /// After want of memory it answers no more.
-    fn answer(&mut self, alloc: Global, bodies: &List<Bytes>) -> Result<List<Answered>, AllocError>
+    /// After want of memory it answers no more. It may start threads, all of which have ended when it returns.
+    fn answer<R: Threads + Sync>(
+        &mut self,
+        rt: &R,
+        alloc: Global,
+        bodies: &List<Bytes>,
+    ) -> Result<List<Answered>, AllocError>
+        requires shared { IsSync R.row }
         requires some { 1 ≤ length bodies.now }
         requires few { length bodies.now ≤ (in_force self.old).width }
         ensures rounds { IfOk result (λ answers. (recent : Recent) →

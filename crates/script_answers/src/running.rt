@@ -28,6 +28,7 @@ use agg_model::{List, Settings};
 use script_entries::next_entry;
 use script_lines::ScriptFault;
 use std::alloc::Global;
+use std::thread::Threads;
 
 /// How a script ends where a line was not written whole.
 fn stopped(stop: Stop) -> ScriptEnd
@@ -72,7 +73,8 @@ fn end_at<K: Sink, L: Listener>(
 /// The listeners are told of each answer once its line was written whole.
 ///
 /// Beside what the searches take, it holds the bodies of one wave.
-pub fn answer_script<S: Source, K: Sink, L: Listener, A: Answerer>(
+pub fn answer_script<R: Threads + Sync, S: Source, K: Sink, L: Listener, A: Answerer>(
+    rt: &R,
     alloc: Global,
     lines: &mut Lines<'_, S>,
     sink: &mut K,
@@ -105,12 +107,12 @@ pub fn answer_script<S: Source, K: Sink, L: Listener, A: Answerer>(
     };
     loop {
         match next_entry(alloc, lines) {
-            Ok(Some(entry)) => match take_entry(alloc, sink, audience, waiting, words, entry) {
+            Ok(Some(entry)) => match take_entry(rt, alloc, sink, audience, waiting, words, entry) {
                 Ok(now) => waiting = now,
                 Err(stop) => return stopped(stop),
             },
             Ok(None) => {
-                return match finish(alloc, sink, audience, waiting, words) {
+                return match finish(rt, alloc, sink, audience, waiting, words) {
                     Ok(()) => ScriptEnd::Finished,
                     Err(stop) => stopped(stop),
                 };

@@ -22,6 +22,7 @@ use agg_model::{Bytes, List, Settings};
 use script_entries::Entry;
 use serde_json::Value;
 use std::alloc::Global;
+use std::thread::Threads;
 
 /// Who answers, and the bodies of the searches that wait for their wave to be full.
 #[derive(Drop)]
@@ -31,7 +32,8 @@ pub(crate) struct Waiting<A: Answerer> {
 }
 
 /// One more search: the wave is answered where it is full now.
-fn take_body<K: Sink, L: Listener, A: Answerer>(
+fn take_body<R: Threads + Sync, K: Sink, L: Listener, A: Answerer>(
+    rt: &R,
     alloc: Global,
     sink: &mut K,
     audience: &mut Audience<L>,
@@ -64,7 +66,7 @@ fn take_body<K: Sink, L: Listener, A: Answerer>(
     if wave.len() < words.width as usize {
         return Ok(Waiting { answerer, wave });
     }
-    answer_wave(alloc, sink, audience, &mut answerer, &wave)?;
+    answer_wave(rt, alloc, sink, audience, &mut answerer, &wave)?;
     Ok(Waiting {
         answerer,
         wave: List::new(alloc),
@@ -72,7 +74,8 @@ fn take_body<K: Sink, L: Listener, A: Answerer>(
 }
 
 /// A settings line, behind the searches of the wave before it.
-fn take_settings<K: Sink, L: Listener, A: Answerer>(
+fn take_settings<R: Threads + Sync, K: Sink, L: Listener, A: Answerer>(
+    rt: &R,
     alloc: Global,
     sink: &mut K,
     audience: &mut Audience<L>,
@@ -100,7 +103,7 @@ fn take_settings<K: Sink, L: Listener, A: Answerer>(
     ensures never_falls { K.faults sink.old ≤ K.faults sink.new }
 {
     let Waiting { mut answerer, wave } = waiting;
-    answer_wave(alloc, sink, audience, &mut answerer, &wave)?;
+    answer_wave(rt, alloc, sink, audience, &mut answerer, &wave)?;
     let answerer = change_settings(alloc, sink, audience, answerer, words, line)?;
     Ok(Waiting {
         answerer,
@@ -109,7 +112,8 @@ fn take_settings<K: Sink, L: Listener, A: Answerer>(
 }
 
 /// One more entry.
-pub(crate) fn take_entry<K: Sink, L: Listener, A: Answerer>(
+pub(crate) fn take_entry<R: Threads + Sync, K: Sink, L: Listener, A: Answerer>(
+    rt: &R,
     alloc: Global,
     sink: &mut K,
     audience: &mut Audience<L>,
@@ -137,13 +141,14 @@ pub(crate) fn take_entry<K: Sink, L: Listener, A: Answerer>(
     ensures never_falls { K.faults sink.old ≤ K.faults sink.new }
 {
     match entry {
-        Entry::Body(body) => take_body(alloc, sink, audience, waiting, words, body),
-        Entry::Settings(line) => take_settings(alloc, sink, audience, waiting, words, &line),
+        Entry::Body(body) => take_body(rt, alloc, sink, audience, waiting, words, body),
+        Entry::Settings(line) => take_settings(rt, alloc, sink, audience, waiting, words, &line),
     }
 }
 
 /// The end of the script: the last wave, which may be short, and the statistics.
-pub(crate) fn finish<K: Sink, L: Listener, A: Answerer>(
+pub(crate) fn finish<R: Threads + Sync, K: Sink, L: Listener, A: Answerer>(
+    rt: &R,
     alloc: Global,
     sink: &mut K,
     audience: &mut Audience<L>,
@@ -163,6 +168,6 @@ pub(crate) fn finish<K: Sink, L: Listener, A: Answerer>(
     ensures never_falls { K.faults sink.old ≤ K.faults sink.new }
 {
     let Waiting { mut answerer, wave } = waiting;
-    answer_wave(alloc, sink, audience, &mut answerer, &wave)?;
+    answer_wave(rt, alloc, sink, audience, &mut answerer, &wave)?;
     close(alloc, sink, audience, answerer)
 }

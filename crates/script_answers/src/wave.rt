@@ -14,13 +14,15 @@ use agg_base::Sink;
 use agg_listen::{Audience, Listener};
 use agg_model::{Bytes, List};
 use std::alloc::Global;
+use std::thread::Threads;
 
 /// Answers the searches of a wave, writes their lines in their order, and tells the listeners of each once it is written. A wave
 /// may be empty, and then nothing is answered nor written.
 ///
 /// Where memory runs out or the sink fails, the lines before stand whole, of the next one a front at most that is not all of it,
 /// and nothing is said of the rounds. Takes the time and memory of the answers, and time linear in their lines.
-pub fn answer_wave<K: Sink, L: Listener, A: Answerer>(
+pub fn answer_wave<R: Threads + Sync, K: Sink, L: Listener, A: Answerer>(
+    rt: &R,
     alloc: Global,
     sink: &mut K,
     audience: &mut Audience<L>,
@@ -42,7 +44,7 @@ pub fn answer_wave<K: Sink, L: Listener, A: Answerer>(
     if bodies.is_empty() {
         return Ok(());
     }
-    let answers = answerer.answer(alloc, bodies)?;
+    let answers = answerer.answer(rt, alloc, bodies)?;
     write_answers(alloc, sink, audience, &answers)
 }
 

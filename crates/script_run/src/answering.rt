@@ -24,6 +24,7 @@ use agg_listen::{Audience, Listener};
 use agg_model::Settings;
 use script_answers::{ScriptEnd, answer_script};
 use std::alloc::Global;
+use std::thread::Threads;
 
 /// The status of a run whose third section ended so.
 fn status_of(end: ScriptEnd) -> Status
@@ -39,7 +40,8 @@ fn status_of(end: ScriptEnd) -> Status
 }
 
 /// Answers a script whose first two sections were loaded: the line of the bulk actions, and those of the third section.
-fn answer_loaded<S: Source, K: Sink, L: Listener, A: Opens>(
+fn answer_loaded<R: Threads + Sync, S: Source, K: Sink, L: Listener, A: Opens>(
+    rt: &R,
     alloc: Global,
     lines: &mut Lines<'_, S>,
     sink: &mut K,
@@ -77,11 +79,12 @@ fn answer_loaded<S: Source, K: Sink, L: Listener, A: Opens>(
     }
     drop(items);
     let answerer = A::open(index, words, pass, settings);
-    status_of(answer_script(alloc, lines, sink, audience, answerer, &settings))
+    status_of(answer_script(rt, alloc, lines, sink, audience, answerer, &settings))
 }
 
 /// Answers a whole script, from its start.
-pub(crate) fn answer_lines<S: Source, K: Sink, L: Listener, A: Opens>(
+pub(crate) fn answer_lines<R: Threads + Sync, S: Source, K: Sink, L: Listener, A: Opens>(
+    rt: &R,
     alloc: Global,
     lines: &mut Lines<'_, S>,
     sink: &mut K,
@@ -103,7 +106,9 @@ pub(crate) fn answer_lines<S: Source, K: Sink, L: Listener, A: Opens>(
     ensures same_source { source_name lines.new ≡ source_name lines.old }
 {
     match load(alloc, lines, &settings) {
-        Ok(loaded) => answer_loaded::<S, K, L, A>(alloc, lines, sink, audience, settings, loaded),
+        Ok(loaded) => answer_loaded::<R, S, K, L, A>(
+            rt, alloc, lines, sink, audience, settings, loaded,
+        ),
         Err(end) => end_loading(alloc, sink, audience, &end),
     }
 }

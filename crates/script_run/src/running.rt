@@ -23,9 +23,11 @@ use agg_listen::{Audience, Listener};
 use agg_model::{Generate, Settings, Text};
 use agg_settings::{SettingsFault, settings_of};
 use std::alloc::Global;
+use std::thread::Threads;
 
 /// Answers the script that a source has left.
-fn answer_source<S: Source, K: Sink, L: Listener, A: Opens>(
+fn answer_source<R: Threads + Sync, S: Source, K: Sink, L: Listener, A: Opens>(
+    rt: &R,
     alloc: Global,
     source: &mut S,
     sink: &mut K,
@@ -47,13 +49,14 @@ fn answer_source<S: Source, K: Sink, L: Listener, A: Opens>(
         return Status::Memory;
     };
     let mut lines = Lines::new(alloc, source, block);
-    let status = answer_lines::<S, K, L, A>(alloc, &mut lines, sink, audience, settings);
+    let status = answer_lines::<R, S, K, L, A>(rt, alloc, &mut lines, sink, audience, settings);
     let _source = lines.into_source();
     status
 }
 
 /// Answers the script that is generated in the place of the input.
-fn answer_generated<K: Sink, L: Listener, A: Opens>(
+fn answer_generated<R: Threads + Sync, K: Sink, L: Listener, A: Opens>(
+    rt: &R,
     alloc: Global,
     sink: &mut K,
     audience: &mut Audience<L>,
@@ -72,11 +75,12 @@ fn answer_generated<K: Sink, L: Listener, A: Opens>(
         return Status::Memory;
     };
     let mut source = Given::new(script);
-    answer_source::<Given, K, L, A>(alloc, &mut source, sink, audience, settings)
+    answer_source::<R, Given, K, L, A>(rt, alloc, &mut source, sink, audience, settings)
 }
 
 /// Answers the script that the settings ask for: what the source has left, or a generated script.
-fn answer_settings<S: Source, K: Sink, L: Listener, A: Opens>(
+fn answer_settings<R: Threads + Sync, S: Source, K: Sink, L: Listener, A: Opens>(
+    rt: &R,
     alloc: Global,
     source: &mut S,
     sink: &mut K,
@@ -94,14 +98,17 @@ fn answer_settings<S: Source, K: Sink, L: Listener, A: Opens>(
     ensures no_usage { result ≢ status.Usage }
 {
     match &settings.generate {
-        Some(generate) => answer_generated::<K, L, A>(alloc, sink, audience, settings, generate),
-        None => answer_source::<S, K, L, A>(alloc, source, sink, audience, settings),
+        Some(generate) => answer_generated::<R, K, L, A>(
+            rt, alloc, sink, audience, settings, generate,
+        ),
+        None => answer_source::<R, S, K, L, A>(rt, alloc, source, sink, audience, settings),
     }
 }
 
 /// Runs a script over a source and a sink, and answers how it ended. With `several`, up to 64 workers and searches at a time are
 /// in the grammar of the words.
-fn status_of<S: Source, K: Sink, L: Listener, A: Opens>(
+fn status_of<R: Threads + Sync, S: Source, K: Sink, L: Listener, A: Opens>(
+    rt: &R,
     alloc: Global,
     several: bool,
     words: &[Text],
@@ -121,7 +128,9 @@ fn status_of<S: Source, K: Sink, L: Listener, A: Opens>(
     ensures write_fault { result ≡ status.WriteFault → Rose (K.faults sink.old) (K.faults sink.new) }
 {
     match settings_of(alloc, words, several) {
-        Ok(settings) => answer_settings::<S, K, L, A>(alloc, source, sink, audience, settings),
+        Ok(settings) => answer_settings::<R, S, K, L, A>(
+            rt, alloc, source, sink, audience, settings,
+        ),
         Err(SettingsFault::Usage(usage)) => {
             ended(write_usage(alloc, sink, audience, &usage), Status::Usage)
         }
@@ -140,8 +149,10 @@ fn status_of<S: Source, K: Sink, L: Listener, A: Opens>(
 /// - 6: the columns are beyond a limit; that is the one line.
 /// - 7: memory ran out; whole lines of the output were written.
 ///
-/// Each listener of the audience is told of each answer to a search once its line was written whole.
-pub fn run<S: Source, K: Sink, L: Listener, A: Opens>(
+/// Each listener of the audience is told of each answer to a search once its line was written whole. Whoever answers may start
+/// threads, which have ended when it returns.
+pub fn run<R: Threads + Sync, S: Source, K: Sink, L: Listener, A: Opens>(
+    rt: &R,
     alloc: Global,
     several: bool,
     words: &[Text],
@@ -162,5 +173,5 @@ pub fn run<S: Source, K: Sink, L: Listener, A: Opens>(
     ensures read_fault { result ≡ 3 → Rose (S.faults source.old) (S.faults source.new) }
     ensures write_fault { result ≡ 4 → Rose (K.faults sink.old) (K.faults sink.new) }
 {
-    status_of::<S, K, L, A>(alloc, several, words, source, sink, audience).code()
+    status_of::<R, S, K, L, A>(rt, alloc, several, words, source, sink, audience).code()
 }

@@ -1,8 +1,8 @@
 -- Lemmas on one worker.
 mod SameHolds
 mod Rounds
-mod Totals
-mod Refusals
-mod Idle
-mod Bodies
+pub mod Totals
+pub mod Refusals
+pub mod Idle
+pub mod Bodies
 mod Scans

@@ -22,14 +22,16 @@ use Rattle.solo_answerer.specs.Worked.{HasAnswered, IsForOne}
 use Rattle.solo_answerer.proofs.Rounds.{is-solo}
 use Rattle.solo_answerer.proofs.SameHolds.{after-all-like}
 
-stats-are : (l : Limits) (v : View) (x : Which) (held granted trips : ℕ) → hold_of v x ≡ held → granted_of v x ≡ granted → trips_of v x ≡ trips
+-- a breaker shows what the pass has there
+pub stats-are : (l : Limits) (v : View) (x : Which) (held granted trips : ℕ) → hold_of v x ≡ held → granted_of v x ≡ granted → trips_of v x ≡ trips
     → stats_of l v x ≡ record { limit = limit_of l x; estimated = held; granted = granted; overhead = overhead_of x; tripped = trips }
 stats-are l v x held granted trips holds grants trip =
     ap (λ (n : ℕ). record { limit = limit_of l x; estimated = n; granted = granted_of v x; overhead = overhead_of x; tripped = trips_of v x }) holds
     ∙ ap (λ (n : ℕ). record { limit = limit_of l x; estimated = held; granted = n; overhead = overhead_of x; tripped = trips_of v x }) grants
     ∙ ap (λ (n : ℕ). record { limit = limit_of l x; estimated = held; granted = granted; overhead = overhead_of x; tripped = n }) trip
 
-totals-by : (a b c d e f g h : BreakerStats) → a ≡ e → b ≡ f → c ≡ g → d ≡ h
+-- the four breakers, one by one
+pub totals-by : (a b c d e f g h : BreakerStats) → a ≡ e → b ≡ f → c ≡ g → d ≡ h
     → ◌≡◌ {A = Totals} (record { request = a; fielddata = b; inflight = c; parent = d }) (record { request = e; fielddata = f; inflight = g; parent = h })
 totals-by a b c d e f g h first second third fourth =
     ap (λ (x : BreakerStats). record { request = x; fielddata = b; inflight = c; parent = d }) first
@@ -37,7 +39,7 @@ totals-by a b c d e f g h first second third fourth =
     ∙ ap (λ (x : BreakerStats). record { request = e; fielddata = f; inflight = x; parent = d }) third
     ∙ ap (λ (x : BreakerStats). record { request = e; fielddata = f; inflight = g; parent = x }) fourth
 
-zero-plus : (n : ℕ) → counter_value (0 + n) ≡ counter_value n
+pub zero-plus : (n : ℕ) → counter_value (0 + n) ≡ counter_value n
 zero-plus n = ap counter_value (omega arith)
 
 module _ (settings : Settings) (index : Index) (columns : ℕ) (v : View) (rounds : List Round) (has : HasAnswered settings index columns v rounds) where

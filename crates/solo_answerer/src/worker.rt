@@ -22,6 +22,7 @@ use script_answers::{Answerer, Reopening};
 use script_run::Opens;
 use shard_columns::Index;
 use std::alloc::{AllocError, Global};
+use std::thread::Threads;
 
 /// One worker, with the index whose searches it answers, the breakers, and the settings in force.
 #[derive(Drop)]
@@ -50,7 +51,12 @@ impl Answerer for Worker {
         self.settings
     }
 
-    fn answer(&mut self, alloc: Global, bodies: &List<Bytes>) -> Result<List<Answered>, AllocError>
+    fn answer<R: Threads + Sync>(
+        &mut self,
+        _rt: &R,
+        alloc: Global,
+        bodies: &List<Bytes>,
+    ) -> Result<List<Answered>, AllocError>
         requires some { 1 ≤ length bodies.now }
         requires few { length bodies.now ≤ self.old.settings.width }
         ensures rounds { IfOk result (λ answers. (recent : Recent) →

@@ -14,7 +14,7 @@ use Rattle.solo_answerer.proofs.Scans.{pages-more}
 use Rattle.solo_answerer.proofs.worker.WorkerAnswerer.answer.Goals as goal
 
 pub returns-then-self-clause-rounds : goal.returns-then-self-clause-rounds
-returns-then-self-clause-rounds c =
+returns-then-self-clause-rounds g c =
     let worker = c.args.self.now in
     let index = index_of worker.index in
     let columns = columns_charge index in
@@ -29,7 +29,7 @@ returns-then-self-clause-rounds c =
     c.search_pages.ensures.answers
 
 pub returns : goal.returns
-returns c =
+returns g c =
     let worker = c.args.self.now in
     let index = index_of worker.index in
     let columns = columns_charge index in

@@ -1,0 +1,6 @@
+-- Lemmas on many workers.
+mod Rises
+mod Counting
+mod Waves
+mod Opened
+mod Totals

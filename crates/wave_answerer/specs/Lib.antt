@@ -1,0 +1,2 @@
+-- Many workers.
+pub mod Worked
