@@ -10,7 +10,10 @@ use crate::task::{ceiling, within_greatest};
 use agg_model::{List, Search};
 use shard_columns::Index;
 use std::alloc::{AllocError, Global};
-use std::thread::{Threads, map_indices};
+use std::thread::{Threads, for_each_mut};
+
+// How many threads go through the shards at most: each takes a run of them.
+const WALKERS: usize = 16;
 
 /// The ceiling of a search over all shards of an index, in bytes: the sum of the ceilings of its tasks. None where one of them
 /// has none, or where the sum is above 2^50. The search is made for the mapping of the index. It takes the time of `ceiling` for
@@ -64,7 +67,7 @@ fn all_found(
     Ok(all)
 }
 
-// The ceiling of the search's task on each shard, or want of memory there. Each shard has a thread where one can be made.
+// The ceiling of the search's task on each shard, or want of memory there, by up to `WALKERS` threads.
 fn found_by_shard<R: Threads + Sync>(
     rt: &R,
     alloc: Global,
@@ -78,12 +81,16 @@ fn found_by_shard<R: Threads + Sync>(
         IfOk (slice_index_or found.items place d) (λ c. c ≡
         ceiling_of (kinds_of index.now.mapping) search.now (slice_index_or (rows_by_shard index.now.shards) place []))) }
 {
-    map_indices(
-        rt,
-        alloc,
-        index.shards.len(),
-        &|place| ceiling_at(alloc, index, search, place),
-    )
+    let mut found = Vec::new(alloc);
+    found.resize(index.shards.len(), Ok(None))?;
+    let one = move |place: usize, slot: &mut Result<Option<u64>, AllocError>|
+        requires { (place < length index.now.shards) × AreApart index.now.shards
+            × IsTrue (search_fits index.now.mapping search.now) }
+        ensures { IfOk slot.exit.now (λ c. c ≡ ceiling_of (kinds_of index.entry.now.mapping) search.entry.now
+            (slice_index_or (rows_by_shard index.entry.now.shards) place [])) }
+    { *slot = ceiling_at(alloc, index, search, place) };
+    for_each_mut(rt, found.as_mut_slice(), WALKERS, &one);
+    Ok(found)
 }
 
 // The ceilings of a search's tasks, shard by shard.
@@ -104,7 +111,8 @@ fn ceilings_by_shard<R: Threads + Sync>(
 
 /// The ceiling of each task of these searches, one search on one shard, in bytes: search by search, and shard by shard within
 /// each; none where the task has none. Each search is made for the mapping of the index. It takes the time and memory of
-/// `ceiling` for each task. The searches come one after another, each with a thread for each shard where threads can be made.
+/// `ceiling` for each task. The searches come one after another, and up to `WALKERS` threads, where they can be
+/// made, go through the shards of each.
 pub fn ceilings<R: Threads + Sync>(
     rt: &R,
     alloc: Global,
