@@ -124,8 +124,8 @@ fn ask<R: Threads + Sync>(
     }
 }
 
-/// Reads the bodies whose charges were granted, and computes the ceilings of their tasks, each shard by a thread of its own where one
-/// can be made. `refusals` has the refusal of each body's charge. Where the search of the first body was read before, it is `page`.
+/// Reads the bodies whose charges were granted, and computes the ceilings of their tasks, by several threads where they can be
+/// made. `refusals` has the refusal of each body's charge. Where the search of the first body was read before, it is `page`.
 ///
 /// It fails only where memory is wanting.
 pub fn read_bodies<R: Threads + Sync>(
