@@ -18,7 +18,7 @@ use Rattle.collect_tree.specs.declared.top_tree.TopTree.TheVariants as top
 pub record IsPageFor (shard : Columns) (a : Agg) (children : List Ready) (page : Page) : Type 0 where
   pub ready : AreReadyFor shard (out-Agg a).children children
   pub composite : IsComposite (out-Agg a).kind
-  pub filled : IsPageOf (out-Agg a).kind (decoders shard children) page.buckets.items
+  pub filled : IsPageOf (out-Agg a).kind (decoders shard children) page
 
 -- the tree with its keys
 abbrev pub top_node : Columns → TopTree → Node

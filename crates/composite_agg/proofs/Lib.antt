@@ -7,6 +7,7 @@ mod Capped
 pub mod Steps
 pub mod PlaceOrder
 pub mod PageSteps
+pub mod InOrder
 pub mod Offers
 pub mod Swapped
 pub mod InRuns

@@ -17,7 +17,8 @@ use Rattle.list_laws.proofs.Booleans.{and_left, and_right, both, holds, true_is}
 use Rattle.composite_agg.specs.Pages.{is_beyond_any}
 use Rattle.composite_agg.specs.FirstPages.{FirstPage, AreInOrder, IsPage, answer_of, counted, evicted_of, is_full, is_held, is_last, is_outside, new_bucket, page_cmp, page_with, with_bucket, with_buckets}
 use Rattle.composite_agg.specs.declared.offered.Offered.TheVariants.{Counted, Entered, Outside}
-use Rattle.composite_agg.proofs.PageSteps.{held-not, insert-at, not_itself, order-insert, order-take}
+use Rattle.composite_agg.proofs.PageSteps.{insert-at, not_itself}
+use Rattle.composite_agg.proofs.InOrder.{absent, order-insert, order-take}
 use Rattle.composite_agg.proofs.PlaceOrder.{before_trans}
 
 key-counted : (k : Key) (b : Bucket) → bucket_key (counted k b) ≡ bucket_key b
@@ -71,7 +72,7 @@ module _ (p : FirstPage) (k : Key) (children : List Node) where
     inserted = take i p.buckets ++ new_bucket k children ∷ drop i p.buckets
 
     pub held : is_held p k ≡ false
-    held = held-not p.sources k p.buckets i page.order front behind
+    held = absent bucket_key p.sources k p.buckets i front behind
 
     not_before : (bs : List Bucket) → T (list_all (λ b. is_lt (page_cmp p.sources k (bucket_key b))) bs) → AllByRecursion (λ b. is_lt (page_cmp p.sources (bucket_key b) k) ≡ false) bs
     not_before [] all = tt
@@ -104,7 +105,7 @@ module _ (p : FirstPage) (k : Key) (children : List Node) where
 
     pub page-entered : IsPage (with_buckets p (take p.size inserted))
     page-entered = record {
-      order = order-take p.sources inserted p.size (order-insert p.sources (new_bucket k children) p.buckets i page.order front behind);
+      order = order-take bucket_key p.sources inserted p.size (order-insert bucket_key p.sources (new_bucket k children) p.buckets i page.order front behind);
       parts = true_is _ (all-taken (λ b. is_composite_of (length p.sources) (bucket_key b)) inserted p.size (all-inserted (λ b. is_composite_of (length p.sources) (bucket_key b)) p.buckets i (holds _ parts) (holds _ page.parts)));
       within = length-taken inserted p.size;
     }

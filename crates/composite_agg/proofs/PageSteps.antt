@@ -1,8 +1,7 @@
 -- One more key in a page: where it stands, and what the page becomes.
 use Rattle.std.proofs.Common.{◌≡◌, refl, ℕ, zero, suc, ◌+◌, ◌-◌, ◌<◌, Bool, true, false, cond, List, [], ◌∷◌, ◌++◌, length, get_or, slice_set, take, drop, map, Some, None, Less, Equal, Greater, sym, ◌∙◌, ap, subst, arith}
-use Rattle.std.specs.Prelude.{T, ◌&&◌, ◌||◌}
+use Rattle.std.specs.Prelude.{T, ◌||◌}
 use Rattle.std.specs.List.{list_all, last_or, slice_get, AllByRecursion}
-use Rattle.std.specs.Option.{option_map_or}
 use Rattle.std.specs.Cmp.{tied_itself}
 use Rattle.std.specs.Ordering.{is_lt, is_le, ordering_reverse}
 use Rattle.std.specs.declared.cmp.Ordering.{Ordering}
@@ -18,9 +17,9 @@ use Rattle.bucket_order.specs.Composites.{key_parts}
 use Rattle.bucket_order.proofs.CompositeLaws.{any_parts_total, same_composites}
 use Rattle.growth_laws.proofs.CompositeOrder.{exact_cmp_exact, same-order}
 use Rattle.list_laws.specs.Sorting.{insert_sorted}
-use Rattle.list_laws.proofs.Booleans.{and_left, and_false, and_right, and_true, both, holds, true_is}
+use Rattle.list_laws.proofs.Booleans.{and_left, and_right, holds}
 use Rattle.composite_agg.specs.FirstPages.{AreInOrder, counted, page_cmp}
-use Rattle.composite_agg.proofs.PlaceOrder.{before_trans}
+use Rattle.composite_agg.proofs.PlaceOrder.{at}
 
 module _ (sources : List CompositeSource) where
   abbrev Before : Key → Key → Bool
@@ -60,18 +59,6 @@ module _ (sources : List CompositeSource) where
       ap (λ t. cond t (b ∷ c ∷ cs) (c ∷ insert_sorted (λ a c. page_cmp sources (bucket_key a) (bucket_key c)) b cs)) (insert_before _ _ (back (bucket_key b) (bucket_key c)) (and_left _ _ front))
       ∙ ap (λ xs. c ∷ xs) (insert-at b cs i (and_right _ _ front) behind)
 
-  -- all before a key, by the last
-  pub last-decides : (k : Key) (bs : List Bucket) → AreInOrder sources bs → list_all (λ b. is_lt (page_cmp sources (bucket_key b) k)) bs ≡ option_map_or (λ b. is_lt (page_cmp sources (bucket_key b) k)) (last_or None bs) true
-  last-decides k [] order = refl
-  last-decides k (b ∷ bs) order = from b bs order
-    where
-      from : (b : Bucket) (bs : List Bucket) → AreInOrder sources (b ∷ bs) → list_all (λ b. is_lt (page_cmp sources (bucket_key b) k)) (b ∷ bs) ≡ option_map_or (λ b. is_lt (page_cmp sources (bucket_key b) k)) (last_or (Some b) bs) true
-      from b [] order = and_true (is_lt (page_cmp sources (bucket_key b) k))
-      from b (c ∷ cs) order = elim (list_all (λ b. is_lt (page_cmp sources (bucket_key b) k)) (c ∷ cs)) as (λ t. list_all (λ b. is_lt (page_cmp sources (bucket_key b) k)) (c ∷ cs) ≡ t → (is_lt (page_cmp sources (bucket_key b) k) && t) ≡ option_map_or (λ b. is_lt (page_cmp sources (bucket_key b) k)) (last_or (Some c) cs) true) [
-        | true ↦ λ e. ap (λ t. t && true) (true_is _ (before_trans sources (bucket_key b) (bucket_key c) k (and_left _ _ order.0) (and_left _ _ (holds _ e)))) ∙ sym e ∙ from c cs order.1
-        | false ↦ λ e. and_false (is_lt (page_cmp sources (bucket_key b) k)) ∙ sym e ∙ from c cs order.1
-      ] refl
-
   pub differs : (j k : Key) → T (is_lt (page_cmp sources j k)) → key_eq k j ≡ false
   differs j k less = elim (key_eq k j) as (λ t. key_eq k j ≡ t → t ≡ false) [
     | true ↦ λ e. let same = key_eq-exact k j (holds _ e) in absurd (not_itself j (subst (λ q. T (is_lt (page_cmp sources j q))) same less))
@@ -88,11 +75,6 @@ module _ (sources : List CompositeSource) where
   none_counted k [] all = refl
   none_counted k (b ∷ bs) all =
       ap (λ t. cond t (record b { count = b.count + 1 }) b ∷ map (counted k) bs) (differs_back (bucket_key b) k (and_left _ _ all)) ∙ ap (λ xs. b ∷ xs) (none_counted k bs (and_right _ _ all))
-
-  pub at : (p : Bucket → Bool) (bs : List Bucket) (i : ℕ) (d : Bucket) → i < length bs → T (list_all p bs) → T (p (get_or bs i d))
-  at p [] i d below all = absurd (omega (arith, below))
-  at p (b ∷ bs) zero d below all = and_left _ _ all
-  at p (b ∷ bs) (suc i) d below all = at p bs i d (omega (arith, below)) (and_right _ _ all)
 
   -- the bucket of the key, counted
   pub counted-at : (k : Key) (bs : List Bucket) (i : ℕ) (d : Bucket) → AreInOrder sources bs → i < length bs → bucket_key (get_or bs i d) ≡ k
@@ -122,58 +104,6 @@ module _ (sources : List CompositeSource) where
       by_order Less e f = absurd (false≢true (sym e))
       by_order Equal e f = absurd (f refl)
       by_order Greater e f = tt
-
-  pub after_all : (k : Key) (bs : List Bucket) → AreInOrder sources bs → AllByRecursion (λ c. is_lt (page_cmp sources (bucket_key c) k) ≡ false) bs → ((b : Bucket) (rest : List Bucket) → bs ≡ b ∷ rest → page_cmp sources (bucket_key b) k ≡ Equal → ⊥)
-      → T (list_all (λ b. is_lt (page_cmp sources k (bucket_key b))) bs)
-  after_all k [] order behind other = tt
-  after_all k (b ∷ bs) order behind other =
-      let first = greater_back (bucket_key b) k behind.0 (other b bs refl) in
-      both _ _ first (rest bs order.0 first)
-    where
-      rest : (cs : List Bucket) → T (list_all (λ c. is_lt (page_cmp sources (bucket_key b) (bucket_key c))) cs) → T (is_lt (page_cmp sources k (bucket_key b))) → T (list_all (λ c. is_lt (page_cmp sources k (bucket_key c))) cs)
-      rest [] all first = tt
-      rest (c ∷ cs) all first = both _ _ (before_trans sources k (bucket_key b) (bucket_key c) first (and_left _ _ all)) (rest cs (and_right _ _ all) first)
-
-  pub order-drop : (bs : List Bucket) (i : ℕ) → AreInOrder sources bs → AreInOrder sources (drop i bs)
-  order-drop [] zero order = tt
-  order-drop [] (suc i) order = tt
-  order-drop (b ∷ bs) zero order = order
-  order-drop (b ∷ bs) (suc i) order = order-drop bs i order.1
-
-  -- no bucket has the key
-  pub held-not : (k : Key) (bs : List Bucket) (i : ℕ) → AreInOrder sources bs → T (list_all (λ c. is_lt (page_cmp sources (bucket_key c) k)) (take i bs)) → T (list_all (λ c. is_lt (page_cmp sources k (bucket_key c))) (drop i bs)) → has_key k (map bucket_key bs) ≡ false
-  held-not k [] zero order front behind = refl
-  held-not k [] (suc i) order front behind = refl
-  held-not k (b ∷ bs) zero order front behind = ap (λ t. t || has_key k (map bucket_key bs)) (differs_back (bucket_key b) k (and_left _ _ behind)) ∙ held-not k bs zero order.1 tt_front (and_right _ _ behind)
-    where
-      tt_front : T (list_all (λ c. is_lt (page_cmp sources (bucket_key c) k)) (take zero bs))
-      tt_front = tt
-  held-not k (b ∷ bs) (suc i) order front behind = ap (λ t. t || has_key k (map bucket_key bs)) (differs (bucket_key b) k (and_left _ _ front)) ∙ held-not k bs i order.1 (and_right _ _ front) behind
-
-  -- a bucket in its place keeps the order
-  pub order-insert : (b : Bucket) (bs : List Bucket) (i : ℕ) → AreInOrder sources bs → T (list_all (λ c. is_lt (page_cmp sources (bucket_key c) (bucket_key b))) (take i bs)) → T (list_all (λ c. is_lt (page_cmp sources (bucket_key b) (bucket_key c))) (drop i bs)) → AreInOrder sources (take i bs ++ b ∷ drop i bs)
-  order-insert b [] zero order front behind = (tt, tt)
-  order-insert b [] (suc i) order front behind = (tt, tt)
-  order-insert b (c ∷ cs) zero order front behind = (behind, order)
-  order-insert b (c ∷ cs) (suc i) order front behind = (among cs i (and_left _ _ front) order.0, order-insert b cs i order.1 (and_right _ _ front) behind)
-    where
-      among : (xs : List Bucket) (n : ℕ) → T (is_lt (page_cmp sources (bucket_key c) (bucket_key b))) → T (list_all (λ later. is_lt (page_cmp sources (bucket_key c) (bucket_key later))) xs) → T (list_all (λ later. is_lt (page_cmp sources (bucket_key c) (bucket_key later))) (take n xs ++ b ∷ drop n xs))
-      among [] zero first all = both _ _ first tt
-      among [] (suc n) first all = both _ _ first tt
-      among (x ∷ xs) zero first all = both _ _ first all
-      among (x ∷ xs) (suc n) first all = both _ _ (and_left _ _ all) (among xs n first (and_right _ _ all))
-
-  pub order-take : (bs : List Bucket) (n : ℕ) → AreInOrder sources bs → AreInOrder sources (take n bs)
-  order-take [] zero order = tt
-  order-take [] (suc n) order = tt
-  order-take (b ∷ bs) zero order = tt
-  order-take (b ∷ bs) (suc n) order = (fewer bs n order.0, order-take bs n order.1)
-    where
-      fewer : (xs : List Bucket) (n : ℕ) → T (list_all (λ later. is_lt (page_cmp sources (bucket_key b) (bucket_key later))) xs) → T (list_all (λ later. is_lt (page_cmp sources (bucket_key b) (bucket_key later))) (take n xs))
-      fewer [] zero all = tt
-      fewer [] (suc n) all = tt
-      fewer (x ∷ xs) zero all = tt
-      fewer (x ∷ xs) (suc n) all = both _ _ (and_left _ _ all) (fewer xs n (and_right _ _ all))
 
 -- the last item
 last-from : {A : Type 0} (x : A) (xs : List A) → last_or (Some x) xs ≡ slice_get (x ∷ xs) (length xs)

@@ -1,36 +1,24 @@
--- The place of a key among buckets in order.
+-- The order of the sources, and tests of all items of a list.
 use Rattle.std.proofs.Common.{◌≡◌, ℕ, zero, suc, ◌<◌, ◌≤◌, Bool, true, false, List, [], ◌∷◌, length, get_or, take, drop, ap, arith}
 use Rattle.std.specs.Prelude.{T}
 use Rattle.std.specs.List.{list_all, AllByRecursion}
-use Rattle.std.specs.List.Sorted.{IsPartitionedBy}
 use Rattle.std.specs.Ordering.{is_lt}
 use Rattle.agg_model.specs.declared.aggregation.CompositeSource.{CompositeSource}
 use Rattle.agg_model.specs.declared.key.Key.{Key}
-use Rattle.agg_model.specs.declared.partial.Bucket.{Bucket}
-use Rattle.agg_evaluation.specs.Orders.{bucket_key}
 use Rattle.bucket_order.specs.Composites.{key_parts}
 use Rattle.bucket_order.proofs.CompositeLaws.{any_parts_total}
-use Rattle.list_laws.proofs.Booleans.{and_left, and_right, both, holds, true_is}
+use Rattle.list_laws.proofs.Booleans.{and_left, and_right, both, holds}
 use Rattle.list_laws.proofs.Orders.{less_is}
-use Rattle.composite_agg.specs.FirstPages.{AreInOrder, page_cmp}
+use Rattle.composite_agg.specs.InOrder.{page_cmp}
 
 pub before_trans : (sources : List CompositeSource) (i j k : Key) → T (is_lt (page_cmp sources i j)) → T (is_lt (page_cmp sources j k)) → T (is_lt (page_cmp sources i k))
 before_trans sources i j k e f = holds _ (ap is_lt ((any_parts_total sources).trans (key_parts i) (key_parts j) (key_parts k) (less_is _ e) (less_is _ f)))
 
-at : {A : Type 0} (p : A → Bool) (xs : List A) (i : ℕ) (d : A) → i < length xs → T (list_all p xs) → T (p (get_or xs i d))
+-- a test that holds of all holds at each place
+pub at : {A : Type 0} (p : A → Bool) (xs : List A) (i : ℕ) (d : A) → i < length xs → T (list_all p xs) → T (p (get_or xs i d))
 at p [] i d below all = absurd (omega (arith, below))
 at p (x ∷ xs) zero d below all = and_left _ _ all
 at p (x ∷ xs) (suc i) d below all = at p xs i d (omega (arith, below)) (and_right _ _ all)
-
--- those before a key stand in front
-pub parted : (sources : List CompositeSource) (key : Key) (bs : List Bucket) → AreInOrder sources bs → IsPartitionedBy (λ b. is_lt (page_cmp sources (bucket_key b) key)) bs
-parted sources key [] order i j d le below e = absurd (omega (arith, below))
-parted sources key (b ∷ bs) order zero zero d le below e = e
-parted sources key (b ∷ bs) order zero (suc j) d le below e =
-    let short : j < length bs = omega (arith, below) in
-    true_is _ (before_trans sources (bucket_key b) (bucket_key (get_or bs j d)) key (at (λ later. is_lt (page_cmp sources (bucket_key b) (bucket_key later))) bs j d short order.0) (holds _ e))
-parted sources key (b ∷ bs) order (suc i) zero d le below e = absurd (omega (arith, le))
-parted sources key (b ∷ bs) order (suc i) (suc j) d le below e = parted sources key bs order.1 i j d (omega (arith, le)) (omega (arith, below)) e
 
 module _ {A : Type 0} (p : A → Bool) where
   pub front_all : (xs : List A) (n : ℕ) → n ≤ length xs → ((k : ℕ) (d : A) → k < n → p (get_or xs k d) ≡ true) → T (list_all p (take n xs))

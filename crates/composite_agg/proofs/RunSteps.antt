@@ -17,20 +17,20 @@ each-at P [] i d below all = absurd (omega (arith, below))
 each-at P (x ∷ xs) zero d below all = all.0
 each-at P (x ∷ xs) (suc i) d below all = each-at P xs i d (omega (arith, below)) all.1
 
-module _ (sources : List CompositeSource) (k : Key) (rs : List Run) (r i : ℕ) (v : Run) (b : Bucket) (order : AreInOrder sources (in_runs rs)) (below : r < length rs)
+module _ (sources : List CompositeSource) (k : Key) (rs : List (Run Bucket)) (r i : ℕ) (v : Run Bucket) (b : Bucket) (order : AreInOrder sources (in_runs rs)) (below : r < length rs)
     (lt : i < length (get_or rs r v).items) (is-v : v ≡ get_or rs r v) (is-b : b ≡ get_or v.items i b) (key-is : bucket_key (get_or (in_runs rs) (place_in rs r i) b) ≡ k) where
   there : b ≡ get_or (in_runs rs) (place_in rs r i) b
-  there = is-b ∙ ap (λ (w : Run). get_or w.items i b) is-v ∙ sym (got rs r i v below b lt)
+  there = is-b ∙ ap (λ (w : Run Bucket). get_or w.items i b) is-v ∙ sym (got rs r i v below b lt)
 
-  pub counted-in : (other : Run) → other.items ≡ slice_set v.items i (record b { count = b.count + 1 }) → in_runs (slice_set rs r other) ≡ map (counted k) (in_runs rs)
+  pub counted-in : (other : Run Bucket) → other.items ≡ slice_set v.items i (record b { count = b.count + 1 }) → in_runs (slice_set rs r other) ≡ map (counted k) (in_runs rs)
   counted-in other e =
-      set-in rs r i v below other (record b { count = b.count + 1 }) lt (e ∙ ap (λ (w : Run). slice_set w.items i (record b { count = b.count + 1 })) is-v)
+      set-in rs r i v below other (record b { count = b.count + 1 }) lt (e ∙ ap (λ (w : Run Bucket). slice_set w.items i (record b { count = b.count + 1 })) is-v)
       ∙ ap (λ (x : Bucket). slice_set (in_runs rs) (place_in rs r i) (record x { count = x.count + 1 })) there
       ∙ sym (counted-at sources k (in_runs rs) (place_in rs r i) b order (place-below rs r i v below lt) key-is)
 
-  pub with-in : (children : List Node) (other : Run) → other.items ≡ slice_set v.items i (record b { children = children }) → in_runs (slice_set rs r other) ≡ map (with_children k children) (in_runs rs)
+  pub with-in : (children : List Node) (other : Run Bucket) → other.items ≡ slice_set v.items i (record b { children = children }) → in_runs (slice_set rs r other) ≡ map (with_children k children) (in_runs rs)
   with-in children other e =
-      set-in rs r i v below other (record b { children = children }) lt (e ∙ ap (λ (w : Run). slice_set w.items i (record b { children = children })) is-v)
+      set-in rs r i v below other (record b { children = children }) lt (e ∙ ap (λ (w : Run Bucket). slice_set w.items i (record b { children = children })) is-v)
       ∙ ap (λ (x : Bucket). slice_set (in_runs rs) (place_in rs r i) (record x { children = children })) there
       ∙ sym (with-at k children sources (in_runs rs) (place_in rs r i) b order (place-below rs r i v below lt) key-is)
 

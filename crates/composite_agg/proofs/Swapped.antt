@@ -15,7 +15,8 @@ use Rattle.agg_evaluation.proofs.KeyLists.{key_eq-exact, key_eq-self}
 use Rattle.list_laws.proofs.Booleans.{and_left, and_right, holds, true_is}
 use Rattle.composite_agg.specs.Pages.{are_composite}
 use Rattle.composite_agg.specs.FirstPages.{FirstPage, AreInOrder, IsPage, children_of, page_cmp, page_with_children, with_children}
-use Rattle.composite_agg.proofs.PageSteps.{at, differs, differs_back}
+use Rattle.composite_agg.proofs.PageSteps.{differs, differs_back}
+use Rattle.composite_agg.proofs.PlaceOrder.{at}
 use Rattle.composite_agg.proofs.Offers.{page-same_keys}
 
 neither : (a b : Bool) → (a || b) ≡ false → (a ≡ false) × (b ≡ false)
@@ -61,7 +62,7 @@ module _ (k : Key) (children : List Node) where
         ap (λ t. cond t (record b { children = children }) b ∷ map (with_children k children) bs) (ap (key_eq k) is ∙ key_eq-self k)
         ∙ ap (λ xs. (record b { children = children }) ∷ xs) (after-none bs (subst (λ j. T (list_all (λ c. is_lt (page_cmp sources j (bucket_key c))) bs)) is order.0))
     with-at (b ∷ bs) (suc i) d order below is =
-        ap (λ t. cond t (record b { children = children }) b ∷ map (with_children k children) bs) (differs sources (bucket_key b) k (subst (λ j. T (is_lt (page_cmp sources (bucket_key b) j))) is (at sources (λ c. is_lt (page_cmp sources (bucket_key b) (bucket_key c))) bs i d (omega (arith, below)) order.0)))
+        ap (λ t. cond t (record b { children = children }) b ∷ map (with_children k children) bs) (differs sources (bucket_key b) k (subst (λ j. T (is_lt (page_cmp sources (bucket_key b) j))) is (at (λ c. is_lt (page_cmp sources (bucket_key b) (bucket_key c))) bs i d (omega (arith, below)) order.0)))
         ∙ ap (λ xs. b ∷ xs) (with-at bs i d order.1 (omega (arith, below)) is)
 
     -- and its own are those that were lent
@@ -69,7 +70,7 @@ module _ (k : Key) (children : List Node) where
     children-at [] i d order below is = absurd (omega (arith, below))
     children-at (b ∷ bs) zero d order below is = ap (λ t. cond t b.children (children_of k children bs)) (ap (key_eq k) is ∙ key_eq-self k)
     children-at (b ∷ bs) (suc i) d order below is =
-        ap (λ t. cond t b.children (children_of k children bs)) (differs sources (bucket_key b) k (subst (λ j. T (is_lt (page_cmp sources (bucket_key b) j))) is (at sources (λ c. is_lt (page_cmp sources (bucket_key b) (bucket_key c))) bs i d (omega (arith, below)) order.0)))
+        ap (λ t. cond t b.children (children_of k children bs)) (differs sources (bucket_key b) k (subst (λ j. T (is_lt (page_cmp sources (bucket_key b) j))) is (at (λ c. is_lt (page_cmp sources (bucket_key b) (bucket_key c))) bs i d (omega (arith, below)) order.0)))
         ∙ children-at bs i d order.1 (omega (arith, below)) is
 
 pub page-with : (p : FirstPage) (k : Key) (children : List Node) → IsPage p → IsPage (page_with_children p k children)

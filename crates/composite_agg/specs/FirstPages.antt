@@ -1,8 +1,7 @@
 -- The page of a composite as keys come, one after another (Elasticsearch Reference 8, 'Composite aggregation').
-use Rattle.std.specs.Prelude.{◌≤◌, ◌+◌, ℕ, Bool, true, false, if◌then◌else◌, not, ◌&&◌, ◌||◌, nat_le, List, [], ◌∷◌, length, map, take, Option, None, T, IsTrue}
+use Rattle.std.specs.Prelude.{◌≤◌, ◌+◌, ℕ, Bool, true, false, if◌then◌else◌, not, ◌&&◌, ◌||◌, nat_le, List, [], ◌∷◌, length, map, take, Option, None, IsTrue}
 use Rattle.std.specs.List.{list_all, last_or}
 use Rattle.std.specs.Ordering.{is_lt}
-use Rattle.std.specs.declared.cmp.Ordering.{Ordering}
 use Rattle.agg_model.specs.declared.key.Key.{Key}
 use Rattle.agg_model.specs.declared.partial.Bucket.{Bucket}
 use Rattle.agg_model.specs.declared.partial.Node.{Node}
@@ -11,11 +10,12 @@ use Rattle.agg_model.specs.declared.aggregation.Kind.{Kind}
 use Rattle.agg_model.specs.declared.aggregation.Kind.TheVariants as kind
 use Rattle.agg_evaluation.specs.KeyOrder.{has_key, key_eq}
 use Rattle.agg_evaluation.specs.Orders.{bucket_key}
-use Rattle.bucket_order.specs.Composites.{any_parts_cmp, key_parts}
 use Rattle.list_laws.specs.Sorting.{insert_sorted}
+use Rattle.composite_agg.specs.InOrder.{IsInOrder}
 use Rattle.composite_agg.specs.Pages.{are_composite, is_beyond_any}
 use Rattle.composite_agg.specs.declared.offered.Offered.{Offered}
 use Rattle.composite_agg.specs.declared.offered.Offered.TheVariants.{Counted, Entered, Outside}
+pub use Rattle.composite_agg.specs.InOrder.{page_cmp}
 
 -- what a page is of, and its buckets in the order of the sources
 pub record FirstPage : Type 0 where
@@ -24,14 +24,9 @@ pub record FirstPage : Type 0 where
   pub after : Option Key
   pub buckets : List Bucket
 
--- the order of the sources, which agrees with that of composite keys where each has a part for each source
-abbrev pub page_cmp : List CompositeSource → Key → Key → Ordering
-page_cmp sources j k = any_parts_cmp sources (key_parts j) (key_parts k)
-
 -- each bucket comes before the later ones
 abbrev pub AreInOrder : List CompositeSource → List Bucket → Type 0
-AreInOrder sources [] = Unit {0}
-AreInOrder sources (b ∷ bs) = T (list_all (λ later. is_lt (page_cmp sources (bucket_key b) (bucket_key later))) bs) × AreInOrder sources bs
+AreInOrder sources bs = IsInOrder bucket_key sources bs
 
 abbrev pub is_full : FirstPage → Bool
 is_full p = nat_le p.size (length p.buckets)

@@ -2,6 +2,7 @@
 pub mod Sources
 pub mod Parts
 pub mod Pages
+pub mod InOrder
 pub mod FirstPages
 pub mod PageCodes
 pub mod Runs

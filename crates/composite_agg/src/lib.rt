@@ -3,6 +3,7 @@
 #![tactic(auto)]
 
 mod first_keys;
+mod keyed;
 pub mod laws;
 mod offered;
 mod offering;
@@ -10,10 +11,11 @@ mod paging;
 mod parts;
 mod places;
 mod row_keys;
-mod runs;
+pub mod runs;
 mod swapping;
 
 pub use first_keys::FirstKeys;
+pub use keyed::HasKey;
 pub use offered::Offered;
 pub use paging::{is_beyond_key, page};
 pub use row_keys::{key_count, keys};

@@ -1,15 +1,13 @@
-//! Buckets in the order of the sources, and the places of keys among them.
+//! Items in the order of the sources, and the places of keys among them.
 ghost use Rattle.std.specs.Prelude.{◌≡◌, ◌<◌, ◌≤◌, IfOk, IfErr, IsTrue, take, drop, length, slice_index_or, None, true, false};
-ghost use Rattle.agg_model.specs.declared.partial.Bucket.{Bucket as AnyBucket};
 ghost use Rattle.agg_evaluation.specs.CompositeKeys.{is_composite_of};
-ghost use Rattle.composite_agg.specs.Pages.{are_composite};
 ghost use Rattle.std.specs.List.{last_or, list_all, AllByRecursion};
 ghost use Rattle.std.specs.Option.{option_map_or};
 ghost use Rattle.std.specs.Ordering.{is_lt};
-ghost use Rattle.agg_evaluation.specs.Orders.{bucket_key};
-ghost use Rattle.composite_agg.specs.FirstPages.{AreInOrder, page_cmp};
+ghost use Rattle.composite_agg.specs.InOrder.{IsInOrder, all_before, all_behind, page_cmp};
 
-use agg_model::{Bucket, CompositeSource, Key, List};
+use crate::keyed::HasKey;
+use agg_model::{CompositeSource, Key, List};
 use bucket_order::compare_composites;
 use std::cmp::Ordering;
 
@@ -20,40 +18,44 @@ pub fn is_before(sources: &List<CompositeSource>, a: &Key, b: &Key) -> bool
     compare_composites(sources, a, b) == Ordering::Less
 }
 
-/// The number of buckets that come before a key, by binary search.
-pub fn place_of(sources: &List<CompositeSource>, buckets: &[Bucket], key: &Key) -> usize
-    requires { AreInOrder sources.now buckets.now }
-    ensures within { result ≤ length buckets.now }
-    ensures before { IsTrue (list_all (λ b. is_lt (page_cmp sources.now (bucket_key b) key.now)) (take result buckets.now)) }
-    ensures behind { AllByRecursion (λ b. is_lt (page_cmp sources.now (bucket_key b) key.now) ≡ false) (drop result buckets.now) }
+/// The number of items that come before a key, by binary search.
+pub fn place_of<T: HasKey>(sources: &List<CompositeSource>, items: &[T], key: &Key) -> usize
+    requires { IsInOrder T.key_of sources.now items.now }
+    ensures within { result ≤ length items.now }
+    ensures before { IsTrue (all_before T.key_of sources.now key.now (take result items.now)) }
+    ensures behind { AllByRecursion (λ x. is_lt (page_cmp sources.now (T.key_of x) key.now) ≡ false) (drop result items.now) }
 {
-    buckets.partition_point(|bucket| is_before(sources, &bucket.key, key))
+    items.partition_point(|item| is_before(sources, item.key(), key))
 }
 
-/// Whether the last of these buckets, if any, comes before a key.
-pub fn ends_before(sources: &List<CompositeSource>, buckets: &[Bucket], key: &Key) -> bool
-    ensures { result ≡ option_map_or (λ b. is_lt (page_cmp sources.now (bucket_key b) key.now)) (last_or None buckets.now) true }
+/// Whether the last of these items, if any, comes before a key.
+pub fn ends_before<T: HasKey>(sources: &List<CompositeSource>, items: &[T], key: &Key) -> bool
+    ensures { result ≡ option_map_or (λ x. is_lt (page_cmp sources.now (T.key_of x) key.now)) (last_or None items.now) true }
 {
-    match buckets.last() {
-        Some(last) => is_before(sources, &last.key, key),
+    match items.last() {
+        Some(last) => is_before(sources, last.key(), key),
         None => true,
     }
 }
 
-/// The place of the bucket that has the key, by binary search, or else where one with the key would stand.
-pub fn find(sources: &List<CompositeSource>, buckets: &[Bucket], key: &Key) -> Result<usize, usize>
-    requires order { AreInOrder sources.now buckets.now }
-    requires parts { IsTrue (are_composite (length sources.now) buckets.now) }
+/// The place of the item that has the key, by binary search, or else where one with the key would stand.
+pub fn find<T: HasKey>(
+    sources: &List<CompositeSource>,
+    items: &[T],
+    key: &Key,
+) -> Result<usize, usize>
+    requires order { IsInOrder T.key_of sources.now items.now }
+    requires parts { IsTrue (list_all (λ x. is_composite_of (length sources.now) (T.key_of x)) items.now) }
     requires key_parts { IsTrue (is_composite_of (length sources.now) key.now) }
-    ensures found { IfOk result (λ i. (i < length buckets.now) × ((d : AnyBucket) → bucket_key (slice_index_or buckets.now i d) ≡ key.now)) }
-    ensures absent { IfErr result (λ i. (i ≤ length buckets.now)
-        × IsTrue (list_all (λ b. is_lt (page_cmp sources.now (bucket_key b) key.now)) (take i buckets.now))
-        × IsTrue (list_all (λ b. is_lt (page_cmp sources.now key.now (bucket_key b))) (drop i buckets.now))) }
+    ensures found { IfOk result (λ i. (i < length items.now) × ((d : _) → T.key_of (slice_index_or items.now i d) ≡ key.now)) }
+    ensures absent { IfErr result (λ i. (i ≤ length items.now)
+        × IsTrue (all_before T.key_of sources.now key.now (take i items.now))
+        × IsTrue (all_behind T.key_of sources.now key.now (drop i items.now))) }
 {
-    let place = place_of(sources, buckets, key);
-    match buckets.get(place) {
-        Some(bucket) => {
-            if compare_composites(sources, &bucket.key, key) == Ordering::Equal {
+    let place = place_of(sources, items, key);
+    match items.get(place) {
+        Some(item) => {
+            if compare_composites(sources, item.key(), key) == Ordering::Equal {
                 Ok(place)
             } else {
                 Err(place)

@@ -1,34 +1,32 @@
-//! Buckets in order, in runs of neighbours, so that one that enters moves few others.
+//! Items in the order of a composite's sources, in runs of neighbours, so that one that enters moves few others.
 ghost use Rattle.std.specs.Prelude.{◌≡◌, ◌<◌, ◌+◌, ◌++◌, [], ◌∷◌, IfOk, IfErr, OnOk, OnErr, IsTrue, true};
-ghost use Rattle.std.specs.Prelude.{is_some, option_to_list, length, take, drop, slice_index_or};
+ghost use Rattle.std.specs.Prelude.{is_some, nat_le, option_to_list, length, take, drop};
 ghost use Rattle.std.specs.List.{insert, list_all};
-ghost use Rattle.std.specs.Ordering.{is_lt};
-ghost use Rattle.agg_model.specs.declared.partial.Bucket.{Bucket as AnyBucket};
 ghost use Rattle.agg_evaluation.specs.CompositeKeys.{is_composite_of};
-ghost use Rattle.agg_evaluation.specs.Orders.{bucket_key};
-ghost use Rattle.composite_agg.specs.Pages.{are_composite};
-ghost use Rattle.composite_agg.specs.FirstPages.{AreInOrder, page_cmp};
-ghost use Rattle.composite_agg.specs.Runs.{AreFilled, IsWithin, Run, in_runs, place_in};
+ghost use Rattle.composite_agg.specs.InOrder.{IsInOrder, all_before, all_behind, is_kept_out};
+ghost use Rattle.composite_agg.specs.Runs.{AreFilled, IsGapFor, IsSpotOf, IsWithin, in_runs, place_in};
 
+use crate::keyed::HasKey;
+use crate::paging::is_beyond_key;
 use crate::places::{ends_before, find};
-use agg_model::{Bucket, CompositeSource, Key, List};
+use agg_model::{CompositeSource, Key, List};
 use std::alloc::{AllocError, Global};
 
-/// A run of so many buckets is parted into two.
+/// A run of so many items is parted into two.
 const LONGEST: usize = 128;
 
-/// Where a bucket stands, or would stand: a run, and a place in it.
+/// Where an item stands, or would stand: a run, and a place in it.
 #[derive(Clone, Copy)]
 pub struct Spot {
     pub run: usize,
     pub at: usize,
 }
 
-/// Whether a key comes after all buckets, by one comparison with the last.
-pub fn comes_last(sources: &List<CompositeSource>, runs: &[Vec<Bucket>], key: &Key) -> bool
-    requires order { AreInOrder sources.now (in_runs runs.now) }
+// Whether a key comes after all items, by one comparison with the last.
+fn comes_last<T: HasKey>(sources: &List<CompositeSource>, runs: &[Vec<T>], key: &Key) -> bool
+    requires order { IsInOrder T.key_of sources.now (in_runs runs.now) }
     requires filled { AreFilled runs.now }
-    ensures { result ≡ list_all (λ b. is_lt (page_cmp sources.now (bucket_key b) key.now)) (in_runs runs.now) }
+    ensures { result ≡ all_before T.key_of sources.now key.now (in_runs runs.now) }
 {
     match runs.last() {
         Some(run) => ends_before(sources, run.as_slice(), key),
@@ -36,16 +34,32 @@ pub fn comes_last(sources: &List<CompositeSource>, runs: &[Vec<Bucket>], key: &K
     }
 }
 
-// The run to which a key belongs, by binary search over the last buckets.
-fn run_of(sources: &List<CompositeSource>, runs: &[Vec<Bucket>], key: &Key) -> usize
-    requires order { AreInOrder sources.now (in_runs runs.now) }
+/// Whether a key has no place in a page of at most `size` items, of which `held` is the number: it does not come after `after`,
+/// or it comes after all of a full page. Most keys do the latter, so that is tried first, by one comparison with the last.
+pub fn is_outside<T: HasKey>(
+    sources: &List<CompositeSource>,
+    size: u32,
+    after: &Option<Key>,
+    held: usize,
+    runs: &[Vec<T>],
+    key: &Key,
+) -> bool
+    requires order { IsInOrder T.key_of sources.now (in_runs runs.now) }
+    requires filled { AreFilled runs.now }
+    requires held { held ≡ length (in_runs runs.now) }
+    ensures { result ≡ is_kept_out T.key_of sources.now size after.now (in_runs runs.now) key.now }
+{
+    (held >= size as usize && comes_last(sources, runs, key)) || !is_beyond_key(sources, key, after)
+}
+
+// The run to which a key belongs, by binary search over the last items.
+fn run_of<T: HasKey>(sources: &List<CompositeSource>, runs: &[Vec<T>], key: &Key) -> usize
+    requires order { IsInOrder T.key_of sources.now (in_runs runs.now) }
     requires filled { AreFilled runs.now }
     requires some { 0 < length runs.now }
     ensures within { result < length runs.now }
-    ensures before { IsTrue (list_all (λ b. is_lt (page_cmp sources.now (bucket_key b) key.now))
-        (in_runs (take result runs.now))) }
-    ensures behind { IsTrue (list_all (λ b. is_lt (page_cmp sources.now key.now (bucket_key b)))
-        (in_runs (drop (result + 1) runs.now))) }
+    ensures before { IsTrue (all_before T.key_of sources.now key.now (in_runs (take result runs.now))) }
+    ensures behind { IsTrue (all_behind T.key_of sources.now key.now (in_runs (drop (result + 1) runs.now))) }
 {
     let before = runs.partition_point(|run| ends_before(sources, run.as_slice(), key));
     if before < runs.len() {
@@ -55,25 +69,18 @@ fn run_of(sources: &List<CompositeSource>, runs: &[Vec<Bucket>], key: &Key) -> u
     }
 }
 
-/// The spot of the bucket that has the key, by binary search, or else where one with the key would stand.
-pub fn find_spot(
+/// The spot of the item that has the key, by binary search, or else where one with the key would stand.
+pub fn find_spot<T: HasKey>(
     sources: &List<CompositeSource>,
-    runs: &[Vec<Bucket>],
+    runs: &[Vec<T>],
     key: &Key,
 ) -> Result<Spot, Spot>
-    requires order { AreInOrder sources.now (in_runs runs.now) }
+    requires order { IsInOrder T.key_of sources.now (in_runs runs.now) }
     requires filled { AreFilled runs.now }
-    requires parts { IsTrue (are_composite (length sources.now) (in_runs runs.now)) }
+    requires parts { IsTrue (list_all (λ x. is_composite_of (length sources.now) (T.key_of x)) (in_runs runs.now)) }
     requires key_parts { IsTrue (is_composite_of (length sources.now) key.now) }
-    ensures found { IfOk result (λ s. IsWithin runs.now s.run s.at
-        × ((d : Run) → s.at < length (slice_index_or runs.now s.run d).items)
-        × (place_in runs.now s.run s.at < length (in_runs runs.now))
-        × ((d : AnyBucket) → bucket_key (slice_index_or (in_runs runs.now) (place_in runs.now s.run s.at) d) ≡ key.now)) }
-    ensures absent { IfErr result (λ s. (0 < length runs.now → IsWithin runs.now s.run s.at)
-        × IsTrue (list_all (λ b. is_lt (page_cmp sources.now (bucket_key b) key.now))
-        (take (place_in runs.now s.run s.at) (in_runs runs.now)))
-        × IsTrue (list_all (λ b. is_lt (page_cmp sources.now key.now (bucket_key b)))
-        (drop (place_in runs.now s.run s.at) (in_runs runs.now)))) }
+    ensures found { IfOk result (IsSpotOf T.key_of runs.now key.now) }
+    ensures absent { IfErr result (IsGapFor T.key_of sources.now runs.now key.now) }
 {
     if runs.is_empty() {
         return Err(Spot { run: 0, at: 0 });
@@ -85,41 +92,69 @@ pub fn find_spot(
     }
 }
 
-/// Puts a bucket at a spot, and parts a run that becomes long. After want of memory the buckets are as before.
-pub fn put_at(runs: &mut Vec<Vec<Bucket>>, spot: Spot, bucket: Bucket) -> Result<(), AllocError>
+/// Puts an item at a spot of a page of at most `size` items, of which `held` is the number; the last one leaves a full page.
+/// After want of memory they are as before.
+pub fn enter<T: Drop>(
+    size: u32,
+    held: &mut usize,
+    runs: &mut Vec<Vec<T>>,
+    spot: Spot,
+    item: T,
+) -> Result<Option<T>, AllocError>
     requires spot { 0 < length runs.old.items → IsWithin runs.old.items spot.run spot.at }
     requires filled { AreFilled runs.old.items }
-    ensures buckets { OnOk result (in_runs runs.new.items
-        ≡ insert (in_runs runs.old.items) (place_in runs.old.items spot.run spot.at) bucket) }
+    requires held { held.old ≡ length (in_runs runs.old.items) }
+    ensures items { IfOk result (λ left. insert (in_runs runs.old.items) (place_in runs.old.items spot.run spot.at) item
+        ≡ in_runs runs.new.items ++ option_to_list left) }
+    ensures full { IfOk result (λ left. is_some left ≡ nat_le size (length (in_runs runs.old.items))) }
+    ensures err { OnErr result (in_runs runs.new.items ≡ in_runs runs.old.items) }
+    ensures filled { AreFilled runs.new.items }
+    ensures held { held.new ≡ length (in_runs runs.new.items) }
+{
+    put_at(runs, spot, item)?;
+    if *held >= size as usize {
+        Ok(take_last(runs))
+    } else {
+        *held += 1;
+        Ok(None)
+    }
+}
+
+// Puts an item at a spot, and parts a run that becomes long. After want of memory the items are as before.
+fn put_at<T: Drop>(runs: &mut Vec<Vec<T>>, spot: Spot, item: T) -> Result<(), AllocError>
+    requires spot { 0 < length runs.old.items → IsWithin runs.old.items spot.run spot.at }
+    requires filled { AreFilled runs.old.items }
+    ensures items { OnOk result (in_runs runs.new.items
+        ≡ insert (in_runs runs.old.items) (place_in runs.old.items spot.run spot.at) item) }
     ensures err { OnErr result (in_runs runs.new.items ≡ in_runs runs.old.items) }
     ensures filled { AreFilled runs.new.items }
 {
     if runs.is_empty() {
-        return put_first(runs, bucket);
+        return put_first(runs, item);
     }
-    runs[spot.run].insert(spot.at, bucket)?;
+    runs[spot.run].insert(spot.at, item)?;
     part_long(runs, spot.run);
     Ok(())
 }
 
-// Makes the first run, of one bucket. After want of memory there is none.
-fn put_first(runs: &mut Vec<Vec<Bucket>>, bucket: Bucket) -> Result<(), AllocError>
+// Makes the first run, of one item. After want of memory there is none.
+fn put_first<T: Drop>(runs: &mut Vec<Vec<T>>, item: T) -> Result<(), AllocError>
     requires { runs.old.items ≡ [] }
-    ensures buckets { OnOk result (in_runs runs.new.items ≡ bucket ∷ []) }
+    ensures items { OnOk result (in_runs runs.new.items ≡ item ∷ []) }
     ensures err { OnErr result (runs.new.items ≡ []) }
     ensures filled { AreFilled runs.new.items }
 {
     let mut run = Vec::new(*runs.allocator());
-    run.push(bucket)?;
+    run.push(item)?;
     runs.push(run)?;
     Ok(())
 }
 
 // Parts a run into two where it is long. Where memory is wanting it stays whole.
-fn part_long(runs: &mut Vec<Vec<Bucket>>, run: usize)
+fn part_long<T: Drop>(runs: &mut Vec<Vec<T>>, run: usize)
     requires within { run < length runs.old.items }
     requires filled { AreFilled runs.old.items }
-    ensures buckets { in_runs runs.new.items ≡ in_runs runs.old.items }
+    ensures items { in_runs runs.new.items ≡ in_runs runs.old.items }
     ensures filled { AreFilled runs.new.items }
 {
     if runs[run].len() < LONGEST || runs.reserve(1).is_err() {
@@ -132,7 +167,7 @@ fn part_long(runs: &mut Vec<Vec<Bucket>>, run: usize)
 }
 
 // Takes the second half out of a run. After want of memory the run is as before.
-fn take_half(run: &mut Vec<Bucket>) -> Result<Vec<Bucket>, AllocError>
+fn take_half<T: Drop>(run: &mut Vec<T>) -> Result<Vec<T>, AllocError>
     requires { 1 < length run.old.items }
     ensures parts { IfOk result (λ tail. run.old.items ≡ run.new.items ++ tail.items) }
     ensures filled { IfOk result (λ tail. (0 < length run.new.items) × (0 < length tail.items)) }
@@ -141,19 +176,19 @@ fn take_half(run: &mut Vec<Bucket>) -> Result<Vec<Bucket>, AllocError>
     let half = run.len() / 2;
     let mut tail = Vec::with_capacity(*run.allocator(), half)?;
     for _moved in 0..half {
-        if let Some(bucket) = run.pop() {
+        if let Some(item) = run.pop() {
             // There is room for it.
-            let _ = tail.push(bucket);
+            let _ = tail.push(item);
         }
     }
     tail.reverse();
     Ok(tail)
 }
 
-/// Takes the last bucket out.
-pub fn take_last(runs: &mut Vec<Vec<Bucket>>) -> Option<Bucket>
+// Takes the last item out.
+fn take_last<T: Drop>(runs: &mut Vec<Vec<T>>) -> Option<T>
     requires filled { AreFilled runs.old.items }
-    ensures buckets { in_runs runs.old.items ≡ in_runs runs.new.items ++ option_to_list result }
+    ensures items { in_runs runs.old.items ≡ in_runs runs.new.items ++ option_to_list result }
     ensures some { 0 < length runs.old.items → is_some result ≡ true }
     ensures filled { AreFilled runs.new.items }
 {
@@ -165,13 +200,13 @@ pub fn take_last(runs: &mut Vec<Vec<Bucket>>) -> Option<Bucket>
     left
 }
 
-/// All buckets in one list.
-pub fn join(alloc: Global, runs: Vec<Vec<Bucket>>) -> Result<Vec<Bucket>, AllocError>
-    ensures { IfOk result (λ buckets. buckets.items ≡ in_runs runs.items) }
+/// All items in one list.
+pub fn join<T: Drop>(alloc: Global, runs: Vec<Vec<T>>) -> Result<Vec<T>, AllocError>
+    ensures { IfOk result (λ items. items.items ≡ in_runs runs.items) }
 {
-    let mut buckets = Vec::new(alloc);
+    let mut items = Vec::new(alloc);
     for mut run in runs {
-        buckets.append(&mut run)?;
+        items.append(&mut run)?;
     }
-    Ok(buckets)
+    Ok(items)
 }

@@ -34,8 +34,8 @@ use Rattle.list_laws.proofs.Booleans.{and_left, and_right, both, or_swap, true_i
 use Rattle.list_laws.proofs.Lists.{filter-map}
 use Rattle.list_laws.proofs.Occurrences.{occurrences}
 use Rattle.list_laws.proofs.Orders.{less_is}
-use Rattle.growing_page.specs.GrowingPages.{IsInOrder, all_behind}
-use Rattle.growing_page.proofs.InOrder.{all-map, all-take}
+use Rattle.composite_agg.specs.InOrder.{IsInOrder, all_behind}
+use Rattle.composite_agg.proofs.InOrder.{all-map, all-take}
 
 -- what stands in a list, and that none stands twice, do not depend on an order
 has-other : {A : Type 0} (R S : A → A → Ordering) (t : IsTotalOrder R) (u : IsTotalOrder S) (q : A) (xs : List A) → Has R t q xs → Has S u q xs

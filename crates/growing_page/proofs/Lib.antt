@@ -1,7 +1,7 @@
-pub mod InOrder
 pub mod Kept
 pub mod Starting
 pub mod Putting
 pub mod Moves
+mod Changes
 pub mod Finals
 pub mod Cursors

@@ -1,6 +1,7 @@
 -- What a page becomes: nothing, a bucket with more rows, or one more bucket and maybe one less.
 use Rattle.std.specs.Prelude.{◌≡◌, refl, ℕ, zero, suc, ◌+◌, ◌≤◌, ◌<◌, Bool, true, false, not, ◌&&◌, ◌||◌, nat_le, T, List, [], ◌∷◌, ◌++◌, length, map, take, drop, Option, Some, None, option_to_list, is_some, slice_get, sum_by}
 use Rattle.std.specs.List.{list_all, AllByRecursion}
+use Rattle.std.specs.Option.{option_map_or}
 use Rattle.std.specs.Ordering.{is_lt}
 use Rattle.std.proofs.Common.{get_or, sym, ◌∙◌, ap, subst, arith}
 use Rattle.std.proofs.Math.ListN.{set}
@@ -19,16 +20,17 @@ use Rattle.agg_evaluation.specs.Rows.{PlacedRow}
 use Rattle.agg_evaluation.specs.Shard.{sorted_by_key}
 use Rattle.composite_agg.specs.FirstPages.{empty_page, is_composite, page_cmp}
 use Rattle.composite_agg.specs.Pages.{is_beyond_any}
+use Rattle.composite_agg.specs.InOrder.{IsInOrder, all_before, all_behind}
 use Rattle.composite_agg.proofs.PageSteps.{differs}
 use Rattle.composite_agg.proofs.Steps.{take-whole}
 use Rattle.growth_laws.specs.BucketBytes.{bucket_bytes}
 use Rattle.growth_laws.specs.Gathering.{Gatherer, gathered_bucket, kept_buckets, put_rows}
-use Rattle.list_laws.proofs.Booleans.{and_first, and_left, and_right, and_second, both, holds, or_false}
+use Rattle.list_laws.proofs.Booleans.{and_first, and_left, and_right, and_second, both, holds}
 use Rattle.list_laws.proofs.Lists.{append-nil, sum_by-map}
 use Rattle.list_laws.proofs.Options.{none_some, some_same}
-use Rattle.growing_page.specs.GrowingPages.{IsCosted, IsFilled, IsInOrder, IsPageOf, all_before, all_behind, held_key, is_refused, shown, shown_all, sources_of}
+use Rattle.growing_page.specs.GrowingPages.{AreKept, IsCosted, IsFilled, held_key, is_refused, shown, shown_all, sources_of}
 use Rattle.growing_page.specs.declared.page.Held.{Held}
-use Rattle.growing_page.proofs.InOrder.{absent, all-insert, all-map, all-take, order-insert, order-map, order-take}
+use Rattle.composite_agg.proofs.InOrder.{absent, all-insert, all-map, all-take, order-insert, order-map, order-take}
 use Rattle.growing_page.proofs.Putting.{AreSorted, fresh, put-before, put-entered, put-held, put-last, take-front}
 
 -- ---- lists
@@ -42,7 +44,7 @@ map-set f [] i x = refl
 map-set f (y ∷ ys) zero x = refl
 map-set f (y ∷ ys) (suc i) x = ap (λ zs. f y ∷ zs) (map-set f ys i x)
 
-length-changed : {A : Type 0} (xs : List A) (i : ℕ) (x : A) → length (set xs i x) ≡ length xs
+pub length-changed : {A : Type 0} (xs : List A) (i : ℕ) (x : A) → length (set xs i x) ≡ length xs
 length-changed [] i x = refl
 length-changed (y ∷ ys) zero x = refl
 length-changed (y ∷ ys) (suc i) x = ap suc (length-changed ys i x)
@@ -166,7 +168,7 @@ module _ {A : Type 0} (key : A → Key) where
 
 -- ---- pages
 
-module _ (k : Kind) (composite : is_composite k ≡ true) (ds : List (Node → Node)) (gs : List Gatherer) (rows : List PlacedRow) (q : Key) (hs : List Held) (page : IsPageOf k ds hs) (parts : is_composite_of (length (sources_of k)) q ≡ true) where
+module _ (k : Kind) (composite : is_composite k ≡ true) (ds : List (Node → Node)) (gs : List Gatherer) (rows : List PlacedRow) (q : Key) (hs : List Held) (page : AreKept k ds hs) (parts : is_composite_of (length (sources_of k)) q ≡ true) where
   abbrev has_parts : Held → Bool
   has_parts h = is_composite_of (length (sources_of k)) (held_key h)
 
@@ -194,17 +196,15 @@ module _ (k : Kind) (composite : is_composite k ≡ true) (ds : List (Node → N
   -- a key that is refused changes nothing
   pub refused : is_refused (empty_page k) hs q ≡ true → sorted_by_key bs ≡ kept_buckets k (put_rows gs rows q (sorted_by_key bs))
   refused e =
-      elim (is_beyond_any (sources_of k) (empty_page k).after q) as (λ c. is_beyond_any (sources_of k) (empty_page k).after q ≡ c → ((nat_le (empty_page k).size (length hs) && all_before held_key (sources_of k) q hs) || not c) ≡ true
+      elim (is_beyond_any (sources_of k) (empty_page k).after q) as (λ c. is_beyond_any (sources_of k) (empty_page k).after q ≡ c → (not c || (nat_le (empty_page k).size (length hs) && all_before held_key (sources_of k) q hs)) ≡ true
       → sorted_by_key bs ≡ kept_buckets k (put_rows gs rows q (sorted_by_key bs))) [
-        | true ↦ λ f g.
-            let full = or_false (nat_le (empty_page k).size (length hs) && all_before held_key (sources_of k) q hs) in
-            let there = sym full ∙ g in
+        | true ↦ λ f there.
             let t : nat_le (empty_page k).size (length hs) ≡ true = and_first (nat_le (empty_page k).size (length hs)) (all_before held_key (sources_of k) q hs) there in
             let le : (empty_page k).size ≤ length hs = grind (arith, nat_tests, t) in
             sym (put-last k composite page.filled.cursor gs rows q bs sorts within (after-of hs page.filled.beyond) parts
             (all-map (shown ds) (λ b. is_lt (page_cmp (sources_of k) (bucket_key b) q)) hs (holds _ (and_second (nat_le (empty_page k).size (length hs)) (all_before held_key (sources_of k) q hs) there)))
             (let n = length-mapped (shown ds) hs in let few = page.filled.within in omega (arith, n, few, le)))
-        | false ↦ λ f g. sym (put-before k composite page.filled.cursor gs rows q bs sorts within (after-of hs page.filled.beyond) parts f)
+        | false ↦ λ f there. sym (put-before k composite page.filled.cursor gs rows q bs sorts within (after-of hs page.filled.beyond) parts f)
       ] refl e
 
   -- a bucket with more rows
@@ -224,8 +224,8 @@ module _ (k : Kind) (composite : is_composite k ≡ true) (ds : List (Node → N
       cursor = page.filled.cursor;
     }
 
-    pub page-changed : IsCosted ds more → IsPageOf k ds (set hs i more)
-    page-changed costed = record { filled = filled-changed; costs = each-changed (IsCosted ds) hs i more costed page.costs }
+    pub kept-changed : IsCosted ds more → AreKept k ds (set hs i more)
+    kept-changed costed = record { filled = filled-changed; costs = each-changed (IsCosted ds) hs i more costed page.costs }
 
     pub buckets-changed : sorted_by_key (shown_all ds (set hs i more)) ≡ kept_buckets k (put_rows gs rows q (sorted_by_key bs))
     buckets-changed =
@@ -253,7 +253,7 @@ module _ (k : Kind) (composite : is_composite k ≡ true) (ds : List (Node → N
     inserted = take i hs ++ h ∷ drop i hs
 
     comes_after : is_beyond_any (sources_of k) (empty_page k).after q ≡ true
-    comes_after = undone (is_beyond_any (sources_of k) (empty_page k).after q) (or_parts _ _ inside).1
+    comes_after = undone (is_beyond_any (sources_of k) (empty_page k).after q) (or_parts _ _ inside).0
       where
         undone : (c : Bool) → not c ≡ false → c ≡ true
         undone true e = refl
@@ -307,8 +307,8 @@ module _ (k : Kind) (composite : is_composite k ≡ true) (ds : List (Node → N
       costs-moved : AllByRecursion (IsCosted ds) (stays ++ option_to_list left)
       costs-moved = subst (AllByRecursion (IsCosted ds)) moved (each-inserted (IsCosted ds) hs i h costed page.costs)
 
-      pub page-entered : IsPageOf k ds stays
-      page-entered = record {
+      pub kept-entered : AreKept k ds stays
+      kept-entered = record {
         filled = subst (IsFilled held_key (empty_page k)) stays_are (record {
           order = order-take held_key (sources_of k) inserted (empty_page k).size inserted-order;
           parts = all-take has_parts inserted (empty_page k).size inserted-parts;
@@ -327,7 +327,7 @@ module _ (k : Kind) (composite : is_composite k ≡ true) (ds : List (Node → N
           sym (sum_by-append (λ x. bucket_bytes (shown ds x)) stays (option_to_list left)) ∙ ap bytes_of (sym moved)
           ∙ sum-inserted (λ x. bucket_bytes (shown ds x)) h hs i ∙ ap (λ n. bytes_of hs + n) (sym costed)
 
-      pub cost-stays : left ≡ None → sum_by bucket_bytes (shown_all ds stays) + 0 ≡ sum_by bucket_bytes bs + h.bytes
+      cost-stays : left ≡ None → sum_by bucket_bytes (shown_all ds stays) + 0 ≡ sum_by bucket_bytes bs + h.bytes
       cost-stays none =
           let nothing = ap (λ o. bytes_of (option_to_list o)) none in
           let before = sum_by-map bucket_bytes (shown ds) hs in
@@ -335,7 +335,7 @@ module _ (k : Kind) (composite : is_composite k ≡ true) (ds : List (Node → N
           let all = cost-moved in
           omega (arith, nothing, before, after, all)
 
-      pub cost-leaves : (x : Held) → left ≡ Some x → sum_by bucket_bytes (shown_all ds stays) + x.bytes ≡ sum_by bucket_bytes bs + h.bytes
+      cost-leaves : (x : Held) → left ≡ Some x → sum_by bucket_bytes (shown_all ds stays) + x.bytes ≡ sum_by bucket_bytes bs + h.bytes
       cost-leaves x some =
           let costs = each-last (IsCosted ds) stays x (subst (λ o. AllByRecursion (IsCosted ds) (stays ++ option_to_list o)) some costs-moved) in
           let one = ap (λ o. bytes_of (option_to_list o)) some ∙ sum_by-cons (λ x. bucket_bytes (shown ds x)) x [] in
@@ -343,3 +343,9 @@ module _ (k : Kind) (composite : is_composite k ≡ true) (ds : List (Node → N
           let after = sum_by-map bucket_bytes (shown ds) stays in
           let all = cost-moved in
           omega (arith, one, costs, before, after, all)
+
+      pub cost-entered : sum_by bucket_bytes (shown_all ds stays) + option_map_or (λ x. x.bytes) left 0 ≡ sum_by bucket_bytes bs + h.bytes
+      cost-entered = elim left as (λ o. left ≡ o → sum_by bucket_bytes (shown_all ds stays) + option_map_or (λ x. x.bytes) o 0 ≡ sum_by bucket_bytes bs + h.bytes) [
+        | None ↦ cost-stays
+        | Some x ↦ cost-leaves x
+      ] refl

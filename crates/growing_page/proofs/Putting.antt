@@ -32,7 +32,7 @@ use Rattle.growth_laws.proofs.CompositeOrder.{beyond}
 use Rattle.growing_tree.proofs.Arriving.{arrived-push, arrived-set, entries, grown-sorted, next}
 use Rattle.list_laws.proofs.Booleans.{and_left, and_right, both, holds, true_is}
 use Rattle.list_laws.proofs.Lists.{filter-append}
-use Rattle.growing_page.specs.GrowingPages.{IsInOrder, all_before, all_behind}
+use Rattle.composite_agg.specs.InOrder.{IsInOrder, all_before, all_behind}
 use Rattle.growing_page.proofs.Kept.{distinct-order, filter-all, kept-first, none-behind}
 
 -- ---- the rows of a key among the buckets by key

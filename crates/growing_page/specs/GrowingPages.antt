@@ -1,7 +1,6 @@
 -- The page of a composite aggregation while it grows (Elasticsearch Reference 8, 'Composite aggregation').
-use Rattle.std.specs.Prelude.{◌≡◌, ◌≤◌, Bool, not, ◌&&◌, ◌||◌, nat_le, List, [], ◌∷◌, length, map, T}
+use Rattle.std.specs.Prelude.{◌≡◌, ◌≤◌, Bool, List, length, map, T}
 use Rattle.std.specs.List.{list_all, AllByRecursion}
-use Rattle.std.specs.Ordering.{is_lt}
 use Rattle.agg_model.specs.declared.aggregation.CompositeSource.{CompositeSource}
 use Rattle.agg_model.specs.declared.aggregation.Kind.{Kind}
 use Rattle.agg_model.specs.declared.key.Key.{Key}
@@ -10,8 +9,10 @@ use Rattle.agg_model.specs.declared.partial.Node.{Node}
 use Rattle.agg_model.specs.declared.partial.Node.TheVariants.{Keyed}
 use Rattle.agg_evaluation.specs.CompositeKeys.{is_composite_of}
 use Rattle.agg_evaluation.specs.Shard.{sorted_by_key}
-use Rattle.composite_agg.specs.FirstPages.{FirstPage, empty_page, page_cmp}
+use Rattle.composite_agg.specs.FirstPages.{FirstPage, empty_page}
+use Rattle.composite_agg.specs.InOrder.{IsInOrder, is_kept_out}
 use Rattle.composite_agg.specs.Pages.{is_beyond_any, is_cursor}
+use Rattle.composite_agg.specs.Runs.{AreFilled, in_runs}
 use Rattle.growing_tree.specs.Decoded.{decoded_children}
 use Rattle.growth_laws.specs.BucketBytes.{bucket_bytes}
 use Rattle.growing_page.specs.declared.page.Held.{Held}
@@ -25,23 +26,13 @@ shown ds h = record { key = h.key; count = h.count; covered = 0; children = deco
 abbrev pub shown_all : List (Node → Node) → List Held → List Bucket
 shown_all ds hs = map (shown ds) hs
 
+-- the buckets of a page, in the order of the sources
+abbrev pub buckets_of : Page → List Held
+buckets_of p = in_runs p.runs.items
+
 -- the page as a node, ascending by key
 abbrev pub page_node : List (Node → Node) → Page → Node
-page_node ds p = Keyed (sorted_by_key (shown_all ds p.buckets.items)) 0 0 0
-
--- items whose keys are in the order of the sources
-module _ {A : Type 0} (key : A → Key) (sources : List CompositeSource) where
-  -- all come before the key, or all behind it
-  abbrev pub all_before : Key → List A → Bool
-  all_before k xs = list_all (λ x. is_lt (page_cmp sources (key x) k)) xs
-
-  abbrev pub all_behind : Key → List A → Bool
-  all_behind k xs = list_all (λ x. is_lt (page_cmp sources k (key x))) xs
-
-  -- each comes before the later ones
-  abbrev pub IsInOrder : List A → Type 0
-  IsInOrder [] = Unit {0}
-  IsInOrder (x ∷ xs) = T (all_behind (key x) xs) × IsInOrder xs
+page_node ds p = Keyed (sorted_by_key (shown_all ds (buckets_of p))) 0 0 0
 
 abbrev pub held_key : Held → Key
 held_key h = h.key
@@ -60,13 +51,19 @@ pub record IsFilled {A : Type 0} (key : A → Key) (p : FirstPage) (xs : List A)
 
 -- the key does not come after `after`, or it comes after all in a full page
 abbrev pub is_refused : FirstPage → List Held → Key → Bool
-is_refused p hs k = (nat_le p.size (length hs) && all_before held_key p.sources k hs) || not (is_beyond_any p.sources p.after k)
+is_refused p hs k = is_kept_out held_key p.sources p.size p.after hs k
 
 -- the bytes that are noted of a bucket are what it costs
 abbrev pub IsCosted : List (Node → Node) → Held → Type 0
 IsCosted ds h = h.bytes ≡ bucket_bytes (shown ds h)
 
--- the page is one of this composite, and each bucket's bytes are noted
-pub record IsPageOf (k : Kind) (ds : List (Node → Node)) (hs : List Held) : Type 0 where
+-- the buckets are a page of this composite, and each bucket's bytes are noted
+pub record AreKept (k : Kind) (ds : List (Node → Node)) (hs : List Held) : Type 0 where
   pub filled : IsFilled held_key (empty_page k) hs
   pub costs : AllByRecursion (IsCosted ds) hs
+
+-- the page is one of this composite, and its buckets are counted
+pub record IsPageOf (k : Kind) (ds : List (Node → Node)) (p : Page) : Type 0 where
+  pub kept : AreKept k ds (buckets_of p)
+  pub runs : AreFilled p.runs.items
+  pub count : p.held ≡ length (buckets_of p)

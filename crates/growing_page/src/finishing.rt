@@ -9,10 +9,10 @@ ghost use Rattle.shard_columns.specs.Built.{IsShard};
 ghost use Rattle.growing_tree.specs.Gathered.{decoders};
 ghost use Rattle.growing_page.specs.GrowingPages.{page_node, shown, shown_all};
 
-use crate::on_heap::OnHeap;
 use crate::page::{Held, Page};
 use agg_model::{Agg, Bucket, List, Node};
 use bucket_order::sort_by_key;
+use composite_agg::runs::join;
 use growing_tree::{Ready, finish_children};
 use shard_columns::Shard;
 use std::alloc::{AllocError, Global};
@@ -22,7 +22,7 @@ fn finish_bucket(
     aggs: &List<Agg>,
     ready: &List<Ready>,
     shard: &Shard,
-    bucket: OnHeap<Held>,
+    bucket: Held,
 ) -> Result<Bucket, AllocError>
     requires ready { AreReadyFor shard.now aggs.now ready.now }
     requires built { IsShard shard.now }
@@ -33,7 +33,7 @@ fn finish_bucket(
         count,
         children,
         bytes: _,
-    } = bucket.into_inner();
+    } = bucket;
     Ok(Bucket {
         key,
         count,
@@ -47,7 +47,7 @@ fn finish_buckets(
     aggs: &List<Agg>,
     ready: &List<Ready>,
     shard: &Shard,
-    buckets: Vec<OnHeap<Held>>,
+    buckets: Vec<Held>,
 ) -> Result<Vec<Bucket>, AllocError>
     requires ready { AreReadyFor shard.now aggs.now ready.now }
     requires built { IsShard shard.now }
@@ -74,7 +74,8 @@ pub fn finish_page(
     requires composite { IsTrue (is_composite (out-Agg agg.now).kind) }
     ensures { IfOk result (λ node. node ≡ cut_tree agg.now (page_node (decoders shard.now ready.now) page)) }
 {
-    let Page { buckets } = page;
+    let Page { held: _, runs } = page;
+    let buckets = join(alloc, runs)?;
     let mut finished = finish_buckets(alloc, &agg.children, ready, shard, buckets)?;
     sort_by_key(&mut finished)?;
     Ok(Node::Keyed {

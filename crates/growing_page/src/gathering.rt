@@ -1,6 +1,7 @@
 //! One more row in a page.
-ghost use Rattle.std.specs.Prelude.{◌≡◌, ◌<◌, ◌≤◌, ◌+◌, [], ◌∷◌, ◌++◌, All, IfOk, OnOk, IsTrue, is_some, nat_le, option_to_list, length, map, sum_by};
-ghost use Rattle.std.specs.List.{insert, list_all};
+ghost use Rattle.std.specs.Prelude.{◌≡◌, ◌<◌, ◌≤◌, ◌+◌, [], ◌∷◌, All, IfErr, IfOk, OnOk, IsTrue, T, length, map, sum_by};
+ghost use Rattle.std.specs.List.{list_all};
+ghost use Rattle.std.specs.Option.{option_map_or};
 ghost use Rattle.agg_model.specs.declared.aggregation.Agg.{out-Agg};
 ghost use Rattle.agg_evaluation.specs.Ceiling.{greatest_combinations};
 ghost use Rattle.agg_evaluation.specs.CompositeKeys.{is_composite_of};
@@ -10,20 +11,21 @@ ghost use Rattle.agg_evaluation.specs.Keys.{keys as keys_of_row};
 ghost use Rattle.agg_evaluation.specs.Rows.{row_of};
 ghost use Rattle.agg_evaluation.specs.Shard.{sorted_by_key};
 ghost use Rattle.composite_agg.specs.FirstPages.{empty_page, is_composite};
+ghost use Rattle.composite_agg.specs.InOrder.{IsInOrder};
+ghost use Rattle.composite_agg.specs.Runs.{AreFilled, IsGapFor, IsSpotOf};
 ghost use Rattle.composite_agg.specs.Sources.{IsComposite};
 ghost use Rattle.growing_tree.specs.Readiness.{AreReadyFor};
 ghost use Rattle.growth_laws.specs.BucketBytes.{bucket_bytes};
 ghost use Rattle.growth_laws.specs.Gathering.{counted, empty_bucket, gathered_bucket, kept_buckets, put_groups, put_rows};
 ghost use Rattle.shard_columns.specs.Built.{IsShard};
 ghost use Rattle.growing_tree.specs.Gathered.{decoders, gatherers, rows_at};
-ghost use Rattle.growing_page.specs.GrowingPages.{IsCosted, IsInOrder, IsPageOf, held_key, is_refused, page_node, shown, shown_all, sources_of};
+ghost use Rattle.growing_page.specs.GrowingPages.{IsCosted, IsPageOf, buckets_of, held_key, is_refused, page_node, shown, shown_all, sources_of};
 
 use crate::costs::{bytes_of_bucket, sum_of};
-use crate::on_heap::OnHeap;
 use crate::page::{Held, Page};
-use crate::places::{comes_last, find};
-use agg_model::{Agg, CompositeSource, Key, Kind, List};
-use composite_agg::{is_beyond_key, keys};
+use agg_model::{Agg, Key, Kind, List};
+use composite_agg::keys;
+use composite_agg::runs::{Spot, enter, find_spot, is_outside};
 use growing_tree::{Ready, begin_trees, gather_children};
 use shard_columns::Shard;
 use std::alloc::{AllocError, Global};
@@ -33,16 +35,6 @@ use std::alloc::{AllocError, Global};
 pub struct Change {
     pub added: u64,
     pub removed: u64,
-}
-
-fn sources_of_composite(kind: &Kind) -> &List<CompositeSource>
-    requires { IsTrue (is_composite kind.now) }
-    ensures { result.now ≡ sources_of kind.now }
-{
-    match kind {
-        Kind::Composite { sources, .. } => sources,
-        _ => unreachable!(),
-    }
 }
 
 fn size_of_composite(kind: &Kind) -> u32
@@ -55,21 +47,36 @@ fn size_of_composite(kind: &Kind) -> u32
     }
 }
 
-// Most keys come after all of a full page, so that is tried first.
-fn is_outside(kind: &Kind, buckets: &[OnHeap<Held>], key: &Key) -> bool
+// Whether the page lets no bucket of the key in.
+fn is_refused_by(kind: &Kind, page: &Page, key: &Key) -> bool
     requires composite { IsTrue (is_composite kind.now) }
-    requires order { IsInOrder held_key (sources_of kind.now) buckets.now }
-    ensures { result ≡ is_refused (empty_page kind.now) buckets.now key.now }
+    requires order { IsInOrder held_key (sources_of kind.now) (buckets_of page.now) }
+    requires filled { AreFilled page.now.runs.items }
+    requires held { page.now.held ≡ length (buckets_of page.now) }
+    ensures { result ≡ is_refused (empty_page kind.now) (buckets_of page.now) key.now }
 {
     match kind {
         Kind::Composite {
             sources,
             size,
             after,
-        } => {
-            (buckets.len() >= *size as usize && comes_last(sources, buckets, key))
-                || !is_beyond_key(sources, key, after)
-        }
+        } => is_outside(sources, *size, after, page.held, page.runs.as_slice(), key),
+        _ => unreachable!(),
+    }
+}
+
+// The spot of the bucket of a key, or else where one would stand.
+fn find(kind: &Kind, page: &Page, key: &Key) -> Result<Spot, Spot>
+    requires composite { IsTrue (is_composite kind.now) }
+    requires order { IsInOrder held_key (sources_of kind.now) (buckets_of page.now) }
+    requires filled { AreFilled page.now.runs.items }
+    requires parts { T (list_all (λ h. is_composite_of (length (sources_of kind.now)) (held_key h)) (buckets_of page.now)) }
+    requires key_parts { IsTrue (is_composite_of (length (sources_of kind.now)) key.now) }
+    ensures found { IfOk result (IsSpotOf held_key page.now.runs.items key.now) }
+    ensures absent { IfErr result (IsGapFor held_key (sources_of kind.now) page.now.runs.items key.now) }
+{
+    match kind {
+        Kind::Composite { sources, .. } => find_spot(sources, page.runs.as_slice(), key),
         _ => unreachable!(),
     }
 }
@@ -83,7 +90,7 @@ fn new_bucket(
     rows: &List<u32>,
     spare: &mut Vec<Vec<i64>>,
     key: Key,
-) -> Result<OnHeap<Held>, AllocError>
+) -> Result<Held, AllocError>
     requires ready { AreReadyFor shard.now aggs.now ready.now }
     requires built { IsShard shard.now }
     requires apart { IsApart shard.now.rows }
@@ -95,18 +102,16 @@ fn new_bucket(
     let bytes = bytes_of_bucket(&key, aggs)?;
     let mut children = begin_trees(alloc, aggs, ready)?;
     let added = gather_children(alloc, aggs, ready, shard, rows, spare, &mut children)?;
-    let bucket = Held {
+    Ok(Held {
         key,
         count: rows.len() as u64,
         children,
         bytes: sum_of(bytes, added)?,
-    };
-    let boxed = OnHeap::new(alloc, bucket)?;
-    Ok(boxed)
+    })
 }
 
 // More rows in a bucket. The answer is by how many bytes its cost rose.
-fn grow_held(
+fn grow(
     alloc: Global,
     aggs: &List<Agg>,
     ready: &List<Ready>,
@@ -132,44 +137,14 @@ fn grow_held(
     Ok(added)
 }
 
-// The same on the heap.
-fn grow(
-    alloc: Global,
-    aggs: &List<Agg>,
-    ready: &List<Ready>,
-    shard: &Shard,
-    rows: &List<u32>,
-    spare: &mut Vec<Vec<i64>>,
-    bucket: &mut OnHeap<Held>,
-) -> Result<u64, AllocError>
-    requires ready { AreReadyFor shard.now aggs.now ready.now }
-    requires built { IsShard shard.now }
-    requires apart { IsApart shard.now.rows }
-    requires in_range { All (λ n. n < length shard.now.rows) rows.now }
-    requires costs { IsCosted (decoders shard.now ready.now) bucket.old }
-    ensures bucket { OnOk result (shown (decoders shard.now ready.now) bucket.new
-        ≡ gathered_bucket (gatherers shard.now aggs.now) (rows_at shard.now rows.now) (shown (decoders shard.now ready.now) bucket.old)) }
-    ensures costs { OnOk result (IsCosted (decoders shard.now ready.now) bucket.new) }
-    ensures added { IfOk result (λ added. bucket.new.bytes ≡ bucket.old.bytes + added) }
+// What a bucket that leaves the page costs.
+fn bytes_of(left: Option<Held>) -> u64
+    ensures { result ≡ option_map_or (λ h. h.bytes) left 0 }
 {
-    let added = grow_held(alloc, aggs, ready, shard, rows, spare, &mut bucket.inner)?;
-    Ok(added)
-}
-
-// Puts a bucket at a place; the last one leaves a full page.
-fn enter(
-    size: u32,
-    buckets: &mut Vec<OnHeap<Held>>,
-    place: usize,
-    bucket: OnHeap<Held>,
-) -> Result<Option<OnHeap<Held>>, AllocError>
-    requires { place ≤ length buckets.old.items }
-    ensures items { IfOk result (λ left. insert buckets.old.items place bucket ≡ buckets.new.items ++ option_to_list left) }
-    ensures full { IfOk result (λ left. is_some left ≡ nat_le size (length buckets.old.items)) }
-{
-    let is_full = buckets.len() >= size as usize;
-    buckets.insert(place, bucket)?;
-    if is_full { Ok(buckets.pop()) } else { Ok(None) }
+    match left {
+        Some(left) => left.bytes,
+        None => 0,
+    }
 }
 
 // Puts rows at one of their keys.
@@ -180,7 +155,7 @@ fn put_key(
     shard: &Shard,
     rows: &List<u32>,
     spare: &mut Vec<Vec<i64>>,
-    buckets: &mut Vec<OnHeap<Held>>,
+    page: &mut Page,
     key: Key,
 ) -> Result<Change, AllocError>
     requires ready { AreReadyFor shard.now (out-Agg agg.now).children ready.now }
@@ -189,36 +164,35 @@ fn put_key(
     requires in_range { All (λ n. n < length shard.now.rows) rows.now }
     requires composite { IsTrue (is_composite (out-Agg agg.now).kind) }
     requires parts { IsTrue (is_composite_of (length (sources_of (out-Agg agg.now).kind)) key) }
-    requires page { IsPageOf (out-Agg agg.now).kind (decoders shard.now ready.now) buckets.old.items }
-    ensures buckets { OnOk result (sorted_by_key (shown_all (decoders shard.now ready.now) buckets.new.items)
+    requires page { IsPageOf (out-Agg agg.now).kind (decoders shard.now ready.now) page.old }
+    ensures buckets { OnOk result (sorted_by_key (shown_all (decoders shard.now ready.now) (buckets_of page.new))
         ≡ kept_buckets (out-Agg agg.now).kind (put_rows (gatherers shard.now (out-Agg agg.now).children) (rows_at shard.now rows.now) key
-        (sorted_by_key (shown_all (decoders shard.now ready.now) buckets.old.items)))) }
-    ensures page { OnOk result (IsPageOf (out-Agg agg.now).kind (decoders shard.now ready.now) buckets.new.items) }
-    ensures cost { IfOk result (λ change. sum_by bucket_bytes (shown_all (decoders shard.now ready.now) buckets.new.items) + change.removed
-        ≡ sum_by bucket_bytes (shown_all (decoders shard.now ready.now) buckets.old.items) + change.added) }
+        (sorted_by_key (shown_all (decoders shard.now ready.now) (buckets_of page.old))))) }
+    ensures page { OnOk result (IsPageOf (out-Agg agg.now).kind (decoders shard.now ready.now) page.new) }
+    ensures cost { IfOk result (λ change. sum_by bucket_bytes (shown_all (decoders shard.now ready.now) (buckets_of page.new)) + change.removed
+        ≡ sum_by bucket_bytes (shown_all (decoders shard.now ready.now) (buckets_of page.old)) + change.added) }
 {
-    if is_outside(&agg.kind, buckets.as_slice(), &key) {
+    if is_refused_by(&agg.kind, page, &key) {
         return Ok(Change {
             added: 0,
             removed: 0,
         });
     }
-    match find(sources_of_composite(&agg.kind), buckets.as_slice(), &key) {
-        Ok(place) => {
-            let bucket = &mut buckets[place];
+    match find(&agg.kind, page, &key) {
+        Ok(spot) => {
+            let bucket = &mut page.runs[spot.run][spot.at];
             let added = grow(alloc, &agg.children, ready, shard, rows, spare, bucket)?;
             Ok(Change { added, removed: 0 })
         }
-        Err(place) => {
+        Err(spot) => {
             let bucket = new_bucket(alloc, &agg.children, ready, shard, rows, spare, key)?;
-            let added = bucket.get().bytes;
-            match enter(size_of_composite(&agg.kind), buckets, place, bucket)? {
-                Some(left) => Ok(Change {
-                    added,
-                    removed: left.get().bytes,
-                }),
-                None => Ok(Change { added, removed: 0 }),
-            }
+            let added = bucket.bytes;
+            let size = size_of_composite(&agg.kind);
+            let left = enter(size, &mut page.held, &mut page.runs, spot, bucket)?;
+            Ok(Change {
+                added,
+                removed: bytes_of(left),
+            })
         }
     }
 }
@@ -231,7 +205,7 @@ fn put_keys(
     shard: &Shard,
     rows: &List<u32>,
     spare: &mut Vec<Vec<i64>>,
-    buckets: &mut Vec<OnHeap<Held>>,
+    page: &mut Page,
     keys: List<Key>,
 ) -> Result<Change, AllocError>
     requires ready { AreReadyFor shard.now (out-Agg agg.now).children ready.now }
@@ -240,20 +214,20 @@ fn put_keys(
     requires in_range { All (λ n. n < length shard.now.rows) rows.now }
     requires composite { IsTrue (is_composite (out-Agg agg.now).kind) }
     requires parts { IsTrue (list_all (is_composite_of (length (sources_of (out-Agg agg.now).kind))) keys) }
-    requires page { IsPageOf (out-Agg agg.now).kind (decoders shard.now ready.now) buckets.old.items }
-    ensures buckets { OnOk result (sorted_by_key (shown_all (decoders shard.now ready.now) buckets.new.items)
+    requires page { IsPageOf (out-Agg agg.now).kind (decoders shard.now ready.now) page.old }
+    ensures buckets { OnOk result (sorted_by_key (shown_all (decoders shard.now ready.now) (buckets_of page.new))
         ≡ put_groups (λ q. rows_at shard.now rows.now) (gatherers shard.now (out-Agg agg.now).children) (out-Agg agg.now).kind keys
-        (sorted_by_key (shown_all (decoders shard.now ready.now) buckets.old.items))) }
-    ensures page { OnOk result (IsPageOf (out-Agg agg.now).kind (decoders shard.now ready.now) buckets.new.items) }
-    ensures cost { IfOk result (λ change. sum_by bucket_bytes (shown_all (decoders shard.now ready.now) buckets.new.items) + change.removed
-        ≡ sum_by bucket_bytes (shown_all (decoders shard.now ready.now) buckets.old.items) + change.added) }
+        (sorted_by_key (shown_all (decoders shard.now ready.now) (buckets_of page.old)))) }
+    ensures page { OnOk result (IsPageOf (out-Agg agg.now).kind (decoders shard.now ready.now) page.new) }
+    ensures cost { IfOk result (λ change. sum_by bucket_bytes (shown_all (decoders shard.now ready.now) (buckets_of page.new)) + change.removed
+        ≡ sum_by bucket_bytes (shown_all (decoders shard.now ready.now) (buckets_of page.old)) + change.added) }
 {
     let mut change = Change {
         added: 0,
         removed: 0,
     };
     for key in keys.into_vec() {
-        let more = put_key(alloc, agg, ready, shard, rows, spare, buckets, key)?;
+        let more = put_key(alloc, agg, ready, shard, rows, spare, page, key)?;
         change = Change {
             added: sum_of(change.added, more.added)?,
             removed: sum_of(change.removed, more.removed)?,
@@ -288,24 +262,15 @@ fn put_row(
     requires in_range { row < length shard.now.rows }
     requires composite { IsComposite (out-Agg agg.now).kind }
     requires few { length (keys_of_row shard.now.rows (out-Agg agg.now).kind (row_of shard.now.rows row)) ≤ greatest_combinations }
-    requires page { IsPageOf (out-Agg agg.now).kind (decoders shard.now ready.now) page.old.buckets.items }
+    requires page { IsPageOf (out-Agg agg.now).kind (decoders shard.now ready.now) page.old }
     ensures node { OnOk result (page_node (decoders shard.now ready.now) page.new
         ≡ counted shard.now.rows agg.now (row_of shard.now.rows row ∷ []) (page_node (decoders shard.now ready.now) page.old)) }
-    ensures page { OnOk result (IsPageOf (out-Agg agg.now).kind (decoders shard.now ready.now) page.new.buckets.items) }
+    ensures page { OnOk result (IsPageOf (out-Agg agg.now).kind (decoders shard.now ready.now) page.new) }
     ensures cost { IfOk result (λ change. node_cost (page_node (decoders shard.now ready.now) page.new) + change.removed
         ≡ node_cost (page_node (decoders shard.now ready.now) page.old) + change.added) }
 {
     let keys = keys(alloc, shard, row, &agg.kind)?;
-    let change = put_keys(
-        alloc,
-        agg,
-        ready,
-        shard,
-        rows,
-        spare,
-        &mut page.buckets,
-        keys,
-    )?;
+    let change = put_keys(alloc, agg, ready, shard, rows, spare, page, keys)?;
     Ok(change)
 }
 
@@ -313,7 +278,8 @@ fn put_row(
 /// want of memory nothing is said of the page.
 ///
 /// A key outside the page takes one comparison with the last bucket of a full one. Any other is found in the logarithm of the
-/// page; one that enters moves the buckets behind it.
+/// page. One that enters moves the buckets behind it in its run, which are fewer than 128; where a run becomes so long it is
+/// parted, which moves the runs behind it, of 64 buckets or more each.
 pub fn gather_root(
     alloc: Global,
     agg: &Agg,
@@ -329,10 +295,10 @@ pub fn gather_root(
     requires in_range { row < length shard.now.rows }
     requires composite { IsComposite (out-Agg agg.now).kind }
     requires few { length (keys_of_row shard.now.rows (out-Agg agg.now).kind (row_of shard.now.rows row)) ≤ greatest_combinations }
-    requires page { IsPageOf (out-Agg agg.now).kind (decoders shard.now ready.now) page.old.buckets.items }
+    requires page { IsPageOf (out-Agg agg.now).kind (decoders shard.now ready.now) page.old }
     ensures node { OnOk result (page_node (decoders shard.now ready.now) page.new
         ≡ counted shard.now.rows agg.now (row_of shard.now.rows row ∷ []) (page_node (decoders shard.now ready.now) page.old)) }
-    ensures page { OnOk result (IsPageOf (out-Agg agg.now).kind (decoders shard.now ready.now) page.new.buckets.items) }
+    ensures page { OnOk result (IsPageOf (out-Agg agg.now).kind (decoders shard.now ready.now) page.new) }
     ensures cost { IfOk result (λ change. node_cost (page_node (decoders shard.now ready.now) page.new) + change.removed
         ≡ node_cost (page_node (decoders shard.now ready.now) page.old) + change.added) }
 {

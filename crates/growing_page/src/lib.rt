@@ -6,9 +6,7 @@ mod costs;
 mod finishing;
 mod gathering;
 pub mod laws;
-mod on_heap;
 mod page;
-mod places;
 
 pub use finishing::finish_page;
 pub use gathering::{Change, gather_root};

@@ -7,8 +7,8 @@ ghost use Rattle.composite_agg.specs.FirstPages.{empty_page, is_composite};
 ghost use Rattle.composite_agg.specs.Pages.{is_cursor};
 ghost use Rattle.growing_page.specs.GrowingPages.{IsPageOf, page_node};
 
-use crate::on_heap::OnHeap;
 use agg_model::{Key, Kind};
+use composite_agg::HasKey;
 use growing_tree::Tree;
 use std::alloc::{AllocError, Global};
 
@@ -22,10 +22,21 @@ pub(crate) struct Held {
     pub(crate) bytes: u64,
 }
 
-/// The buckets that a composite keeps of some rows: at most `size`, in the order of its sources, behind `after`.
+impl HasKey for Held {
+    ghost key_of = { λ h. h.key };
+
+    fn key(&self) -> &Key {
+        &self.key
+    }
+}
+
+/// The buckets that a composite keeps of some rows: at most `size`, in the order of its sources, behind `after`. They stand in
+/// runs of neighbours, so that one that enters moves few others.
 #[derive(Drop)]
 pub struct Page {
-    pub(crate) buckets: Vec<OnHeap<Held>>,
+    /// The number of buckets.
+    pub(crate) held: usize,
+    pub(crate) runs: Vec<Vec<Held>>,
 }
 
 impl Page {
@@ -33,13 +44,14 @@ impl Page {
     pub fn begin(alloc: Global, kind: &Kind) -> Result<Page, AllocError>
         requires composite { IsTrue (is_composite kind.now) }
         requires cursor { IsTrue (is_cursor (length (empty_page kind.now).sources) (empty_page kind.now).after) }
-        ensures page { IfOk result (λ page. (ds : AnyList (AnyNode → AnyNode)) → IsPageOf kind.now ds page.buckets.items) }
+        ensures page { IfOk result (λ page. (ds : AnyList (AnyNode → AnyNode)) → IsPageOf kind.now ds page) }
         ensures node { IfOk result (λ page. (ds : AnyList (AnyNode → AnyNode)) (agg : AnyAgg) →
             (out-Agg agg).kind ≡ kind.now → page_node ds page ≡ empty_node agg) }
     {
         match kind {
             Kind::Composite { .. } => Ok(Page {
-                buckets: Vec::new(alloc),
+                held: 0,
+                runs: Vec::new(alloc),
             }),
             _ => unreachable!(),
         }

@@ -1,15 +1,12 @@
-use Rattle.std.proofs.Common.{◌≡◌, ◌<◌, ◌∙◌, sym, ap, subst, false, length, get_or, slice_set, take, drop, List, rules}
-use Rattle.std.specs.Prelude.{IsTrue}
-use Rattle.std.specs.List.{list_all}
-use Rattle.std.specs.Ordering.{is_lt}
+use Rattle.std.proofs.Common.{◌≡◌, ◌∙◌, sym, ap, subst, false, length, slice_set, List, rules}
 use Rattle.agg_model.specs.declared.partial.Bucket.{Bucket}
 use Rattle.agg_model.specs.declared.partial.Node.{Node}
 use Rattle.agg_evaluation.specs.CompositeKeys.{is_composite_of}
 use Rattle.agg_evaluation.specs.Orders.{bucket_key}
 use Rattle.list_laws.proofs.Booleans.{holds}
-use Rattle.composite_agg.specs.FirstPages.{page_cmp}
-use Rattle.composite_agg.specs.Runs.{IsWithin, Run, in_runs, place_in}
-use Rattle.composite_agg.proofs.PageSteps.{held-at, held-not}
+use Rattle.composite_agg.specs.Runs.{IsGapFor, IsSpotOf, Run, in_runs, place_in}
+use Rattle.composite_agg.proofs.PageSteps.{held-at}
+use Rattle.composite_agg.proofs.InOrder.{absent as none-held}
 use Rattle.composite_agg.proofs.RunSteps.{children-in, with-in}
 use Rattle.composite_agg.proofs.Swapped.{none-children, none-with, other-parts}
 use Rattle.composite_agg.proofs.swapping.swap_in.Goals as goal
@@ -52,8 +49,8 @@ returns-in-Err-clause-held c =
     let sources = c.args.sources.now in
     let r = c.in-Err.field-0.run in
     let i = c.in-Err.field-0.at in
-    let absent = subst (λ (xs : List Run). (0 < length xs → IsWithin xs r i) × IsTrue (list_all (λ b. is_lt (page_cmp sources (bucket_key b) k)) (take (place_in xs r i) (in_runs xs))) × IsTrue (list_all (λ b. is_lt (page_cmp sources k (bucket_key b))) (drop (place_in xs r i) (in_runs xs)))) c.as_slice.ensures.value c.in-Err.ensures.absent in
-    let nowhere = held-not sources k bs (place_in rs r i) c.requires.order (holds _ absent.1) (holds _ absent.2) in
+    let absent = subst (λ (xs : List (Run Bucket)). IsGapFor bucket_key sources xs k c.in-Err.field-0) c.as_slice.ensures.value c.in-Err.ensures.absent in
+    let nowhere = none-held bucket_key sources k bs (place_in rs r i) (holds _ absent.before) (holds _ absent.behind) in
     sym nowhere
 
 pub returns-in-Err-clause-buckets : goal.returns-in-Err-clause-buckets
@@ -64,8 +61,8 @@ returns-in-Err-clause-buckets c =
     let sources = c.args.sources.now in
     let r = c.in-Err.field-0.run in
     let i = c.in-Err.field-0.at in
-    let absent = subst (λ (xs : List Run). (0 < length xs → IsWithin xs r i) × IsTrue (list_all (λ b. is_lt (page_cmp sources (bucket_key b) k)) (take (place_in xs r i) (in_runs xs))) × IsTrue (list_all (λ b. is_lt (page_cmp sources k (bucket_key b))) (drop (place_in xs r i) (in_runs xs)))) c.as_slice.ensures.value c.in-Err.ensures.absent in
-    let nowhere = held-not sources k bs (place_in rs r i) c.requires.order (holds _ absent.1) (holds _ absent.2) in
+    let absent = subst (λ (xs : List (Run Bucket)). IsGapFor bucket_key sources xs k c.in-Err.field-0) c.as_slice.ensures.value c.in-Err.ensures.absent in
+    let nowhere = none-held bucket_key sources k bs (place_in rs r i) (holds _ absent.before) (holds _ absent.behind) in
     sym (none-with k c.args.children.now bs nowhere)
 
 pub returns-in-Err-clause-children : goal.returns-in-Err-clause-children
@@ -76,8 +73,8 @@ returns-in-Err-clause-children c =
     let sources = c.args.sources.now in
     let r = c.in-Err.field-0.run in
     let i = c.in-Err.field-0.at in
-    let absent = subst (λ (xs : List Run). (0 < length xs → IsWithin xs r i) × IsTrue (list_all (λ b. is_lt (page_cmp sources (bucket_key b) k)) (take (place_in xs r i) (in_runs xs))) × IsTrue (list_all (λ b. is_lt (page_cmp sources k (bucket_key b))) (drop (place_in xs r i) (in_runs xs)))) c.as_slice.ensures.value c.in-Err.ensures.absent in
-    let nowhere = held-not sources k bs (place_in rs r i) c.requires.order (holds _ absent.1) (holds _ absent.2) in
+    let absent = subst (λ (xs : List (Run Bucket)). IsGapFor bucket_key sources xs k c.in-Err.field-0) c.as_slice.ensures.value c.in-Err.ensures.absent in
+    let nowhere = none-held bucket_key sources k bs (place_in rs r i) (holds _ absent.before) (holds _ absent.behind) in
     sym (none-children k c.args.children.now bs nowhere)
 
 pub returns-in-Ok-clause-held : goal.returns-in-Ok-clause-held
@@ -88,10 +85,10 @@ returns-in-Ok-clause-held c =
     let sources = c.args.sources.now in
     let r = c.in-Ok.spot.run in
     let i = c.in-Ok.spot.at in
-    let found = subst (λ (xs : List Run). IsWithin xs r i × ((d : Run) → i < length (get_or xs r d).items) × (place_in xs r i < length (in_runs xs)) × ((d : Bucket) → bucket_key (get_or (in_runs xs) (place_in xs r i) d) ≡ k)) c.as_slice.ensures.value c.in-Ok.ensures.found in
-    let v : Run = c.index_mut.result.now in
+    let found = subst (λ (xs : List (Run Bucket)). IsSpotOf bucket_key xs k c.in-Ok.spot) c.as_slice.ensures.value c.in-Ok.ensures.found in
+    let v : Run Bucket = c.index_mut.result.now in
     let b : Bucket = c.index_mut-in-Ok.result.now in
-    sym (held-at sources k bs (place_in rs r i) b found.2 (found.3 b))
+    sym (held-at sources k bs (place_in rs r i) b found.among (found.is_key b))
 
 pub returns-in-Ok-clause-buckets : goal.returns-in-Ok-clause-buckets
 returns-in-Ok-clause-buckets c =
@@ -101,10 +98,10 @@ returns-in-Ok-clause-buckets c =
     let sources = c.args.sources.now in
     let r = c.in-Ok.spot.run in
     let i = c.in-Ok.spot.at in
-    let found = subst (λ (xs : List Run). IsWithin xs r i × ((d : Run) → i < length (get_or xs r d).items) × (place_in xs r i < length (in_runs xs)) × ((d : Bucket) → bucket_key (get_or (in_runs xs) (place_in xs r i) d) ≡ k)) c.as_slice.ensures.value c.in-Ok.ensures.found in
-    let v : Run = c.index_mut.result.now in
+    let found = subst (λ (xs : List (Run Bucket)). IsSpotOf bucket_key xs k c.in-Ok.spot) c.as_slice.ensures.value c.in-Ok.ensures.found in
+    let v : Run Bucket = c.index_mut.result.now in
     let b : Bucket = c.index_mut-in-Ok.result.now in
-    with-in sources k rs r i v b c.requires.order found.0.there (found.1 v) c.index_mut.ensures.value c.index_mut-in-Ok.ensures.value (found.3 b) c.args.children.now _ (ap (λ (cs : List Node). slice_set v.items i (record b { children = cs })) c.swap.ensures.x_after)
+    with-in sources k rs r i v b c.requires.order found.place.there (found.there v) c.index_mut.ensures.value c.index_mut-in-Ok.ensures.value (found.is_key b) c.args.children.now _ (ap (λ (cs : List Node). slice_set v.items i (record b { children = cs })) c.swap.ensures.x_after)
 
 pub returns-in-Ok-clause-children : goal.returns-in-Ok-clause-children
 returns-in-Ok-clause-children c =
@@ -114,7 +111,7 @@ returns-in-Ok-clause-children c =
     let sources = c.args.sources.now in
     let r = c.in-Ok.spot.run in
     let i = c.in-Ok.spot.at in
-    let found = subst (λ (xs : List Run). IsWithin xs r i × ((d : Run) → i < length (get_or xs r d).items) × (place_in xs r i < length (in_runs xs)) × ((d : Bucket) → bucket_key (get_or (in_runs xs) (place_in xs r i) d) ≡ k)) c.as_slice.ensures.value c.in-Ok.ensures.found in
-    let v : Run = c.index_mut.result.now in
+    let found = subst (λ (xs : List (Run Bucket)). IsSpotOf bucket_key xs k c.in-Ok.spot) c.as_slice.ensures.value c.in-Ok.ensures.found in
+    let v : Run Bucket = c.index_mut.result.now in
     let b : Bucket = c.index_mut-in-Ok.result.now in
-    c.swap.ensures.y_after ∙ sym (children-in sources k rs r i v b c.requires.order found.0.there (found.1 v) c.index_mut.ensures.value c.index_mut-in-Ok.ensures.value (found.3 b) c.args.children.now)
+    c.swap.ensures.y_after ∙ sym (children-in sources k rs r i v b c.requires.order found.place.there (found.there v) c.index_mut.ensures.value c.index_mut-in-Ok.ensures.value (found.is_key b) c.args.children.now)

@@ -2,8 +2,7 @@ use Rattle.std.proofs.Common.{◌∙◌, sym, ap, length, zero-add}
 use Rattle.agg_evaluation.specs.Rows.{row_of}
 use Rattle.growing_tree.proofs.Levels.{empties-are}
 use Rattle.growth_laws.specs.Gathering.{gathered_children}
-use Rattle.growing_tree.specs.Gathered.{decoders, gatherers, rows_at}
-use Rattle.growing_page.specs.GrowingPages.{shown}
+use Rattle.growing_tree.specs.Gathered.{gatherers, rows_at}
 use Rattle.growing_page.proofs.Moves.{length-mapped}
 use Rattle.growing_page.proofs.gathering.new_bucket.Goals as goal
 
@@ -14,5 +13,4 @@ returns-clause-bucket c =
     let gs = gatherers shard c.args.aggs.now in
     let many = c.len.ensures ∙ sym (length-mapped (row_of shard.rows) c.args.rows.now) ∙ sym (zero-add (length rows)) in
     let children = c.in_ok-added.ensures.trees ∙ ap (gathered_children gs rows) (c.in_ok-children.ensures shard ∙ empties-are shard.rows c.args.aggs.now) in
-    ap (shown (decoders shard c.args.ready.now)) c.in_ok-boxed.ensures
-    ∙ (λ i. record { key = c.args.key; count = many i; covered = 0; children = children i })
+    (λ i. record { key = c.args.key; count = many i; covered = 0; children = children i })

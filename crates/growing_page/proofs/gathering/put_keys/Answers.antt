@@ -4,7 +4,7 @@ use Rattle.agg_model.specs.declared.partial.Bucket.{Bucket}
 use Rattle.agg_evaluation.specs.Shard.{sorted_by_key}
 use Rattle.growth_laws.specs.Gathering.{kept_buckets, put_rows}
 use Rattle.growing_tree.specs.Gathered.{decoders, gatherers, rows_at}
-use Rattle.growing_page.specs.GrowingPages.{shown_all}
+use Rattle.growing_page.specs.GrowingPages.{buckets_of, shown_all}
 use Rattle.growing_page.proofs.Finals.{groups-more}
 use Rattle.growing_page.proofs.gathering.put_keys.Goals as goal
 
@@ -22,7 +22,7 @@ loop-key-preserved c =
     (record {
       buckets =
           more.buckets ∙ ap (λ (bs : List Bucket). kept_buckets k (put_rows gs rows q bs)) before.buckets
-          ∙ sym (groups-more rows gs k c.loop-key.yielded q (sorted_by_key (shown_all (decoders shard c.args.ready.now) c.args.buckets.now.items)));
+          ∙ sym (groups-more rows gs k c.loop-key.yielded q (sorted_by_key (shown_all (decoders shard c.args.ready.now) (buckets_of c.args.page.now))));
       page = more.page;
       cost = omega (arith, before.cost, more.cost, added, removed);
     })

@@ -11,7 +11,7 @@ use Rattle.agg_evaluation.specs.Shard.{sorted_by_key}
 use Rattle.growth_laws.specs.Gathering.{put_groups}
 use Rattle.list_laws.proofs.Booleans.{true_is}
 use Rattle.growing_tree.specs.Gathered.{decoders, gatherers, rows_at}
-use Rattle.growing_page.specs.GrowingPages.{shown_all, sources_of}
+use Rattle.growing_page.specs.GrowingPages.{buckets_of, shown_all, sources_of}
 use Rattle.growing_page.proofs.Finals.{counted-row, composite-is, page-cost, row-parts}
 use Rattle.growing_page.proofs.gathering.put_row.Goals as goal
 
@@ -28,7 +28,7 @@ returns-clause-node c =
     let k = (out-Agg a).kind in
     let gs = gatherers shard (out-Agg a).children in
     let r = row_of shard.rows c.args.row in
-    let bs = sorted_by_key (shown_all (decoders shard c.args.ready.now) c.args.page.now.buckets.items) in
+    let bs = sorted_by_key (shown_all (decoders shard c.args.ready.now) (buckets_of c.args.page.now)) in
     let rows_are = ap (rows_at shard) c.requires.alone in
     ap (λ (xs : List Bucket). Keyed xs 0 0 0)
     (c.in_ok-change.ensures.buckets ∙ ap (λ (rs : List PlacedRow). put_groups (λ q. rs) gs k c.in_ok-keys.keys bs) rows_are
@@ -38,7 +38,7 @@ returns-clause-node c =
 pub returns-clause-cost : goal.returns-clause-cost
 returns-clause-cost c =
     let ds = decoders c.args.shard.now c.args.ready.now in
-    let before = page-cost (shown_all ds c.args.page.now.buckets.items) in
-    let after = page-cost (shown_all ds c.put_keys.new.buckets.items) in
+    let before = page-cost (shown_all ds (buckets_of c.args.page.now)) in
+    let after = page-cost (shown_all ds (buckets_of c.put_keys.new.page)) in
     let all = c.in_ok-change.ensures.cost in
     omega (arith, before, after, all)

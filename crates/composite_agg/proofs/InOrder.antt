@@ -10,16 +10,9 @@ use Rattle.agg_model.specs.declared.aggregation.CompositeSource.{CompositeSource
 use Rattle.agg_model.specs.declared.key.Key.{Key}
 use Rattle.agg_evaluation.specs.KeyOrder.{has_key}
 use Rattle.list_laws.proofs.Booleans.{and_left, and_false, and_right, and_true, both, holds, true_is}
-use Rattle.composite_agg.specs.FirstPages.{page_cmp}
+use Rattle.composite_agg.specs.InOrder.{IsInOrder, all_before, all_behind, page_cmp}
 use Rattle.composite_agg.proofs.PageSteps.{differs, differs_back, greater_back}
-use Rattle.composite_agg.proofs.PlaceOrder.{before_trans}
-use Rattle.growing_page.specs.GrowingPages.{IsInOrder, all_before, all_behind}
-
--- a test that holds of all holds at each place
-pub at : {A : Type 0} (p : A → Bool) (xs : List A) (i : ℕ) (d : A) → i < length xs → T (list_all p xs) → T (p (get_or xs i d))
-at p [] i d below all = absurd (omega (arith, below))
-at p (x ∷ xs) zero d below all = and_left _ _ all
-at p (x ∷ xs) (suc i) d below all = at p xs i d (omega (arith, below)) (and_right _ _ all)
+use Rattle.composite_agg.proofs.PlaceOrder.{at, before_trans}
 
 pub all-take : {A : Type 0} (p : A → Bool) (xs : List A) (n : ℕ) → T (list_all p xs) → T (list_all p (take n xs))
 all-take p [] zero all = tt
