@@ -15,3 +15,4 @@ pub mod RunOrder
 pub mod RunSteps
 mod PageExample
 mod OnlyKeys
+mod LaterKeys

@@ -6,4 +6,5 @@ pub mod InOrder
 pub mod FirstPages
 pub mod PageCodes
 pub mod Runs
+pub mod OnlyParts
 pub mod PageExample

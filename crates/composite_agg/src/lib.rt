@@ -2,6 +2,7 @@
 //! 'Composite aggregation').
 #![tactic(auto)]
 
+mod behind;
 mod first_keys;
 mod keyed;
 pub mod laws;
@@ -14,6 +15,7 @@ mod row_keys;
 pub mod runs;
 mod swapping;
 
+pub use behind::are_behind;
 pub use first_keys::FirstKeys;
 pub use keyed::HasKey;
 pub use offered::Offered;

@@ -1,7 +1,7 @@
 //! Items in the order of a composite's sources, in runs of neighbours, so that one that enters moves few others.
 ghost use Rattle.std.specs.Prelude.{◌≡◌, ◌<◌, ◌+◌, ◌++◌, [], ◌∷◌, IfOk, IfErr, OnOk, OnErr, IsTrue, true};
-ghost use Rattle.std.specs.Prelude.{is_some, nat_le, option_to_list, length, take, drop};
-ghost use Rattle.std.specs.List.{insert, list_all};
+ghost use Rattle.std.specs.Prelude.{is_some, nat_le, option_copied, option_map, option_to_list, length, take, drop, None};
+ghost use Rattle.std.specs.List.{insert, last_or, list_all};
 ghost use Rattle.agg_evaluation.specs.CompositeKeys.{is_composite_of};
 ghost use Rattle.composite_agg.specs.InOrder.{IsInOrder, all_before, all_behind, is_kept_out};
 ghost use Rattle.composite_agg.specs.Runs.{AreFilled, IsGapFor, IsSpotOf, IsWithin, in_runs, place_in};
@@ -20,6 +20,26 @@ const LONGEST: usize = 128;
 pub struct Spot {
     pub run: usize,
     pub at: usize,
+}
+
+/// The key of the last item, if there is any.
+pub fn last_key<T: HasKey>(runs: &[Vec<T>]) -> Option<&Key>
+    requires filled { AreFilled runs.now }
+    ensures { option_copied result ≡ option_map T.key_of (last_or None (in_runs runs.now)) }
+{
+    match runs.last() {
+        Some(run) => last_key_of(run.as_slice()),
+        None => None,
+    }
+}
+
+fn last_key_of<T: HasKey>(items: &[T]) -> Option<&Key>
+    ensures { option_copied result ≡ option_map T.key_of (last_or None items.now) }
+{
+    match items.last() {
+        Some(last) => Some(last.key()),
+        None => None,
+    }
 }
 
 // Whether a key comes after all items, by one comparison with the last.

@@ -24,8 +24,8 @@ ghost use Rattle.growing_page.specs.GrowingPages.{IsCosted, IsPageOf, buckets_of
 use crate::costs::{bytes_of_bucket, sum_of};
 use crate::page::{Held, Page};
 use agg_model::{Agg, Key, Kind, List};
-use composite_agg::keys;
-use composite_agg::runs::{Spot, enter, find_spot, is_outside};
+use composite_agg::runs::{Spot, enter, find_spot, is_outside, last_key};
+use composite_agg::{are_behind, keys};
 use growing_tree::{Ready, begin_trees, gather_children};
 use shard_columns::Shard;
 use std::alloc::{AllocError, Global};
@@ -62,6 +62,25 @@ fn is_refused_by(kind: &Kind, page: &Page, key: &Key) -> bool
             after,
         } => is_outside(sources, *size, after, page.held, page.runs.as_slice(), key),
         _ => unreachable!(),
+    }
+}
+
+// Whether the page is full and all keys of a row come after its last bucket, as those of most rows do. No key is built to tell it.
+fn are_all_refused(shard: &Shard, row: u32, kind: &Kind, page: &Page) -> bool
+    requires built { IsShard shard.now }
+    requires in_range { row < length shard.now.rows }
+    requires composite { IsComposite kind.now }
+    requires order { IsInOrder held_key (sources_of kind.now) (buckets_of page.now) }
+    requires filled { AreFilled page.now.runs.items }
+    requires held { page.now.held ≡ length (buckets_of page.now) }
+    ensures { IsTrue result → T (list_all (is_refused (empty_page kind.now) (buckets_of page.now))
+        (keys_of_row shard.now.rows kind.now (row_of shard.now.rows row))) }
+{
+    match (kind, last_key(page.runs.as_slice())) {
+        (Kind::Composite { size, .. }, Some(last)) => {
+            page.held >= *size as usize && are_behind(shard, row, kind, last)
+        }
+        _ => false,
     }
 }
 
@@ -277,7 +296,7 @@ fn put_row(
 /// The page with one more row that the composite counts, and what that makes of its cost. The row has at most 65,536 keys. After
 /// want of memory nothing is said of the page.
 ///
-/// A key outside the page takes one comparison with the last bucket of a full one. Any other is found in the logarithm of the
+/// A key outside the page takes one comparison with the last bucket of a full one, mostly before it is built. Any other is found in the logarithm of the
 /// page. One that enters moves the buckets behind it in its run, which are fewer than 128; where a run becomes so long it is
 /// parted, which moves the runs behind it, of 64 buckets or more each.
 pub fn gather_root(
@@ -302,6 +321,12 @@ pub fn gather_root(
     ensures cost { IfOk result (λ change. node_cost (page_node (decoders shard.now ready.now) page.new) + change.removed
         ≡ node_cost (page_node (decoders shard.now ready.now) page.old) + change.added) }
 {
+    if are_all_refused(shard, row, &agg.kind, page) {
+        return Ok(Change {
+            added: 0,
+            removed: 0,
+        });
+    }
     let rows = one_row(alloc, row)?;
     put_row(alloc, agg, ready, shard, row, &rows, spare, page)
 }
