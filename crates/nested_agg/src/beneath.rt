@@ -7,7 +7,8 @@ use shard_columns::Shard;
 use std::alloc::{AllocError, Global};
 
 /// The rows at a nested path within each of the rows, on all levels, in the order of the rows and then of the shard; a row at
-/// that path lies within itself. Each row that is found takes time by the logarithm of the rows at the path.
+/// that path lies within itself. Each of the rows takes time by the logarithm of the rows at the path, and each that is found a
+/// constant time.
 pub fn rows_beneath(
     alloc: Global,
     shard: &Shard,
@@ -19,11 +20,9 @@ pub fn rows_beneath(
         ≡ flat_map (beneath shard.now.rows (path + 1)) (map (row_of shard.now.rows) rows.now)) }
     ensures in_range { IfOk result (λ found. All (λ n. n < length shard.now.rows) found) }
 {
-    let mut found = List::new(alloc);
+    let mut found = Vec::new(alloc);
     for row in rows.as_slice() {
-        for place in 0..shard.child_count(*row, path) {
-            found.push(shard.child(*row, path, place))?;
-        }
+        found.extend_from_slice(shard.children(*row, path))?;
     }
-    Ok(found)
+    Ok(List::from_vec(found))
 }

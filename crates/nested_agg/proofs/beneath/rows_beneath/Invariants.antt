@@ -1,13 +1,8 @@
-use Rattle.std.proofs.Common.{◌≡◌, ◌<◌, ◌+◌, ◌++◌, All, flat_map, length, map, take}
+use Rattle.std.proofs.Common.{◌≡◌, ◌<◌, ◌+◌, All, flat_map, length, map, take}
 use Rattle.agg_evaluation.specs.Rows.{beneath, row_of}
 use Rattle.nested_agg.proofs.beneath.rows_beneath.Given as goal
 
-abbrev pub invariant-loop-place : goal.invariant-loop-place
-invariant-loop-place l =
-    (map (row_of l.shard.rows) l.found ≡ flat_map (beneath l.shard.rows (l.path + 1)) (map (row_of l.shard.rows) (take l.row-index l.row-items)) ++ take l.place (beneath l.shard.rows (l.path + 1) (row_of l.shard.rows l.row)))
-    × All (λ n. n < length l.shard.rows) l.found
-
 abbrev pub invariant-loop-row : goal.invariant-loop-row
 invariant-loop-row l =
-    (map (row_of l.shard.rows) l.found ≡ flat_map (beneath l.shard.rows (l.path + 1)) (map (row_of l.shard.rows) (take l.row-index l.row-items)))
-    × All (λ n. n < length l.shard.rows) l.found
+    (map (row_of l.shard.rows) l.found.items ≡ flat_map (beneath l.shard.rows (l.path + 1)) (map (row_of l.shard.rows) (take l.row-index l.row-items)))
+    × All (λ n. n < length l.shard.rows) l.found.items
