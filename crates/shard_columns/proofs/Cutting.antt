@@ -1,10 +1,7 @@
 -- Texts behind one another in one list of bytes.
-use Rattle.std.proofs.Common.{◌≡◌, refl, ℕ, ◌+◌, ◌<◌, ◌≤◌, zero, suc, List, [], ◌∷◌, ◌++◌, length, get_or, take, sym, ◌∙◌, ap, subst, arith, length-append}
+use Rattle.std.proofs.Common.{◌≡◌, refl, ℕ, ◌+◌, ◌<◌, ◌≤◌, zero, suc, List, [], ◌∷◌, ◌++◌, length, get_or, sym, ◌∙◌, ap, subst, arith, length-append}
 use Rattle.std.specs.List.{slice_range}
-use Rattle.std.proofs.lemmas.List.{get_or_past, map-append}
-use Rattle.agg_model.specs.declared.row.Document.{Document}
-use Rattle.shard_columns.specs.Layout.{ids_of}
-use Rattle.shard_columns.proofs.Laying.{take-next}
+use Rattle.std.proofs.lemmas.List.{get_or_past}
 use Rattle.shard_columns.specs.Ids.{texts_from, texts_between, EndIn, AreCut}
 use Rattle.shard_columns.proofs.Storing.{slice_range-stays, slice_range-seam}
 
@@ -62,18 +59,19 @@ pub some-start : (starts : List ℕ) (size : ℕ) → AreCut starts size → 1 �
 some-start [] size cut = absurd cut
 some-start (start ∷ more) size cut = omega arith
 
-pub ids-none : (bytes starts : List ℕ) (documents : List Document) → bytes ≡ [] → starts ≡ 0 ∷ [] → (texts_between bytes starts ≡ ids_of (take 0 documents)) × AreCut starts (length bytes)
-unfolding texts_from EndIn
-ids-none bytes starts documents none one =
-    subst (λ (ss : List ℕ). (texts_between bytes ss ≡ ids_of (take 0 documents)) × AreCut ss (length bytes)) (sym one)
-    (subst (λ (bs : List ℕ). (texts_between bs (0 ∷ []) ≡ ids_of (take 0 documents)) × AreCut (0 ∷ []) (length bs)) (sym none) (refl, refl))
+pub length-between : (bytes starts : List ℕ) (size : ℕ) → AreCut starts size → length (texts_between bytes starts) + 1 ≡ length starts
+length-between bytes [] size cut = absurd cut
+length-between bytes (start ∷ more) size cut = omega (arith, length-from start bytes more)
 
--- the id of one more document
-pub ids-more : (bytes more id starts next : List ℕ) (documents : List Document) (n : ℕ) (d : Document) → n < length documents → d ≡ get_or documents n d → id ≡ d.id → more ≡ bytes ++ id → next ≡ starts ++ length more ∷ [] →
-    (texts_between bytes starts ≡ ids_of (take n documents)) × AreCut starts (length bytes) → (texts_between more next ≡ ids_of (take (n + 1) documents)) × AreCut next (length more)
-ids-more bytes more id starts next documents n d below is id_is more_is next_is so_far =
-    let pushed = push-between bytes id starts so_far.1 in
-    let ids : ids_of (take (n + 1) documents) ≡ ids_of (take n documents) ++ d.id ∷ [] = ap ids_of (take-next documents n d below is) ∙ map-append (λ (e : Document). e.id) (take n documents) (d ∷ []) in
-    let whole : texts_between (bytes ++ id) (starts ++ length (bytes ++ id) ∷ []) ≡ ids_of (take (n + 1) documents) = pushed.0 ∙ ((λ i. so_far.0 i ++ id_is i ∷ []) ∙ sym ids) in
-    subst (λ (ss : List ℕ). (texts_between more ss ≡ ids_of (take (n + 1) documents)) × AreCut ss (length more)) (sym next_is)
-    (subst (λ (bs : List ℕ). (texts_between bs (starts ++ length bs ∷ []) ≡ ids_of (take (n + 1) documents)) × AreCut (starts ++ length bs ∷ []) (length bs)) (sym more_is) (whole, pushed.1))
+pub no-texts : (bytes starts : List ℕ) → bytes ≡ [] → starts ≡ 0 ∷ [] → (texts_between bytes starts ≡ []) × AreCut starts (length bytes)
+unfolding texts_from EndIn
+no-texts bytes starts none one =
+    subst (λ (ss : List ℕ). (texts_between bytes ss ≡ []) × AreCut ss (length bytes)) (sym one)
+    (subst (λ (bs : List ℕ). (texts_between bs (0 ∷ []) ≡ []) × AreCut (0 ∷ []) (length bs)) (sym none) (refl, refl))
+
+-- one more text behind the others
+pub one-more : (bytes more id starts next : List ℕ) → more ≡ bytes ++ id → next ≡ starts ++ length more ∷ [] → AreCut starts (length bytes) →
+    (texts_between more next ≡ texts_between bytes starts ++ id ∷ []) × AreCut next (length more)
+one-more bytes more id starts next more_is next_is cut =
+    subst (λ (ss : List ℕ). (texts_between more ss ≡ texts_between bytes starts ++ id ∷ []) × AreCut ss (length more)) (sym next_is)
+    (subst (λ (bs : List ℕ). (texts_between bs (starts ++ length bs ∷ []) ≡ texts_between bytes starts ++ id ∷ []) × AreCut (starts ++ length bs ∷ []) (length bs)) (sym more_is) (push-between bytes id starts cut))

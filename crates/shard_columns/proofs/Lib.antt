@@ -7,6 +7,7 @@ pub mod Cutting
 pub mod Drafting
 pub mod Finishing
 pub mod Filling
+pub mod Growing
 pub mod Presenting
 pub mod Ascending
 pub mod Noting
@@ -20,5 +21,6 @@ pub mod Numbering
 pub mod Weighing
 pub mod Givens
 pub mod Making
+pub mod Pushing
 pub mod Indexing
 pub mod Parents

@@ -1,7 +1,9 @@
 -- Words that are met: each keeps its number, and no two have one number.
-use Rattle.std.proofs.Common.{T, Bool, true, false, cond, eqb, eq-eqb, flat_map, zero, suc, ◌≡◌, ◌≢◌, refl, ℕ, ◌<◌, ◌≤◌, List, [], ◌∷◌, ◌++◌, map, length, get_or, set, sym, ◌∙◌, ap, subst, arith, Contains, inl, inr, Bor, Option, None, Some, unwrap_or}
+use Rattle.std.proofs.Common.{T, Bool, true, false, cond, eqb, eq-eqb, flat_map, zero, suc, ◌≡◌, ◌≢◌, refl, ℕ, ◌<◌, ◌≤◌, List, [], ◌∷◌, ◌++◌, map, length, get_or, set, sym, ◌∙◌, ap, subst, arith, Contains, inl, inr, Option, None, Some, unwrap_or}
 use Rattle.std.specs.Prelude.{◌&&◌, ◌⊎◌, IsSome}
 use Rattle.std.specs.Str.{bytes_eq}
+use Rattle.std.specs.Prelude.{String}
+use Rattle.std.specs.declared.alloc.Global.{Global}
 use Rattle.std.specs.BTreeMap.{BTreeMap}
 use Rattle.std.proofs.lemmas.List.{append-nil, length-map, map-set, get_or-map, length-set, get_or-set_same, get_or-set_other}
 use Rattle.std.proofs.lemmas.List.Elements.{Contains-append_left, Contains-append_right, Contains-append_cases}
@@ -112,7 +114,7 @@ both-true true b p q = q
 both-true false b p q = absurd (cc p)
 
 abbrev Word : Type 0
-Word = Bor (List ℕ)
+Word = String Global
 
 abbrev IsIt : ℕ → List ℕ → ℕ → List ℕ → Type 0
 IsIt field word f w = (f ≡ field) × (w ≡ word)

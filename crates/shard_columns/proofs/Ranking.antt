@@ -1,7 +1,8 @@
 -- The words of ordered maps, and their places by number.
-use Rattle.std.proofs.Common.{T, Bool, true, false, cond, eqb, eq-eqb, flat_map, zero, suc, ◌≡◌, ◌≢◌, refl, ℕ, ◌+◌, ◌<◌, ◌≤◌, List, [], ◌∷◌, ◌++◌, map, length, get_or, set, sym, ◌∙◌, ap, subst, arith, length-append, Contains, inl, inr, Bor, Option, None, Some}
+use Rattle.std.proofs.Common.{T, Bool, true, false, cond, eqb, eq-eqb, flat_map, zero, suc, ◌≡◌, ◌≢◌, refl, ℕ, ◌+◌, ◌<◌, ◌≤◌, List, [], ◌∷◌, ◌++◌, map, length, get_or, set, sym, ◌∙◌, ap, subst, arith, length-append, Contains, inl, inr, Option, None, Some}
 use Rattle.std.specs.Prelude.{◌⊎◌, ◌^◌, pos, IsSome, slice_get, unwrap_or, Vec}
 use Rattle.std.specs.declared.alloc.Global.{Global}
+use Rattle.std.specs.Prelude.{String, string_bytes}
 use Rattle.std.specs.Option.{option_map_or}
 use Rattle.std.specs.Ordering.{nat_cmp, is_eq}
 use Rattle.std.specs.declared.cmp.Ordering.{Ordering}
@@ -28,7 +29,7 @@ use Rattle.shard_columns.specs.Words.{Entries, number_in, number_of, words_among
 use Rattle.shard_columns.proofs.Storing.{kind-same-words}
 
 abbrev Word : Type 0
-Word = Bor (List ℕ)
+Word = String Global
 
 slice_get-front : {X : Type 0} (xs ys : List X) (i : ℕ) (x : X) → slice_get xs i ≡ Some x → slice_get (xs ++ ys) i ≡ Some x
 slice_get-front [] ys i x is = absurd (cc is)
@@ -62,17 +63,17 @@ at-itself w = ap is_eq (tied_itself nat_list_cmp_total w)
 
 number-front : (es fs : Entries) (w : List ℕ) (n : ℕ) → number_in es w ≡ Some n → number_in (es ++ fs) w ≡ Some n
 number-front [] fs w n is = absurd (cc is)
-number-front (e ∷ es) fs w n is = elim (cond-some (is_eq (slice_cmp nat_cmp w e.0.now)) e.1 n (number_in es w) is) [
+number-front (e ∷ es) fs w n is = elim (cond-some (is_eq (slice_cmp nat_cmp w (string_bytes e.0))) e.1 n (number_in es w) is) [
   | inl here ↦ ap (λ (b : Bool). cond b (Some e.1) (number_in (es ++ fs) w)) here.0 ∙ ap Some here.1
   | inr later ↦ ap (λ (b : Bool). cond b (Some e.1) (number_in (es ++ fs) w)) later.0 ∙ number-front es fs w n later.1
 ]
 
-number-last : (es : Entries) (k : Word) (m : ℕ) (w : List ℕ) (n : ℕ) → number_in (es ++ (k, m) ∷ []) w ≡ Some n → (number_in es w ≡ Some n) ⊎ ((w ≡ k.now) × (m ≡ n))
-number-last [] k m w n is = elim (cond-some (is_eq (slice_cmp nat_cmp w k.now)) m n None is) [
-  | inl here ↦ inr (is-at w k.now here.0, here.1)
+number-last : (es : Entries) (k : Word) (m : ℕ) (w : List ℕ) (n : ℕ) → number_in (es ++ (k, m) ∷ []) w ≡ Some n → (number_in es w ≡ Some n) ⊎ ((w ≡ (string_bytes k)) × (m ≡ n))
+number-last [] k m w n is = elim (cond-some (is_eq (slice_cmp nat_cmp w (string_bytes k))) m n None is) [
+  | inl here ↦ inr (is-at w (string_bytes k) here.0, here.1)
   | inr later ↦ absurd (cc later.1)
 ]
-number-last (e ∷ es) k m w n is = elim (cond-some (is_eq (slice_cmp nat_cmp w e.0.now)) e.1 n (number_in (es ++ (k, m) ∷ []) w) is) [
+number-last (e ∷ es) k m w n is = elim (cond-some (is_eq (slice_cmp nat_cmp w (string_bytes e.0))) e.1 n (number_in (es ++ (k, m) ∷ []) w) is) [
   | inl here ↦ inl (ap (λ (b : Bool). cond b (Some e.1) (number_in es w)) here.0 ∙ ap Some here.1)
   | inr later ↦ elim (number-last es k m w n later.1) [
     | inl front ↦ inl (ap (λ (b : Bool). cond b (Some e.1) (number_in es w)) later.0 ∙ front)
@@ -83,8 +84,8 @@ number-last (e ∷ es) k m w n is = elim (cond-some (is_eq (slice_cmp nat_cmp w 
 -- the words of a map are those with a number
 word-numbered : (es : Entries) (w : List ℕ) (n : ℕ) → number_in es w ≡ Some n → Contains (words_among es) w
 word-numbered [] w n is = absurd (cc is)
-word-numbered (e ∷ es) w n is = elim (cond-some (is_eq (slice_cmp nat_cmp w e.0.now)) e.1 n (number_in es w) is) [
-  | inl here ↦ (0, omega arith, sym (is-at w e.0.now here.0))
+word-numbered (e ∷ es) w n is = elim (cond-some (is_eq (slice_cmp nat_cmp w (string_bytes e.0))) e.1 n (number_in es w) is) [
+  | inl here ↦ (0, omega arith, sym (is-at w (string_bytes e.0) here.0))
   | inr later ↦ (let rest = word-numbered es w n later.1 in (suc rest.0, (let within = rest.1 in omega (arith, within)), rest.2))
 ]
 
@@ -99,7 +100,7 @@ some-either false x o is = is
 number-there : (es : Entries) (w : List ℕ) (k : ℕ) → k < length (words_among es) → get_or (words_among es) k w ≡ w → IsSome (number_in es w)
 number-there [] w k below is = absurd (omega arith)
 number-there (e ∷ es) w zero below is = subst (λ (b : Bool). IsSome (cond b (Some e.1) (number_in es w))) (sym (ap (λ (v : List ℕ). is_eq (slice_cmp nat_cmp w v)) is ∙ at-itself w)) refl
-number-there (e ∷ es) w (suc k) below is = some-either (is_eq (slice_cmp nat_cmp w e.0.now)) e.1 (number_in es w) (number-there es w k (omega arith) is)
+number-there (e ∷ es) w (suc k) below is = some-either (is_eq (slice_cmp nat_cmp w (string_bytes e.0))) e.1 (number_in es w) (number-there es w k (omega arith) is)
 
 pub number-has : (es : Entries) (w : List ℕ) → Contains (words_among es) w → IsSome (number_in es w)
 number-has es w has = number-there es w has.0 has.1 has.2
@@ -118,33 +119,33 @@ same-or-other : (m n : ℕ) (b : Bool) → eqb n m ≡ b → (n ≡ m) ⊎ (n �
 same-or-other m n true e = inl (eqb_yes (subst T (sym e) tt))
 same-or-other m n false e = inr (λ (h : n ≡ m). absurd (cc (sym (eq-eqb n m h) ∙ e)))
 
-pub Ranked-push : (all so_far rest : Entries) (k : Word) (m : ℕ) (words : Words) (old now : List ℕ) → AreApart (length old) all → all ≡ so_far ++ rest → number_in all k.now ≡ Some m →
-    IsRankedSoFar all so_far words old now → IsRankedSoFar all (so_far ++ (k, m) ∷ []) (words ++ k.now ∷ []) old (set now m (length words))
+pub Ranked-push : (all so_far rest : Entries) (k : Word) (m : ℕ) (words : Words) (old now : List ℕ) → AreApart (length old) all → all ≡ so_far ++ rest → number_in all (string_bytes k) ≡ Some m →
+    IsRankedSoFar all so_far words old now → IsRankedSoFar all (so_far ++ (k, m) ∷ []) (words ++ (string_bytes k) ∷ []) old (set now m (length words))
 Ranked-push all so_far rest k m words old now apart split found s =
-    let low : m < length now = (let l = apart.below m k.now found in let e = s.sizes in omega (arith, l, e)) in
+    let low : m < length now = (let l = apart.below m (string_bytes k) found in let e = s.sizes in omega (arith, l, e)) in
     let rank : get_or (set now m (length words)) m 0 ≡ length words = get_or-set_same now m (length words) 0 low in
-    let here : slice_get (words ++ k.now ∷ []) (get_or (set now m (length words)) m 0) ≡ Some k.now = ap (slice_get (words ++ k.now ∷ [])) rank ∙ slice_get-seam words k.now in
+    let here : slice_get (words ++ (string_bytes k) ∷ []) (get_or (set now m (length words)) m 0) ≡ Some (string_bytes k) = ap (slice_get (words ++ (string_bytes k) ∷ [])) rank ∙ slice_get-seam words (string_bytes k) in
     record {
-      words_are = ap (λ (ws : Words). ws ++ k.now ∷ []) s.words_are ∙ sym (map-append (λ (e : Word × ℕ). e.0.now) so_far ((k, m) ∷ []));
+      words_are = ap (λ (ws : Words). ws ++ (string_bytes k) ∷ []) s.words_are ∙ sym (map-append (λ (e : Word × ℕ). (string_bytes e.0)) so_far ((k, m) ∷ []));
       sizes = length-set now m (length words) ∙ s.sizes;
       placed = λ n w is. elim (number-last so_far k m w n is) [
         | inl front ↦ elim (same-or-other m n (eqb n m) refl) [
-          | inl same ↦ (let w_is : w ≡ k.now = apart.apart m w k.now (ap (λ (es : Entries). number_in es w) split ∙ (number-front so_far rest w n front ∙ ap Some same)) found in
-              ap (λ (r : ℕ). slice_get (words ++ k.now ∷ []) (get_or (set now m (length words)) r 0)) same ∙ (here ∙ ap Some (sym w_is)))
-          | inr other ↦ ap (slice_get (words ++ k.now ∷ [])) (get_or-set_other now m n (length words) 0 other) ∙ slice_get-front words (k.now ∷ []) (get_or now n 0) w (s.placed n w front)
+          | inl same ↦ (let w_is : w ≡ (string_bytes k) = apart.apart m w (string_bytes k) (ap (λ (es : Entries). number_in es w) split ∙ (number-front so_far rest w n front ∙ ap Some same)) found in
+              ap (λ (r : ℕ). slice_get (words ++ (string_bytes k) ∷ []) (get_or (set now m (length words)) r 0)) same ∙ (here ∙ ap Some (sym w_is)))
+          | inr other ↦ ap (slice_get (words ++ (string_bytes k) ∷ [])) (get_or-set_other now m n (length words) 0 other) ∙ slice_get-front words ((string_bytes k) ∷ []) (get_or now n 0) w (s.placed n w front)
         ]
-        | inr last ↦ ap (λ (r : ℕ). slice_get (words ++ k.now ∷ []) (get_or (set now m (length words)) r 0)) (sym last.1) ∙ (here ∙ ap Some (sym last.0))
+        | inr last ↦ ap (λ (r : ℕ). slice_get (words ++ (string_bytes k) ∷ []) (get_or (set now m (length words)) r 0)) (sym last.1) ∙ (here ∙ ap Some (sym last.0))
       ];
       others = λ n none.
-          let other : n ≢ m = λ (h : n ≡ m). none k.now (found ∙ ap Some (sym h)) in
+          let other : n ≢ m = λ (h : n ≡ m). none (string_bytes k) (found ∙ ap Some (sym h)) in
           get_or-set_other now m n (length words) 0 other ∙ s.others n none;
     }
 
-after-words : (k : Word) (es : Entries) → AllByRecursion (λ (y : Word). slice_cmp nat_cmp k.now y.now ≡ Less) (map (λ e. e.0) es) → AllByRecursion (λ v. slice_cmp nat_cmp k.now v ≡ Less) (words_among es)
+after-words : (k : Word) (es : Entries) → AllByRecursion (λ (y : Word). slice_cmp nat_cmp (string_bytes k) (string_bytes y) ≡ Less) (map (λ e. e.0) es) → AllByRecursion (λ v. slice_cmp nat_cmp (string_bytes k) v ≡ Less) (words_among es)
 after-words k [] after = after
 after-words k (e ∷ es) after = (after.0, after-words k es after.1)
 
-pub words-strict : (es : Entries) → IsStrictlySortedBy (λ (v w : Word). slice_cmp nat_cmp v.now w.now) (map (λ e. e.0) es) → IsStrictlySortedBy (slice_cmp nat_cmp) (words_among es)
+pub words-strict : (es : Entries) → IsStrictlySortedBy (λ (v w : Word). slice_cmp nat_cmp (string_bytes v) (string_bytes w)) (map (λ e. e.0) es) → IsStrictlySortedBy (slice_cmp nat_cmp) (words_among es)
 unfolding IsStrictlySortedBy
 words-strict [] strict = strict
 words-strict (e ∷ es) strict = (after-words e.0 es strict.0, words-strict es strict.1)

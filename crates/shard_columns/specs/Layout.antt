@@ -1,5 +1,5 @@
 -- The rows that a list of entries stands for: an entry tells a row's document and its place beneath an earlier row.
-use Rattle.std.specs.Prelude.{◌≡◌, ℕ, ◌+◌, ◌==◌, if◌then◌else◌, List, [], ◌∷◌, ◌++◌, map, slice_index_or}
+use Rattle.std.specs.Prelude.{◌≡◌, ℕ, ◌+◌, ◌==◌, if◌then◌else◌, List, [], ◌∷◌, ◌++◌, map, length, slice_index_or}
 use Rattle.agg_model.specs.declared.row.FieldValues.{FieldValues}
 use Rattle.agg_model.specs.declared.row.Row.{Row}
 use Rattle.agg_model.specs.declared.row.Children.{Children}
@@ -42,6 +42,14 @@ pub record AddsRow (old new : List Laid) (row : Row) (entry : Entry) : Type 0 wh
 pub record AddsChildren (old new : List Laid) (children : Children) (document parent : ℕ) : Type 0 where
   pub added : (ids : List (List ℕ)) → flat_rows ids new ≡ flat_rows ids old
       ++ children_of children (slice_index_or ids document []) (slice_index_or (flat_rows ids old) parent no_row).place
+
+-- whatever rows of other documents stand before these, so many together
+abbrev pub AddsRowBehind : ℕ → List Laid → List Laid → Row → Entry → Type 0
+AddsRowBehind count old new row entry = (before : List Laid) → length (before ++ old) ≡ count → AddsRow (before ++ old) (before ++ new) row entry
+
+abbrev pub AddsChildrenBehind : ℕ → List Laid → List Laid → Children → ℕ → ℕ → Type 0
+AddsChildrenBehind count old new children document parent =
+    (before : List Laid) → length (before ++ old) ≡ count → AddsChildren (before ++ old) (before ++ new) children document parent
 
 abbrev pub ids_of : List Document → List (List ℕ)
 ids_of documents = map (λ d. d.id) documents

@@ -7,6 +7,7 @@ pub mod Columnar
 pub mod Stored
 pub mod Words
 pub mod Storing
+pub mod Drafted
 pub mod Columns
 pub mod Shard
 pub mod Given

@@ -1,6 +1,7 @@
 -- The words that are met in rows: each word of a field has a number of its own, and later its place in a dictionary.
 use Rattle.std.specs.Prelude.{◌≡◌, ◌≢◌, ◌⊎◌, ◌∷◌, ℕ, ◌<◌, ◌==◌, if◌then◌else◌, List, [], length, slice_index_or, slice_get, flat_map, map, Option, None, Some, IsSome, Contains}
-use Rattle.std.specs.Borrow.{Bor}
+use Rattle.std.specs.declared.alloc.Global.{Global}
+use Rattle.std.specs.Prelude.{String, string_bytes}
 use Rattle.std.specs.Map.{lookup}
 use Rattle.std.specs.BTreeMap.{is_at}
 use Rattle.std.specs.Ordering.{nat_cmp}
@@ -13,13 +14,13 @@ use Rattle.shard_columns.specs.Values.{Words, Reader, words_for, AllAmong, Field
 
 -- words with their numbers, ascending by the words
 abbrev pub Entries : Type 0
-Entries = List (Bor (List ℕ) × ℕ)
+Entries = List (String Global × ℕ)
 
 abbrev pub number_in : Entries → List ℕ → Option ℕ
-number_in entries word = lookup (is_at (λ k. slice_cmp nat_cmp word k.now)) entries
+number_in entries word = lookup (is_at (λ k. slice_cmp nat_cmp word (string_bytes k))) entries
 
 abbrev pub words_among : Entries → Words
-words_among entries = map (λ e. e.0.now) entries
+words_among entries = map (λ e. string_bytes e.0) entries
 
 abbrev pub entries_of : WordNumbers → ℕ → Entries
 entries_of numbers field = slice_index_or (map (λ m. m.entries) numbers.by_field.items) field []

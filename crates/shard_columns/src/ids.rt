@@ -1,8 +1,6 @@
 // The ids of the documents of a shard.
-ghost use Rattle.std.specs.Prelude.{◌≡◌, [], IfOk, slice_index_or};
-ghost use Rattle.shard_columns.specs.Layout.{ids_of};
+ghost use Rattle.std.specs.Prelude.{◌≡◌, ◌++◌, ◌∷◌, [], IfOk, OnOk, length, slice_index_or};
 
-use agg_model::{Document, List};
 use std::alloc::{AllocError, Global};
 use std::marker::Model;
 
@@ -26,18 +24,35 @@ impl Model for Ids {
 }
 
 impl Ids {
-    /// The ids of these documents, in their order.
-    pub fn of(alloc: Global, documents: &List<Document>) -> Result<Ids, AllocError>
-        ensures { IfOk result (λ ids. ids ≡ ids_of documents.now) }
+    /// No ids yet.
+    pub fn new(alloc: Global) -> Result<Ids, AllocError>
+        ensures { IfOk result (λ ids. ids ≡ []) }
     {
-        let mut bytes = Vec::new(alloc);
         let mut starts = Vec::new(alloc);
         starts.push(0)?;
-        for document in documents.as_slice() {
-            bytes.extend_from_slice(document.id.as_str().as_bytes())?;
-            starts.push(bytes.len())?;
-        }
-        Ok(Ids { bytes, starts })
+        Ok(Ids {
+            bytes: Vec::new(alloc),
+            starts,
+        })
+    }
+
+    /// Puts an id behind the others.
+    pub fn push(&mut self, id: &str) -> Result<(), AllocError>
+        ensures { OnOk result (self.new ≡ self.old ++ id.now ∷ []) }
+    {
+        self.starts.reserve(1)?;
+        self.bytes.extend_from_slice(id.as_bytes())?;
+        let end = self.bytes.len();
+        // There is room for it.
+        let _ = self.starts.push(end);
+        Ok(())
+    }
+
+    /// How many they are.
+    pub fn len(&self) -> usize
+        ensures { result ≡ length self.now }
+    {
+        self.starts.len() - 1
     }
 
     /// The id of the document at this place, in UTF-8; none where there are fewer.

@@ -4,6 +4,7 @@
 
 mod columns;
 mod contexts;
+mod draft;
 mod ids;
 mod index;
 mod layout;
@@ -12,5 +13,6 @@ mod shard;
 mod values;
 mod words;
 
+pub use draft::ShardDraft;
 pub use index::Index;
 pub use shard::{Cell, Shard};

@@ -1,9 +1,7 @@
-ghost use Rattle.std.specs.Prelude.{◌≡◌, ◌↔◌, ◌<◌, ◌+◌, ◌≤◌, ◌^◌, ℕ, IsTrue, slice_index, IfOk, OnOk, IfSome, IfNone, IsNone, flat_map, length, map, sum_by, [], Some, slice_get, slice_index_or};
-ghost use Rattle.shard_columns.specs.Values.{shown, words_in, total_count};
-ghost use Rattle.shard_columns.specs.Words.{AreDictionaries, IsNumbered, Notes, row_words};
-ghost use Rattle.shard_columns.specs.Stored.{AreStorable, AreDrafts, AreStored, AreColumns};
+ghost use Rattle.std.specs.Prelude.{◌≡◌, ◌↔◌, ◌<◌, ◌+◌, ◌≤◌, ◌^◌, ℕ, IsTrue, slice_index, IfOk, IfSome, IfNone, IsNone, length, map, [], Some, slice_get, slice_index_or};
+ghost use Rattle.shard_columns.specs.Values.{shown, words_in};
+ghost use Rattle.shard_columns.specs.Drafted.{HoldsSome, IsStoredFrom, IsDraftFor, IsFinishedFrom};
 ghost use Rattle.shard_columns.specs.Lent.{wholes_in, flags_in, word_at, holds_numbers};
-ghost use Rattle.shard_columns.specs.Layout.{ids_of, values_of_laid, entries_of_laid};
 ghost use Rattle.agg_model.specs.declared.row.Scalar.TheVariants.{Whole, Word, Flag};
 ghost use Rattle.agg_model.specs.declared.limits.TheConstants.{MAX_PATHS, WEIGHT_LIMIT};
 ghost use Rattle.agg_model.specs.Contexts.{parents_before};
@@ -19,8 +17,9 @@ ghost use Rattle.shard_columns.specs.Cell.{scalar_of};
 
 use crate::columns::{Column, column_at, columns, flags_at, ordinals_at, span_at, wholes_at};
 use crate::contexts::{context, numbers_by_context, numbers_of};
+use crate::draft::ShardDraft;
 use crate::ids::Ids;
-use crate::layout::{Entry, Laid, Layout, Origin, lay};
+use crate::layout::{Entry, Origin};
 use crate::search::{find_word, numbers_between};
 use crate::values::{Drafts, Typed};
 use crate::words::{WordNumbers, all_bytes, dictionaries, longest_of};
@@ -57,27 +56,6 @@ impl Model for Shard {
     ghost invariant = { IsSound };
 }
 
-// The values of all rows, where words are numbers.
-fn number<'a>(
-    alloc: Global,
-    kinds: &[FieldKind],
-    numbers: &mut WordNumbers<'a>,
-    rows: &[Laid<'a>],
-) -> Result<Drafts, AllocError>
-    requires sizes { length kinds.now ≡ length numbers.old.by_field.items }
-    requires sound { IsNumbered numbers.old }
-    requires empty { length numbers.old.ranks.items ≡ 0 }
-    requires stored { AreStorable kinds.now rows.now }
-    ensures notes { OnOk result (Notes numbers.old numbers.new (λ f. flat_map (row_words f) rows.now)) }
-    ensures drafts { IfOk result (λ d. AreDrafts kinds.now numbers.new rows.now d) }
-{
-    let mut drafts = Drafts::new(alloc, kinds)?;
-    for (number, row) in rows.iter().enumerate() {
-        drafts.push_row(numbers, number as u32, row.values)?;
-    }
-    Ok(drafts)
-}
-
 /// The values of all rows as columns, with the words of each field, and how many values they are.
 #[derive(Drop)]
 struct Stored {
@@ -86,33 +64,28 @@ struct Stored {
     count: usize,
 }
 
-// The dictionaries and columns of fields of these kinds. Each word is looked up once.
-fn store(alloc: Global, kinds: &[FieldKind], rows: &[Laid]) -> Result<Stored, AllocError>
-    requires { AreStorable kinds.now rows.now }
-    ensures words { IfOk result (λ s. AreDictionaries (length kinds.now) rows.now s.words.items) }
-    ensures rows { IfOk result (λ s. AreStored rows.now s.words.items s.columns.items) }
-    ensures columns { IfOk result (λ s. AreColumns kinds.now s.columns.items) }
-    ensures counted { IfOk result (λ s. s.count ≡ sum_by total_count (values_of_laid rows.now)) }
+// The dictionaries and columns of the values that so many rows have.
+fn store(
+    alloc: Global,
+    numbers: WordNumbers,
+    drafts: Drafts,
+    rows: usize,
+) -> Result<Stored, AllocError>
+    requires { HoldsSome rows numbers drafts }
+    ensures stored { IfOk result (λ s. IsStoredFrom numbers drafts s.words.items s.columns.items) }
+    ensures counted { IfOk result (λ s. s.count ≡ drafts.count) }
 {
-    let mut numbers = WordNumbers::new(alloc, kinds.len())?;
-    let drafts = number(alloc, kinds, &mut numbers, rows)?;
     let (words, ranks) = dictionaries(alloc, numbers)?;
     let Drafts {
         columns: drafts,
         count,
     } = drafts;
-    let columns = columns(alloc, drafts, ranks.as_slice(), rows.len())?;
+    let columns = columns(alloc, drafts, ranks.as_slice(), rows)?;
     Ok(Stored {
         words,
         columns,
         count,
     })
-}
-
-fn entries(alloc: Global, rows: &[Laid]) -> Result<Vec<Entry>, AllocError>
-    ensures { IfOk result (λ v. v.items ≡ entries_of_laid rows.now) }
-{
-    rows.iter().map(|row| row.entry).collect(alloc)
 }
 
 // The bytes of the text at this place; none where the list is shorter.
@@ -147,12 +120,6 @@ fn word_cell(words: &[Text], place: u32) -> Cell<'_>
     }
 }
 
-fn kinds(alloc: Global, fields: &[Field]) -> Result<Vec<FieldKind>, AllocError>
-    ensures { IfOk result (λ v. v.items ≡ map (λ f. f.kind) fields.now) }
-{
-    fields.iter().map(|field| field.kind).collect(alloc)
-}
-
 fn contexts(alloc: Global, fields: &[Field]) -> Result<Vec<u32>, AllocError>
     ensures { IfOk result (λ v. v.items ≡ map (λ f. f.context) fields.now) }
 {
@@ -163,6 +130,45 @@ fn parents(alloc: Global, nested: &[NestedPath]) -> Result<Vec<u32>, AllocError>
     ensures { IfOk result (λ v. v.items ≡ map (λ p. p.parent) nested.now) }
 {
     nested.iter().map(|path| path.parent).collect(alloc)
+}
+
+impl ShardDraft {
+    /// The shard of the documents that the draft holds, in time n log n.
+    pub fn finish(self, alloc: Global, mapping: &Mapping) -> Result<Shard, AllocError>
+        requires { IsDraftFor mapping.now self }
+        ensures { IfOk result (λ s. IsFinishedFrom mapping.now self s) }
+    {
+        let ShardDraft {
+            kinds,
+            ids,
+            rows,
+            ends,
+            numbers,
+            drafts,
+        } = self;
+        let stored = store(alloc, numbers, drafts, rows.len())?;
+        let nested = mapping.nested.as_slice();
+        let numbers = numbers_by_context(alloc, nested.len() + 1, rows.as_slice())?;
+        let contexts = contexts(alloc, mapping.fields.as_slice())?;
+        let parents = parents(alloc, nested)?;
+        let Stored {
+            words,
+            columns,
+            count: values,
+        } = stored;
+        Ok(Shard {
+            kinds,
+            contexts,
+            parents,
+            ids,
+            rows,
+            ends,
+            numbers,
+            words,
+            columns,
+            values,
+        })
+    }
 }
 
 impl Shard {
@@ -183,36 +189,11 @@ impl Shard {
         requires light { rows_weight (rows_of_documents documents.now) < WEIGHT_LIMIT }
         ensures { IfOk result (λ s. s ≡ columns_from mapping.now documents.now) }
     {
-        let layout = lay(alloc, documents)?;
-        let fields = mapping.fields.as_slice();
-        let laid = layout.rows.as_slice();
-        let kinds = kinds(alloc, fields)?;
-        let kind_list = kinds.as_slice();
-        let stored = store(alloc, kind_list, laid)?;
-        let rows = entries(alloc, laid)?;
-        let nested = mapping.nested.as_slice();
-        let numbers = numbers_by_context(alloc, nested.len() + 1, rows.as_slice())?;
-        let Layout { rows: _, ends } = layout;
-        let Stored {
-            words,
-            columns,
-            count: values,
-        } = stored;
-        let contexts = contexts(alloc, fields)?;
-        let parents = parents(alloc, nested)?;
-        let ids = Ids::of(alloc, documents)?;
-        Ok(Shard {
-            kinds,
-            contexts,
-            parents,
-            ids,
-            rows,
-            ends,
-            numbers,
-            words,
-            columns,
-            values,
-        })
+        let mut draft = ShardDraft::new(alloc, mapping)?;
+        for document in documents.as_slice() {
+            draft.push(document)?;
+        }
+        draft.finish(alloc, mapping)
     }
 
     /// The number of rows. They are those of documents that fit the mapping that the shard was built with.

@@ -93,11 +93,11 @@ fn push_flags(flags: &mut Vec<bool>, values: &[Scalar]) -> Result<(), AllocError
     Ok(())
 }
 
-fn push_words<'a>(
+fn push_words(
     words: &mut Vec<u32>,
-    numbers: &mut WordNumbers<'a>,
+    numbers: &mut WordNumbers,
     field: u32,
-    values: &'a [Scalar],
+    values: &[Scalar],
 ) -> Result<(), AllocError>
     requires in_range { field < length numbers.old.by_field.items }
     requires sound { IsNumbered numbers.old }
@@ -117,10 +117,10 @@ fn push_words<'a>(
     Ok(())
 }
 
-fn push_typed<'a>(
+fn push_typed(
     typed: &mut Typed,
-    numbers: &mut WordNumbers<'a>,
-    field: &'a FieldValues,
+    numbers: &mut WordNumbers,
+    field: &FieldValues,
 ) -> Result<(), AllocError>
     requires in_range { field.now.field < length numbers.old.by_field.items }
     requires sound { IsNumbered numbers.old }
@@ -139,11 +139,11 @@ fn push_typed<'a>(
 }
 
 // Puts the values of a row behind those of the rows before it.
-fn push_field<'a>(
+fn push_field(
     draft: &mut Draft,
-    numbers: &mut WordNumbers<'a>,
+    numbers: &mut WordNumbers,
     row: u32,
-    field: &'a FieldValues,
+    field: &FieldValues,
 ) -> Result<(), AllocError>
     requires in_range { field.now.field < length numbers.old.by_field.items }
     requires sound { IsNumbered numbers.old }
@@ -182,11 +182,11 @@ impl Drafts {
     }
 
     /// Puts the values of a row behind those of the rows before it.
-    pub fn push_row<'a>(
+    pub fn push_row(
         &mut self,
-        numbers: &mut WordNumbers<'a>,
+        numbers: &mut WordNumbers,
         row: u32,
-        fields: &'a List<FieldValues>,
+        fields: &List<FieldValues>,
     ) -> Result<(), AllocError>
         requires in_range { FieldsBelow (length self.old.columns.items) fields.now }
         requires sizes { length self.old.columns.items ≡ length numbers.old.by_field.items }

@@ -14,25 +14,32 @@ use std::collections::BTreeMap;
 
 /// The words of each field that are met in rows, each with a number of its own, whatever its field.
 #[derive(Drop)]
-pub struct WordNumbers<'a> {
-    pub by_field: Vec<BTreeMap<&'a str, usize>>,
+pub struct WordNumbers {
+    /// Their order is that of the bytes, so that no choice of words makes a look-up slow.
+    pub by_field: Vec<BTreeMap<String, usize>>,
     /// By number, the place of the word in its dictionary, which is known once all words are.
     pub ranks: Vec<usize>,
 }
 
-/// The number of a word; the next one where it had none.
-fn number_in<'a>(
-    numbers: &mut BTreeMap<&'a str, usize>,
-    word: &'a str,
+/// The number of a word; the next one where it had none. Only a new word is copied.
+fn number_in(
+    alloc: Global,
+    numbers: &mut BTreeMap<String, usize>,
+    word: &str,
     next: usize,
 ) -> Result<usize, AllocError>
     ensures found { IfOk result (λ n. n ≡ unwrap_or (number_in numbers.old.entries word.now) next) }
     ensures after { IfOk result (λ n. (w : Items ℕ) → number_in numbers.new.entries w ≡ (if bytes_eq word.now w then Some n else number_in numbers.old.entries w)) }
 {
-    Ok(*numbers.entry(word)?.or_insert(next))
+    if let Some(number) = numbers.get(word) {
+        return Ok(*number);
+    }
+    let word = String::from_str(alloc, word)?;
+    numbers.insert(word, next)?;
+    Ok(next)
 }
 
-impl<'a> WordNumbers<'a> {
+impl WordNumbers {
     /// No words yet of any of so many fields.
     pub fn new(alloc: Global, fields: usize) -> Result<Self, AllocError>
         ensures sizes { IfOk result (λ numbers. length numbers.by_field.items ≡ fields) }
@@ -51,15 +58,16 @@ impl<'a> WordNumbers<'a> {
     }
 
     /// The number of a word of a field, which is looked up once.
-    pub fn number(&mut self, field: usize, word: &'a str) -> Result<usize, AllocError>
+    pub fn number(&mut self, field: usize, word: &str) -> Result<usize, AllocError>
         requires in_range { field < length self.old.by_field.items }
         requires sound { IsNumbered self.old }
         ensures notes { OnOk result (Notes self.old self.new (of_field field (word.now ∷ []))) }
         ensures number { IfOk result (λ n. number_of self.new field word.now ≡ Some n) }
         ensures few { OnOk result (length self.new.ranks.items ≤ length self.old.ranks.items + 1) }
     {
+        let alloc = *self.ranks.allocator();
         let next = self.ranks.len();
-        let number = number_in(&mut self.by_field[field], word, next)?;
+        let number = number_in(alloc, &mut self.by_field[field], word, next)?;
         if number < next {
             return Ok(number);
         }
@@ -71,7 +79,7 @@ impl<'a> WordNumbers<'a> {
 /// The words of a field, ascending; the place of each is written at its number.
 fn dictionary(
     alloc: Global,
-    numbers: &BTreeMap<&str, usize>,
+    numbers: &BTreeMap<String, usize>,
     ranks: &mut Vec<usize>,
 ) -> Result<List<Text>, AllocError>
     requires { AreApart (length ranks.old.items) numbers.now.entries }
@@ -82,7 +90,7 @@ fn dictionary(
     let mut words = List::new(alloc);
     for (word, number) in numbers {
         ranks[*number] = words.len();
-        words.push(Text::of(alloc, word)?)?;
+        words.push(Text::of(alloc, word.as_str())?)?;
     }
     Ok(words)
 }
@@ -93,8 +101,8 @@ pub fn dictionaries(
     numbers: WordNumbers,
 ) -> Result<(Vec<List<Text>>, Vec<usize>), AllocError>
     requires { IsNumbered numbers }
-    ensures words { IfOk result (λ made. AreWords numbers.entry made.0.items) }
-    ensures ranks { IfOk result (λ made. ArePlaced numbers.entry made.0.items made.1.items) }
+    ensures words { IfOk result (λ made. AreWords numbers made.0.items) }
+    ensures ranks { IfOk result (λ made. ArePlaced numbers made.0.items made.1.items) }
 {
     let WordNumbers {
         by_field,

@@ -1,8 +1,9 @@
-use Rattle.std.proofs.Common.{◌≡◌, ◌++◌, ◌∷◌, ℕ, Bor, List, [], map, set, sym, ◌∙◌, ap, subst, arith}
+use Rattle.std.proofs.Common.{◌≡◌, ◌++◌, ◌∷◌, ℕ, List, [], map, set, sym, ◌∙◌, ap, subst, arith}
 use Rattle.std.proofs.lemmas.List.{map-append}
 use Rattle.std.proofs.lemmas.Cmp.{nat_list_cmp_total, on_total}
 use Rattle.std.proofs.lemmas.Map.Iter.{btree_map_turn, rest_so_far, iter_end}
 use Rattle.std.specs.Map.Iter.{deref_pair}
+use Rattle.std.specs.Prelude.{string_bytes}
 use Rattle.std.specs.List.Sorted.{IsStrictlySortedBy}
 use Rattle.std.specs.Ordering.{nat_cmp}
 use Rattle.std.specs.Cmp.Lexicographic.{slice_cmp}
@@ -15,8 +16,8 @@ pub index_mut-requires : goal.index_mut-requires
 index_mut-requires c =
     let gives = c.into_iter-word-iterator.ensures.into_iter_gives in
     let turn = btree_map_turn deref_pair c.loop-word.yielded c.into_iter-word-iterator.result c.loop-word.word-iterator c.next.new.self c.next.result (c.in-Some.word, c.in-Some.number) c.loop-word.yielded_by c.in-Some.is c.next.ensures.steps
-    (on_total (λ (w : Bor (List ℕ)). w.now) nat_list_cmp_total) c.args.numbers.now gives.0 gives.5 in
-    let low = c.requires.below c.in-Some.number.now c.in-Some.word.now.now turn.1 in
+    (on_total string_bytes nat_list_cmp_total) c.args.numbers.now gives.0 gives.5 in
+    let low = c.requires.below c.in-Some.number.now (string_bytes c.in-Some.word.now) turn.1 in
     let size = c.loop-word.ranks.ok.0 in
     let same = c.loop-word.invariant.sizes in
     omega (arith, low, size, same)
@@ -33,14 +34,14 @@ loop-word-preserved c =
     let k = c.in-Some.word.now in
     let m = c.in-Some.number.now in
     let turn = btree_map_turn deref_pair c.loop-word.yielded c.into_iter-word-iterator.result c.loop-word.word-iterator c.next.new.self c.next.result (c.in-Some.word, c.in-Some.number) c.loop-word.yielded_by c.in-Some.is c.next.ensures.steps
-    (on_total (λ (w : Bor (List ℕ)). w.now) nat_list_cmp_total) c.args.numbers.now gives.0 gives.5 in
+    (on_total string_bytes nat_list_cmp_total) c.args.numbers.now gives.0 gives.5 in
     let split = sym gives.0 ∙ rest_so_far deref_pair c.loop-word.yielded c.into_iter-word-iterator.result c.loop-word.word-iterator c.loop-word.yielded_by in
     let step = Ranked-push all so_far c.loop-word.word-iterator k m c.loop-word.words c.args.ranks.now.items c.loop-word.ranks.items c.requires split turn.1 c.loop-word.invariant in
     let ranks = set c.loop-word.ranks.items m c.len.result in
-    let words_are : c.push.new.self ≡ c.loop-word.words ++ k.now ∷ [] = c.in_ok-push.ensures.ok ∙ ap (λ (w : List ℕ). c.loop-word.words ++ w ∷ []) c.in_ok-of.ensures in
+    let words_are : c.push.new.self ≡ c.loop-word.words ++ string_bytes k ∷ [] = c.in_ok-push.ensures.ok ∙ ap (λ (w : List ℕ). c.loop-word.words ++ w ∷ []) (c.in_ok-of.ensures ∙ c.as_str.ensures.value) in
     subst (λ (es : Entries). IsRankedSoFar all es c.push.new.self c.args.ranks.now.items ranks) (sym (map-append deref_pair c.loop-word.yielded ((c.in-Some.word, c.in-Some.number) ∷ [])))
     (subst (λ (ws : Words). IsRankedSoFar all (so_far ++ (k, m) ∷ []) ws c.args.ranks.now.items ranks) (sym words_are)
-    (subst (λ (r : ℕ). IsRankedSoFar all (so_far ++ (k, m) ∷ []) (c.loop-word.words ++ k.now ∷ []) c.args.ranks.now.items (set c.loop-word.ranks.items m r)) (sym c.len.ensures) step))
+    (subst (λ (r : ℕ). IsRankedSoFar all (so_far ++ (k, m) ∷ []) (c.loop-word.words ++ string_bytes k ∷ []) c.args.ranks.now.items (set c.loop-word.ranks.items m r)) (sym c.len.ensures) step))
 
 pub returns : goal.returns
 returns c =
