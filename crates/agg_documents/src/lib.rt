@@ -13,4 +13,5 @@ mod weight;
 
 pub use document::document_of;
 pub use routing::shard_of;
-pub use store::Store;
+pub use store::{Store, conflicts, refused};
+pub use weight::weight_of;

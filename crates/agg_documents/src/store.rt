@@ -23,7 +23,8 @@ use std::collections::BTreeMap;
 use std::collections::btree_map::Entry;
 use std::marker::Model;
 
-fn refused(alloc: Global, number: u8) -> ItemFault
+/// The refusal of this number of an item as a whole.
+pub fn refused(alloc: Global, number: u8) -> ItemFault
     ensures { result ≡ Refused (record { number = number; path = [] }) }
 {
     ItemFault::Refused(ItemRefusal {
@@ -33,7 +34,7 @@ fn refused(alloc: Global, number: u8) -> ItemFault
 }
 
 /// Whether an action of this kind is refused where its id has a live document, or has none.
-fn conflicts(kind: ActionKind, live: bool) -> bool
+pub fn conflicts(kind: ActionKind, live: bool) -> bool
     ensures { result ≡ (is_create kind && live) }
 {
     match kind {

@@ -61,7 +61,7 @@ fn children_weight(children: &Children) -> u64
 }
 
 /// The weight of a document.
-pub(crate) fn weight_of(document: &Document) -> u64
+pub fn weight_of(document: &Document) -> u64
     ensures { result ≡ min (weight document.now) u64.MAX }
 {
     row_weight(&document.root)

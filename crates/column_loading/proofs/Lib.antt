@@ -1,0 +1,5 @@
+pub mod Dealt
+pub mod Finished
+pub mod Placed
+pub mod Loaded
+pub mod Reread

@@ -1,0 +1,10 @@
+//! Documents that go into columns as bulk actions bring them, so that no tree of rows is kept between bytes and columns
+//! (Elasticsearch Reference 8, 'Bulk API', 'Index modules').
+#![tactic(auto)]
+
+mod again;
+mod drafts;
+mod loading;
+mod slot;
+
+pub use loading::Loading;
