@@ -15,7 +15,7 @@ use Rattle.agg_reading.specs.declared.parts.IndexLine.{IndexLine}
 use Rattle.fitting_laws.specs.Stores.{IsFitting, IsIndexed}
 use Rattle.fitting_laws.proofs.Shards.{shards_given}
 use Rattle.script_lines.specs.declared.fault.ScriptFault.{ScriptFault}
-use Rattle.agg_bulk.specs.Loading.{loading_of, loaded_of}
+use Rattle.agg_bulk.specs.Loading.{loading_of, loaded_of, store_in}
 use Rattle.agg_bulk.specs.declared.sections.Sections.{Sections}
 
 nothing_fits : (m : Mapping) → IsFitting m []
@@ -44,9 +44,9 @@ indexed_by index store ordered paths shards fitting = record {
 }
 
 pub indexed : (index : IndexLine) (result : Result Sections ScriptFault) → IsOrdered index.mapping → parents_before index.mapping ≡ true → (1 ≤ index.shards) × (index.shards ≤ MAX_SHARDS) →
-    IfOk result (λ s. s.index ≡ index) → IfOk result (λ s. IsFitting s.index.mapping s.store) → IfOk result (λ s. IsIndexed (loaded_of s.index s.store))
+    IfOk result (λ s. s.index ≡ index) → IfOk result (λ s. IsFitting s.index.mapping (store_in s)) → IfOk result (λ s. IsIndexed (loaded_of s.index (store_in s)))
 indexed index (Ok s) ordered paths shards same fitting =
-    indexed_by s.index s.store
+    indexed_by s.index (store_in s)
     (subst (λ (i : IndexLine). IsOrdered i.mapping) (sym same) ordered)
     (subst (λ (i : IndexLine). parents_before i.mapping ≡ true) (sym same) paths)
     (subst (λ (i : IndexLine). (1 ≤ i.shards) × (i.shards ≤ MAX_SHARDS)) (sym same) shards)

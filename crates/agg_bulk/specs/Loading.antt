@@ -20,6 +20,7 @@ use Rattle.script_lines.specs.Handed.{IsHanded}
 use Rattle.script_lines.specs.Steps.{place_of}
 use Rattle.script_lines.specs.declared.fault.ScriptFault.{ScriptFault}
 use Rattle.script_lines.specs.declared.fault.ScriptFault.TheVariants.{Refused, Read, Memory}
+use Rattle.column_loading.specs.Loadings.{store_of}
 use Rattle.agg_bulk.specs.declared.sections.Sections.{Sections}
 
 -- Behind the lines that were handed out of an input, its loading is `after` what follows them, whatever that is.
@@ -79,9 +80,13 @@ abbrev pub fault_at : ℕ → RequestFault → ScriptFault
 fault_at line (reading.Bad code path) = Refused (record { number = code; line = line; path = path })
 fault_at line _ = Memory
 
+-- the documents that the sections leave, as a store has them
+abbrev pub store_in : Sections → Store
+store_in s = store_of s.index.mapping s.loading
+
 -- the sections that were loaded, in front of what is left
 abbrev pub before_rest : Sections → Place → List Line → Loaded
-before_rest s place rest = record { index = s.index; store = s.store; items = s.items; place = place; rest = rest }
+before_rest s place rest = record { index = s.index; store = store_in s; items = s.items; place = place; rest = rest }
 
 -- What loading answers of an input. What was loaded of it is loaded in front of whatever follows, too.
 abbrev pub LoadsAt : List ℕ → Result Sections ScriptFault → Place → Option (List ℕ) → ℕ → Bool → ℕ → Type 0

@@ -7,15 +7,16 @@ ghost use Rattle.agg_spec.specs.Requests.{loaded_index};
 ghost use Rattle.fitting_laws.specs.Stores.{IsIndexed};
 ghost use Rattle.script_lines.specs.Steps.{place_of};
 ghost use Rattle.script_lines.specs.declared.fault.ScriptFault.TheVariants.{Read};
+ghost use Rattle.column_loading.specs.Loadings.{IsLoadingOf, store_of};
 ghost use Rattle.agg_bulk.specs.Indexing.{Indexes};
 ghost use Rattle.index_laws.specs.Indexes.{index_of};
 ghost use Rattle.agg_bulk.specs.Loading.{loaded_of};
 
 use crate::sections::{Sections, load_sections};
 use agg_base::{Lines, Source};
-use agg_documents::Store;
 use agg_model::{Item, List};
 use agg_reading::IndexLine;
+use column_loading::Loading;
 use script_lines::ScriptFault;
 use shard_columns::Index;
 use std::alloc::{AllocError, Global};
@@ -29,17 +30,27 @@ pub struct LoadedIndex {
 }
 
 /// The index of what was loaded: its shards have the documents that the routings choose.
-pub(crate) fn index_from(alloc: Global, line: IndexLine, store: Store) -> Result<Index, AllocError>
-    requires { IsIndexed (loaded_of line store) }
-    ensures { IfOk result (λ index. index_of index ≡ loaded_index (loaded_of line store)) }
+pub(crate) fn index_from(
+    alloc: Global,
+    line: IndexLine,
+    loading: Loading,
+) -> Result<Index, AllocError>
+    requires indexed { IsIndexed (loaded_of line (store_of line.mapping loading)) }
+    requires loading { IsLoadingOf line.mapping loading }
+    requires shards { loading.shards ≡ line.shards }
+    ensures { IfOk result (λ index. index_of index ≡ loaded_index (loaded_of line (store_of line.mapping loading))) }
 {
-    let documents = store.into_shards(line.shards)?;
+    let shards = loading.finish(alloc, &line.mapping)?;
     let IndexLine {
         name,
         mapping,
         shards: _,
     } = line;
-    Index::build(alloc, name, mapping, &documents)
+    Ok(Index {
+        name,
+        mapping,
+        shards,
+    })
 }
 
 /// Reads the first two sections of a script, from its start, and builds the index of what they leave, in time n log n.
@@ -62,9 +73,9 @@ pub fn load_index<S: Source>(
 {
     let Sections {
         index,
-        store,
+        loading,
         items,
     } = load_sections(alloc, lines)?;
-    let index = index_from(alloc, index, store)?;
+    let index = index_from(alloc, index, loading)?;
     Ok(LoadedIndex { index, items })
 }

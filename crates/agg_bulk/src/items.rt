@@ -4,10 +4,11 @@ ghost use Rattle.agg_model.specs.MappingOrder.{IsOrdered};
 ghost use Rattle.agg_reading.specs.Script.{after};
 ghost use Rattle.agg_reading.specs.Store.{applied};
 ghost use Rattle.agg_reading.specs.declared.parts.IndexLine.{IndexLine};
+ghost use Rattle.column_loading.specs.Loadings.{IsLoadingOf, store_of};
 ghost use Rattle.agg_bulk.specs.Loading.{loading_of};
 
-use agg_documents::Store;
 use agg_model::{Action, Copying, Item, ItemEnd, List, Mapping};
+use column_loading::Loading;
 use document_rows::{ItemFault, Scratch};
 use std::alloc::{AllocError, Global};
 
@@ -15,18 +16,22 @@ use std::alloc::{AllocError, Global};
 pub(crate) fn apply(
     alloc: Global,
     mapping: &Mapping,
-    store: &mut Store,
+    loading: &mut Loading,
     items: &mut List<Item>,
     action: Action,
     scratch: &mut Scratch,
 ) -> Result<(), AllocError>
-    requires { IsOrdered mapping.now }
-    ensures { OnOk result ((index : IndexLine) →
-        after action (applied mapping.now action store.old) (loading_of index store.old items.old) ≡ loading_of index store.new items.new) }
+    requires ordered { IsOrdered mapping.now }
+    requires loading { IsLoadingOf mapping.now loading.old }
+    ensures after { OnOk result ((index : IndexLine) →
+        after action (applied mapping.now action (store_of mapping.now loading.old)) (loading_of index (store_of mapping.now loading.old) items.old)
+        ≡ loading_of index (store_of mapping.now loading.new) items.new) }
+    ensures loading { OnOk result (IsLoadingOf mapping.now loading.new) }
+    ensures shards { OnOk result (loading.new.shards ≡ loading.old.shards) }
 {
     let kind = action.kind;
     let id = action.id.copy(alloc)?;
-    let end = match store.apply_with(mapping, action, scratch) {
+    let end = match loading.apply_with(mapping, action, scratch) {
         Ok(applied) => ItemEnd::Applied(applied),
         Err(ItemFault::Refused(refusal)) => ItemEnd::Refused(refusal),
         Err(ItemFault::Memory) => return Err(AllocError),

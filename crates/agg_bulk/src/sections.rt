@@ -12,16 +12,17 @@ ghost use Rattle.agg_reading.specs.Script.{sections as sections_from};
 ghost use Rattle.agg_reading.specs.declared.parts.IndexLine.{IndexLine as AnyIndexLine};
 ghost use Rattle.script_lines.specs.Steps.{place_of, rest_of};
 ghost use Rattle.script_lines.specs.declared.fault.ScriptFault.TheVariants.{Read};
-ghost use Rattle.agg_bulk.specs.Loading.{GoesOn, Steps, Loads, loaded_of};
+ghost use Rattle.column_loading.specs.Loadings.{IsLoadingOf};
+ghost use Rattle.agg_bulk.specs.Loading.{GoesOn, Steps, Loads, loaded_of, store_in};
 
 use crate::actions::next_action;
 use crate::items::apply;
 use agg_base::{Lines, Source};
-use agg_documents::Store;
 use agg_mapping::{MapFault, index_line_of};
 use agg_model::script_refusal::{BAD_INDEX_LINE, MISSING_SECTION};
 use agg_model::{Item, List};
 use agg_reading::IndexLine;
+use column_loading::Loading;
 use document_rows::Scratch;
 use script_lines::{ScriptFault, ScriptRefusal, is_empty_line, refused_here, take_line};
 use std::alloc::Global;
@@ -30,8 +31,8 @@ use std::alloc::Global;
 #[derive(Drop)]
 pub struct Sections {
     pub index: IndexLine,
-    /// The documents that the bulk actions leave.
-    pub store: Store,
+    /// The documents that the bulk actions leave, on their way into columns.
+    pub loading: Loading,
     /// The items of the bulk actions, in their order.
     pub items: List<Item>,
 }
@@ -91,9 +92,13 @@ fn bulk_actions<S: Source>(
 ) -> Result<Sections, ScriptFault>
     requires kept { kept lines.old ≡ None }
     requires ordered { IsOrdered index.mapping }
+    requires paths { IsTrue (parents_before index.mapping) }
+    requires some { 1 ≤ index.shards }
     ensures script { (bytes : List ℕ) → GoesOn bytes (actions (begun index) (place_of lines.old)) lines.old → Loads bytes result lines.new }
     ensures index { IfOk result (λ sections. sections.index ≡ index) }
-    ensures fitting { IfOk result (λ sections. IsFitting sections.index.mapping sections.store) }
+    ensures fitting { IfOk result (λ sections. IsFitting sections.index.mapping (store_in sections)) }
+    ensures loading { IfOk result (λ sections. IsLoadingOf sections.index.mapping sections.loading) }
+    ensures shards { IfOk result (λ sections. sections.loading.shards ≡ sections.index.shards) }
     ensures fault { result ≡ Err Read → Rose (S.faults (source_of lines.old)) (S.faults (source_of lines.new)) }
     ensures never_falls { S.faults (source_of lines.old) ≤ S.faults (source_of lines.new) }
     ensures gave { Gave lines.old lines.new }
@@ -101,7 +106,7 @@ fn bulk_actions<S: Source>(
     ensures same_source { source_name lines.new ≡ source_name lines.old }
 {
     let mut scratch = Scratch::new(alloc);
-    let mut store = Store::new(alloc);
+    let mut loading = Loading::new(alloc, &index.mapping, index.shards)?;
     let mut items = List::new(alloc);
     while let Some(action) = next_action(
         alloc,
@@ -113,7 +118,7 @@ fn bulk_actions<S: Source>(
         apply(
             alloc,
             &index.mapping,
-            &mut store,
+            &mut loading,
             &mut items,
             action,
             &mut scratch,
@@ -121,7 +126,7 @@ fn bulk_actions<S: Source>(
     }
     Ok(Sections {
         index,
-        store,
+        loading,
         items,
     })
 }
@@ -139,7 +144,9 @@ pub fn load_sections<S: Source>(
     requires kept { kept lines.old ≡ None }
     requires start { place_of lines.old ≡ start }
     ensures script { (bytes : List ℕ) → unread lines.old ≡ Some bytes → Loads bytes result lines.new }
-    ensures indexed { IfOk result (λ sections. IsIndexed (loaded_of sections.index sections.store)) }
+    ensures indexed { IfOk result (λ sections. IsIndexed (loaded_of sections.index (store_in sections))) }
+    ensures loading { IfOk result (λ sections. IsLoadingOf sections.index.mapping sections.loading) }
+    ensures built { IfOk result (λ sections. sections.loading.shards ≡ sections.index.shards) }
     ensures fault { result ≡ Err Read → Rose (S.faults (source_of lines.old)) (S.faults (source_of lines.new)) }
     ensures never_falls { S.faults (source_of lines.old) ≤ S.faults (source_of lines.new) }
     ensures gave { Gave lines.old lines.new }

@@ -71,7 +71,8 @@ impl Loading {
     /// What the live document at a place weighs; none where it has no document.
     fn live_weight(&self, place: usize) -> Option<u64>
         requires { place < length self.now.slots.items }
-        ensures { (m : AnyMapping) → AreRead m self.now.slots.items → result ≡ option_map weight (slice_index_or (store_of m self.now) place ([], None)).1 }
+        ensures { (m : AnyMapping) → AreRead m self.now.slots.items →
+            result ≡ option_map weight (slice_index_or (store_of m self.now) place ([], None)).1 }
     {
         match &self.slots[place].live {
             Some(kept) => Some(kept.weight),
@@ -153,7 +154,8 @@ impl Loading {
     /// Puts a slot with a new id behind the others.
     fn add(&mut self, slot: Slot) -> Result<(), AllocError>
         ensures slots { OnOk result (self.new.slots.items ≡ self.old.slots.items ++ slot ∷ []) }
-        ensures places { OnOk result ((id : Items ℕ) → get_by_text self.new.places id ≡ update bytes_eq (get_by_text self.old.places) slot.id (Some (length self.old.slots.items)) id) }
+        ensures places { OnOk result ((id : Items ℕ) →
+            get_by_text self.new.places id ≡ update bytes_eq (get_by_text self.old.places) slot.id (Some (length self.old.slots.items)) id) }
         ensures same { OnOk result (IsBeside self.old self.new) }
     {
         let key = String::from_str(*self.slots.allocator(), slot.id.as_str())?;

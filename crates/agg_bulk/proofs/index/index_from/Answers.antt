@@ -1,26 +1,33 @@
-use Rattle.std.proofs.Common.{◌≡◌, ◌∙◌, ◌<◌, List, length, sym, ap, subst, arith}
-use Rattle.std.specs.Prelude.{IsTrue}
-use Rattle.std.specs.List.{list_all}
-use Rattle.agg_model.specs.declared.limits.TheConstants.{WEIGHT_LIMIT}
-use Rattle.agg_model.specs.declared.row.Document.{Document}
-use Rattle.agg_evaluation.specs.DocumentFits.{all_fit}
-use Rattle.shard_columns.specs.Index.{lists_weight}
-use Rattle.agg_bulk.proofs.IndexLemmas.{number_of_shards, is_loaded}
+use Rattle.std.proofs.Common.{List, arith, ap}
+use Rattle.agg_evaluation.specs.Rows.{PlacedRow}
+use Rattle.agg_spec.specs.Index.{Index}
+use Rattle.column_loading.specs.Loadings.{store_of}
+use Rattle.agg_bulk.proofs.IndexLemmas.{of_shards}
 use Rattle.agg_bulk.proofs.index.index_from.Goals as goal
 
-pub build-requires : goal.build-requires
-build-requires c =
-    let given = c.requires in
-    let same = c.in_ok-documents.ensures.shards in
-    let number : length c.in_ok-documents.documents ≡ c.args.line.shards = ap (λ (lists : List (List Document)). length lists) same ∙ number_of_shards c.args.store c.args.line.shards in
+pub finish-requires : goal.finish-requires
+finish-requires c = record { ordered = c.requires.indexed.ordered; loading = c.requires.loading }
+
+pub invariant_of-result : goal.invariant_of-result
+invariant_of-result c =
+    let line = c.args.line in
+    let given = c.requires.indexed in
+    let made = of_shards line (store_of line.mapping c.args.loading) c.args.loading.shards c.in_ok-shards.shards given c.requires.shards c.in_ok-shards.ensures in
+    let number = made.number in
+    let some = given.some in
+    let at_most = given.at_most in
     record {
-      some = omega (arith, number, given.some);
-      at_most = omega (arith, number, given.at_most);
+      some_shards = omega (arith, number, some);
+      few_shards = omega (arith, number, at_most);
       ordered = given.ordered;
       paths = given.paths;
-      fit = subst (λ (lists : List (List Document)). IsTrue (list_all (all_fit c.args.line.mapping) lists)) (sym same) given.shards.fit;
-      light = subst (λ (lists : List (List Document)). lists_weight lists < WEIGHT_LIMIT) (sym same) given.shards.light;
+      built = ∣ made.built ∣₁;
+      light = made.light;
     }
 
 pub returns : goal.returns
-returns c = is_loaded _ c.build.result c.args.line c.args.store c.in_ok-documents.documents c.in_ok-documents.ensures.shards c.build.ensures.name c.build.ensures.mapping c.build.ensures.rows
+returns c =
+    let line = c.args.line in
+    let made = of_shards line (store_of line.mapping c.args.loading) c.args.loading.shards c.in_ok-shards.shards c.requires.indexed c.requires.shards c.in_ok-shards.ensures in
+    let with_shards : List (List PlacedRow) → Index = λ shards. record { name = line.name; mapping = line.mapping; shards = shards } in
+    ap with_shards made.rows

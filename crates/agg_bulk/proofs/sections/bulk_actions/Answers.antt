@@ -5,6 +5,7 @@ use Rattle.agg_reading.specs.Store.{applied}
 use Rattle.fitting_laws.proofs.Stores.{applied_fits}
 use Rattle.agg_bulk.proofs.FittingLemmas.{empty_fits, still_fits}
 use Rattle.script_lines.specs.Steps.{place_of}
+use Rattle.column_loading.specs.Loadings.{store_of}
 use Rattle.agg_bulk.specs.Loading.{loading_of}
 use Rattle.agg_bulk.proofs.SectionLemmas.{as_loading, begun_is, one_more_item, all_loaded}
 use Rattle.agg_bulk.proofs.sections.bulk_actions.Goals as goal
@@ -17,8 +18,10 @@ loop-items-init g c = record {
   same_source = refl;
   index = refl;
   few = let none : length c.new-items.result ≡ 0 = ap length c.new-items.ensures in omega arith;
-  fitting = empty_fits _ _ c.new-store.ensures;
-  so_far = λ bytes goes_on. as_loading _ _ _ _ _ _ _ goes_on (begun_is _ _ _ c.new-store.ensures c.new-items.ensures);
+  fitting = empty_fits _ _ c.in_ok-loading.ensures.none;
+  loading = c.in_ok-loading.ensures.loading;
+  shards = c.in_ok-loading.ensures.shards;
+  so_far = λ bytes goes_on. as_loading _ _ _ _ _ _ _ goes_on (begun_is _ _ _ c.in_ok-loading.ensures.none c.new-items.ensures);
 }
 
 pub next_action-requires : goal.next_action-requires
@@ -26,18 +29,18 @@ next_action-requires g c = c.loop-items.invariant.kept
 
 pub returns-in_err-action-clause-script : goal.returns-in_err-action-clause-script
 returns-in_err-action-clause-script g c bytes goes_on =
-    let p = err_from_is_err_and c.from_residual.result c.from_residual.ensures.1 in
-    rw (p.1, p.2) (c.in_err-action.ensures.script bytes (loading_of c.args.index c.loop-items.store c.loop-items.items) (sym c.as_str.ensures) (sym c.len.ensures) (c.loop-items.invariant.so_far bytes goes_on))
+    let p = err_from_is_err_and c.from_residual-in_err-action.result c.from_residual-in_err-action.ensures.1 in
+    rw (p.1, p.2) (c.in_err-action.ensures.script bytes (loading_of c.args.index (store_of c.args.index.mapping c.loop-items.loading) c.loop-items.items) (sym c.as_str.ensures) (sym c.len.ensures) (c.loop-items.invariant.so_far bytes goes_on))
 
 pub loop-items-smaller : goal.loop-items-smaller
 loop-items-smaller g c =
-    let more = one_more_item c.in-Some.action (applied c.args.index.mapping c.in-Some.action c.loop-items.store) c.args.index c.loop-items.store _ c.loop-items.items _ (c.in_ok-apply.ensures c.args.index) in
+    let more = one_more_item c.in-Some.action (applied c.args.index.mapping c.in-Some.action (store_of c.args.index.mapping c.loop-items.loading)) c.args.index (store_of c.args.index.mapping c.loop-items.loading) _ c.loop-items.items _ (c.in_ok-apply.ensures.after c.args.index) in
     omega (arith, more, c.loop-items.invariant.few)
 
 pub loop-items-preserved : goal.loop-items-preserved
 loop-items-preserved g c =
     let before = c.loop-items.invariant in
-    let more = one_more_item c.in-Some.action (applied c.args.index.mapping c.in-Some.action c.loop-items.store) c.args.index c.loop-items.store _ c.loop-items.items _ (c.in_ok-apply.ensures c.args.index) in
+    let more = one_more_item c.in-Some.action (applied c.args.index.mapping c.in-Some.action (store_of c.args.index.mapping c.loop-items.loading)) c.args.index (store_of c.args.index.mapping c.loop-items.loading) _ c.loop-items.items _ (c.in_ok-apply.ensures.after c.args.index) in
     let room = rw c.in-Some.is at c.in_ok-action.ensures.room in
     record {
       kept = c.in_ok-action.ensures.kept;
@@ -47,17 +50,19 @@ loop-items-preserved g c =
       index = before.index;
       few = omega (arith, more, c.len.ensures, room refl);
       fitting =
-          still_fits c.in-Some.action (applied c.args.index.mapping c.in-Some.action c.loop-items.store) c.args.index c.loop-items.store _ c.loop-items.items _ (c.in_ok-apply.ensures c.args.index)
-          (applied_fits c.args.index.mapping c.in-Some.action c.loop-items.store before.fitting) before.fitting;
+          still_fits c.in-Some.action (applied c.args.index.mapping c.in-Some.action (store_of c.args.index.mapping c.loop-items.loading)) c.args.index (store_of c.args.index.mapping c.loop-items.loading) _ c.loop-items.items _ (c.in_ok-apply.ensures.after c.args.index)
+          (applied_fits c.args.index.mapping c.in-Some.action (store_of c.args.index.mapping c.loop-items.loading) before.fitting) before.fitting;
+      loading = c.in_ok-apply.ensures.loading;
+      shards = c.in_ok-apply.ensures.shards ∙ before.shards;
       so_far = λ bytes goes_on.
-          let read = rw c.in-Some.is at c.in_ok-action.ensures.script bytes (loading_of c.args.index c.loop-items.store c.loop-items.items) (sym c.as_str.ensures) (sym c.len.ensures) (before.so_far bytes goes_on) in
-          as_loading _ _ _ _ _ _ _ read (c.in_ok-apply.ensures c.args.index);
+          let read = rw c.in-Some.is at c.in_ok-action.ensures.script bytes (loading_of c.args.index (store_of c.args.index.mapping c.loop-items.loading) c.loop-items.items) (sym c.as_str.ensures) (sym c.len.ensures) (before.so_far bytes goes_on) in
+          as_loading _ _ _ _ _ _ _ read (c.in_ok-apply.ensures.after c.args.index);
     }
 
 pub returns-clause-script : goal.returns-clause-script
 returns-clause-script g c bytes goes_on =
-    let read = rw c.in_default.is at c.in_ok-action.ensures.script bytes (loading_of c.args.index c.loop-items.store c.loop-items.items) (sym c.as_str.ensures) (sym c.len.ensures) (c.loop-items.invariant.so_far bytes goes_on) in
-    all_loaded bytes (loading_of c.args.index c.loop-items.store c.loop-items.items) (place_of c.next_action.new.lines) _ _ _ read
+    let read = rw c.in_default.is at c.in_ok-action.ensures.script bytes (loading_of c.args.index (store_of c.args.index.mapping c.loop-items.loading) c.loop-items.items) (sym c.as_str.ensures) (sym c.len.ensures) (c.loop-items.invariant.so_far bytes goes_on) in
+    all_loaded bytes (loading_of c.args.index (store_of c.args.index.mapping c.loop-items.loading) c.loop-items.items) (place_of c.next_action.new.lines) _ _ _ read
 
 pub returns-clause-fitting : goal.returns-clause-fitting
 returns-clause-fitting g c = c.loop-items.invariant.fitting

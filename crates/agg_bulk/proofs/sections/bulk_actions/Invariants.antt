@@ -4,6 +4,7 @@ use Rattle.agg_model.specs.declared.limits.TheConstants.{MAX_ACTIONS}
 use Rattle.agg_reading.specs.Script.{actions, begun}
 use Rattle.fitting_laws.specs.Stores.{IsFitting}
 use Rattle.script_lines.specs.Steps.{place_of}
+use Rattle.column_loading.specs.Loadings.{IsLoadingOf, store_of}
 use Rattle.agg_bulk.specs.Loading.{GoesOn, loading_of}
 use Rattle.agg_bulk.proofs.sections.bulk_actions.Given as goal
 
@@ -15,8 +16,10 @@ pub record Doing (g : goal.Over) (l : goal.Live-loop-items g) : Type 0 where
   pub gave : Gave l.fn.lines l.lines
   pub index : l.index ≡ l.fn.index
   pub few : length l.items ≤ MAX_ACTIONS
-  pub fitting : IsFitting l.index.mapping l.store
-  pub so_far : (bytes : List ℕ) → GoesOn bytes (actions (begun l.fn.index) (place_of l.fn.lines)) l.fn.lines → GoesOn bytes (actions (loading_of l.index l.store l.items) (place_of l.lines)) l.lines
+  pub fitting : IsFitting l.index.mapping (store_of l.index.mapping l.loading)
+  pub loading : IsLoadingOf l.index.mapping l.loading
+  pub shards : l.loading.shards ≡ l.index.shards
+  pub so_far : (bytes : List ℕ) → GoesOn bytes (actions (begun l.fn.index) (place_of l.fn.lines)) l.fn.lines → GoesOn bytes (actions (loading_of l.index (store_of l.index.mapping l.loading) l.items) (place_of l.lines)) l.lines
 
 abbrev pub invariant-loop-items : goal.invariant-loop-items
 invariant-loop-items g l = Doing g l
