@@ -20,6 +20,7 @@ use std::env::Args;
 use std::io;
 use std::thread::Threads;
 use wave_answerer::Team;
+use worker_gate::Gate;
 
 /// Runs the program over a source and a sink, with as many workers and searches at a time as the words say, and answers its exit
 /// status.
@@ -32,7 +33,8 @@ use wave_answerer::Team;
 /// - 6: the columns are beyond a limit; that is the one line.
 /// - 7: memory ran out; whole lines of the output were written.
 ///
-/// Each listener of the audience is told of each answer to a search once its line was written whole.
+/// Each listener of the audience is told of each answer to a search once its line was written whole. Workers that share the tasks of
+/// searches pass the gate; nothing that is promised depends on it.
 pub fn run<R: Threads + Sync, S: Source, K: Sink, L: Listener>(
     rt: &R,
     alloc: Global,
@@ -40,6 +42,7 @@ pub fn run<R: Threads + Sync, S: Source, K: Sink, L: Listener>(
     source: &mut S,
     sink: &mut K,
     audience: &mut Audience<L>,
+    gate: &dyn Gate,
 ) -> u8
     // What was written and read, where the source and the sink tell their bytes: an output that is defined for these words, this
     // input and what was read of it. So for every number of workers and every order in which they come, each search is answered by the
@@ -55,7 +58,7 @@ pub fn run<R: Threads + Sync, S: Source, K: Sink, L: Listener>(
     ensures read_fault { result ≡ 3 → Rose (S.faults source.old) (S.faults source.new) }
     ensures write_fault { result ≡ 4 → Rose (K.faults sink.old) (K.faults sink.new) }
 {
-    script_run::run::<R, S, K, L, Team>(rt, alloc, true, words, source, sink, audience)
+    script_run::run::<R, S, K, L, Team>(rt, alloc, true, words, source, sink, audience, gate)
 }
 
 // The words, and one who listens.
@@ -86,7 +89,8 @@ pub struct Ended<L: Listener> {
 /// Words that are not text are outside the grammar. Where there was no memory for the words, nothing is read or written, and the
 /// status is 7.
 ///
-/// The listener is told of each answer to a search once its line was written whole.
+/// The listener is told of each answer to a search once its line was written whole. Workers that share the tasks of searches pass the
+/// gate.
 pub fn run_arguments<R: Threads + Sync, S: Source, K: Sink, L: Listener>(
     rt: &R,
     alloc: Global,
@@ -94,6 +98,7 @@ pub fn run_arguments<R: Threads + Sync, S: Source, K: Sink, L: Listener>(
     source: &mut S,
     sink: &mut K,
     listener: L,
+    gate: &dyn Gate,
 ) -> Ended<L>
     // What was written and read, and what the listener heard.
     ensures output { (words : Items (Items ℕ)) (input before : Items ℕ) → words_given arguments ≡ Some words →
@@ -118,7 +123,15 @@ pub fn run_arguments<R: Threads + Sync, S: Source, K: Sink, L: Listener>(
 {
     match prepare(alloc, arguments, listener) {
         Ok((words, mut audience)) => {
-            let status = run(rt, alloc, words.as_slice(), source, sink, &mut audience);
+            let status = run(
+                rt,
+                alloc,
+                words.as_slice(),
+                source,
+                sink,
+                &mut audience,
+                gate,
+            );
             Ended {
                 status,
                 audience: Some(audience),

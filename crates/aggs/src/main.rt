@@ -6,6 +6,7 @@ use agg_listen::LargeAnswers;
 use agg_program::run_arguments;
 use std::env;
 use std::process::ExitCode;
+use worker_gate::OpenGate;
 
 fn main(rt: HostRuntime) -> ExitCode {
     let ended = run_arguments(
@@ -15,6 +16,7 @@ fn main(rt: HostRuntime) -> ExitCode {
         &mut StdSource::new(rt.stdin()),
         &mut StdSink::new(rt.stdout()),
         LargeAnswers::new(rt.stderr()),
+        &OpenGate,
     );
     ExitCode::from(ended.status)
 }

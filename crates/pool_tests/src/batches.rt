@@ -1,5 +1,4 @@
 //! A search of seven shards, in batches of 8 and of 2.
-use crate::gates::HeldBack;
 use crate::parts::{Counts, cost_of, counts_of, merged};
 use crate::pools::{Account, Call, Ran, run};
 use crate::scripts::seven_shards;
@@ -9,6 +8,7 @@ use std::alloc::Global;
 use std::process::Abort;
 use std::test::Fail;
 use std::thread::Threads;
+use test_gates::HeldBack;
 
 /// The columns: 20 values of 8 bytes, `a` in seven dictionaries and `b` in five; times 1.03, rounded up.
 const COLUMNS: u64 = 178;

@@ -7,8 +7,6 @@ mod batches;
 #[cfg(test)]
 mod ends;
 #[cfg(test)]
-mod gates;
-#[cfg(test)]
 mod meetings;
 #[cfg(test)]
 mod memory;

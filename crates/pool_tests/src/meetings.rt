@@ -1,6 +1,5 @@
 //! Tasks that run at the same time, and charges that meet.
 use crate::ends::{Wanted, has_ended};
-use crate::gates::{HeldBack, Meeting};
 use crate::pools::{Account, Call, Ran, run};
 use crate::scripts::{seven_shards, two_shards};
 use shard_pool::{Gate, OpenGate, Point};
@@ -8,6 +7,7 @@ use std::alloc::Global;
 use std::process::Abort;
 use std::test::Fail;
 use std::thread::Threads;
+use test_gates::{HeldBack, MAX_TURNS, Meeting};
 
 const TERMS: &[&str] = &[r#"{"aggs":{"t":{"terms":{"field":"t"}}}}"#];
 
@@ -22,7 +22,7 @@ fn tasks_meet(rt: HostRuntime) -> Result<(), Fail> {
             size: 8,
             bodies: TERMS,
         };
-        let gate = Meeting::new(due);
+        let gate = Meeting::new(due, MAX_TURNS);
         let Ran { ends, request, .. } = run(&rt, alloc, seven_shards(alloc)?, call, &gate)?;
         assert!(rt; gate.have_met(), "{workers}");
         for end in ends?.into_vec() {

@@ -1,6 +1,5 @@
 //! Charges that are refused, of one search and of two in one pool.
 use crate::ends::{Wanted, has_ended};
-use crate::gates::HeldBack;
 use crate::parts::Counts;
 use crate::pools::{Account, Call, Ran, run};
 use crate::scripts::seven_shards;
@@ -9,6 +8,7 @@ use std::alloc::Global;
 use std::process::Abort;
 use std::test::Fail;
 use std::thread::Threads;
+use test_gates::HeldBack;
 
 /// One terms aggregation. A task begins with 4,608 bytes, and each word of its shard has 129 more.
 const TERMS: &str = r#"{"aggs":{"t":{"terms":{"field":"t"}}}}"#;

@@ -3,10 +3,9 @@
 #![tactic(auto)]
 
 mod delivering;
-mod gate;
 mod merging;
 mod running;
 mod working;
 
-pub use gate::{Gate, OpenGate, Point};
+pub use worker_gate::{Gate, OpenGate, Point};
 pub use working::work;

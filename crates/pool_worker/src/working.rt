@@ -10,7 +10,6 @@ ghost use Rattle.pool_worker.specs.Plans.{plan_of};
 ghost use Rattle.pool_worker.specs.Steps.{SameClaims};
 
 use crate::delivering::deliver;
-use crate::gate::{Gate, Point};
 use crate::merging::merge;
 use crate::running::run_or_skip;
 use agg_model::{List, Search};
@@ -19,6 +18,7 @@ use breaker_words::Words;
 use pool_results::{Load, Outcome, PoolCall};
 use shard_columns::Index;
 use std::alloc::Global;
+use worker_gate::{Gate, Point};
 
 /// The results of a batch: all, or what is left for the last one.
 fn batch_len(shards: u32, size: u32, batch: u32) -> u32

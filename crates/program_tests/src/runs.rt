@@ -8,6 +8,7 @@ use agg_program::run;
 use std::alloc::{AllocError, Global};
 use std::test::Fail;
 use std::thread::Threads;
+use worker_gate::OpenGate;
 
 pub(crate) const INDEX: &str =
     r#"{"index":"i","mappings":{"properties":{"b":{"type":"boolean"},"n":{"type":"long"},"t":{"type":"keyword"}}},"settings":{"number_of_shards":1}}"#;
@@ -69,7 +70,10 @@ const NO_FAULT: FailedCalls = FailedCalls {
 };
 
 /// Listeners with room for so many answers each.
-fn audience_with_room(alloc: Global, rooms: &[u32]) -> Result<Audience<ListListener>, AllocError> {
+pub(crate) fn audience_with_room(
+    alloc: Global,
+    rooms: &[u32],
+) -> Result<Audience<ListListener>, AllocError> {
     let mut listeners = Vec::new(alloc);
     for room in rooms {
         listeners.push(ListListener::new(alloc, *room)?)?;
@@ -90,7 +94,15 @@ pub(crate) fn answered<R: Threads + Sync>(
     let mut source = MemorySource::new(input, piece, failing(alloc, faults.read)?);
     let mut sink = MemorySink::new(alloc, 1_000_000, piece, failing(alloc, faults.write)?)?;
     let mut audience = audience_with_room(alloc, &[])?;
-    let status = run(rt, alloc, &[], &mut source, &mut sink, &mut audience);
+    let status = run(
+        rt,
+        alloc,
+        &[],
+        &mut source,
+        &mut sink,
+        &mut audience,
+        &OpenGate,
+    );
     Ok((status, Bytes::of(alloc, sink.written())?))
 }
 
@@ -134,6 +146,7 @@ fn words_outside_the_grammar_end_the_run(rt: HostRuntime) -> Result<(), Fail> {
         &mut source,
         &mut sink,
         &mut audience,
+        &OpenGate,
     );
     assert_eq!(rt; status, 2);
     assert_eq!(rt; audience.listeners().len(), 1);
@@ -150,7 +163,15 @@ fn listeners_hear_of_the_answers_and_leave_without_room(rt: HostRuntime) -> Resu
         let mut source = MemorySource::new(input, 65_536, List::new(rt.alloc()));
         let mut sink = MemorySink::new(rt.alloc(), 10_000, 65_536, List::new(rt.alloc()))?;
         let mut audience = audience_with_room(rt.alloc(), &rooms)?;
-        let status = run(&rt, rt.alloc(), &[], &mut source, &mut sink, &mut audience);
+        let status = run(
+            &rt,
+            rt.alloc(),
+            &[],
+            &mut source,
+            &mut sink,
+            &mut audience,
+            &OpenGate,
+        );
         assert_eq!(rt; status, 0);
         assert!(rt; sink.written() == ONE_ANSWER.as_bytes());
         assert_eq!(rt; audience.listeners().len(), left);
@@ -175,7 +196,15 @@ fn where_memory_runs_out_whole_lines_are_written(rt: HostRuntime) -> Result<(), 
     let mut source = MemorySource::new(input, 65_536, List::new(rt.alloc()));
     let mut sink = MemorySink::new(rt.alloc(), 10_000, 65_536, List::new(rt.alloc()))?;
     let mut audience = audience_with_room(rt.alloc(), &[])?;
-    let status = run(&rt, rt.alloc(), &[], &mut source, &mut sink, &mut audience);
+    let status = run(
+        &rt,
+        rt.alloc(),
+        &[],
+        &mut source,
+        &mut sink,
+        &mut audience,
+        &OpenGate,
+    );
     if status == 7 {
         assert!(rt; are_first_lines(sink.written(), ONE_ANSWER.as_bytes()));
     } else {

@@ -13,6 +13,7 @@ ghost use Rattle.script_answers.specs.Answering.{AnswersRound, MayBe, Reopens};
 use agg_model::{Answered, Bytes, List, Settings, Totals, Tripped};
 use std::alloc::{AllocError, Global};
 use std::thread::Threads;
+use worker_gate::Gate;
 
 /// What new settings come to.
 #[derive(Clone, Copy, Debug, PartialEq, Eq)]
@@ -44,12 +45,14 @@ pub trait Answerer: Drop {
         ensures { result ≡ in_force self.now };
 
     /// Answers searches, as many as a wave has or fewer: one answer for each in their order, or with `scan` the pages of each.
-    /// After want of memory it answers no more. It may start threads, all of which have ended when it returns.
+    /// After want of memory it answers no more. It may start threads, all of which have ended when it returns. Workers that
+    /// share tasks pass the gate.
     fn answer<R: Threads + Sync>(
         &mut self,
         rt: &R,
         alloc: Global,
         bodies: &List<Bytes>,
+        gate: &dyn Gate,
     ) -> Result<List<Answered>, AllocError>
         requires shared { IsSync R.row }
         requires some { 1 ≤ length bodies.now }

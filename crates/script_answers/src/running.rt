@@ -29,6 +29,7 @@ use script_entries::next_entry;
 use script_lines::ScriptFault;
 use std::alloc::Global;
 use std::thread::Threads;
+use worker_gate::Gate;
 
 /// How a script ends where a line was not written whole.
 fn stopped(stop: Stop) -> ScriptEnd
@@ -70,7 +71,7 @@ fn end_at<K: Sink, L: Listener>(
 /// is the last line. Where the sink fails, whole lines and a front of the next one were written, and where memory runs out,
 /// also in a search, whole lines.
 ///
-/// The listeners are told of each answer once its line was written whole.
+/// The listeners are told of each answer once its line was written whole. Workers that share tasks pass the gate.
 ///
 /// Beside what the searches take, it holds the bodies of one wave.
 pub fn answer_script<R: Threads + Sync, S: Source, K: Sink, L: Listener, A: Answerer>(
@@ -81,6 +82,7 @@ pub fn answer_script<R: Threads + Sync, S: Source, K: Sink, L: Listener, A: Answ
     audience: &mut Audience<L>,
     answerer: A,
     words: &Settings,
+    gate: &dyn Gate,
 ) -> ScriptEnd
     requires kept { kept lines.old ≡ None }
     requires in_range { AreInRange words.now }
@@ -107,12 +109,14 @@ pub fn answer_script<R: Threads + Sync, S: Source, K: Sink, L: Listener, A: Answ
     };
     loop {
         match next_entry(alloc, lines) {
-            Ok(Some(entry)) => match take_entry(rt, alloc, sink, audience, waiting, words, entry) {
+            Ok(Some(entry)) => match take_entry(
+                rt, alloc, sink, audience, waiting, words, entry, gate,
+            ) {
                 Ok(now) => waiting = now,
                 Err(stop) => return stopped(stop),
             },
             Ok(None) => {
-                return match finish(rt, alloc, sink, audience, waiting, words) {
+                return match finish(rt, alloc, sink, audience, waiting, words, gate) {
                     Ok(()) => ScriptEnd::Finished,
                     Err(stop) => stopped(stop),
                 };

@@ -23,6 +23,7 @@ use script_entries::Entry;
 use serde_json::Value;
 use std::alloc::Global;
 use std::thread::Threads;
+use worker_gate::Gate;
 
 /// Who answers, and the bodies of the searches that wait for their wave to be full.
 #[derive(Drop)]
@@ -40,6 +41,7 @@ fn take_body<R: Threads + Sync, K: Sink, L: Listener, A: Answerer>(
     waiting: Waiting<A>,
     words: &Settings,
     body: Bytes,
+    gate: &dyn Gate,
 ) -> Result<Waiting<A>, Stop>
     requires ready { IsReady words.now (fresh_with (A.in_force waiting.answerer)) waiting.wave }
     ensures takes { IfOk result (λ now. (recent : Recent) →
@@ -66,7 +68,7 @@ fn take_body<R: Threads + Sync, K: Sink, L: Listener, A: Answerer>(
     if wave.len() < words.width as usize {
         return Ok(Waiting { answerer, wave });
     }
-    answer_wave(rt, alloc, sink, audience, &mut answerer, &wave)?;
+    answer_wave(rt, alloc, sink, audience, &mut answerer, &wave, gate)?;
     Ok(Waiting {
         answerer,
         wave: List::new(alloc),
@@ -82,6 +84,7 @@ fn take_settings<R: Threads + Sync, K: Sink, L: Listener, A: Answerer>(
     waiting: Waiting<A>,
     words: &Settings,
     line: &Value,
+    gate: &dyn Gate,
 ) -> Result<Waiting<A>, Stop>
     requires ready { IsReady words.now (fresh_with (A.in_force waiting.answerer)) waiting.wave }
     requires line { is_settings_line (view line.now) ≡ true }
@@ -103,7 +106,7 @@ fn take_settings<R: Threads + Sync, K: Sink, L: Listener, A: Answerer>(
     ensures never_falls { K.faults sink.old ≤ K.faults sink.new }
 {
     let Waiting { mut answerer, wave } = waiting;
-    answer_wave(rt, alloc, sink, audience, &mut answerer, &wave)?;
+    answer_wave(rt, alloc, sink, audience, &mut answerer, &wave, gate)?;
     let answerer = change_settings(alloc, sink, audience, answerer, words, line)?;
     Ok(Waiting {
         answerer,
@@ -120,6 +123,7 @@ pub(crate) fn take_entry<R: Threads + Sync, K: Sink, L: Listener, A: Answerer>(
     waiting: Waiting<A>,
     words: &Settings,
     entry: Entry,
+    gate: &dyn Gate,
 ) -> Result<Waiting<A>, Stop>
     requires ready { IsReady words.now (fresh_with (A.in_force waiting.answerer)) waiting.wave }
     requires formed { IsFormed (Some entry) }
@@ -141,8 +145,10 @@ pub(crate) fn take_entry<R: Threads + Sync, K: Sink, L: Listener, A: Answerer>(
     ensures never_falls { K.faults sink.old ≤ K.faults sink.new }
 {
     match entry {
-        Entry::Body(body) => take_body(rt, alloc, sink, audience, waiting, words, body),
-        Entry::Settings(line) => take_settings(rt, alloc, sink, audience, waiting, words, &line),
+        Entry::Body(body) => take_body(rt, alloc, sink, audience, waiting, words, body, gate),
+        Entry::Settings(line) => take_settings(
+            rt, alloc, sink, audience, waiting, words, &line, gate,
+        ),
     }
 }
 
@@ -154,6 +160,7 @@ pub(crate) fn finish<R: Threads + Sync, K: Sink, L: Listener, A: Answerer>(
     audience: &mut Audience<L>,
     waiting: Waiting<A>,
     words: &Settings,
+    gate: &dyn Gate,
 ) -> Result<(), Stop>
     requires ready { IsReady words.now (fresh_with (A.in_force waiting.answerer)) waiting.wave }
     ensures finishes { OnOk result ((recent : Recent) →
@@ -168,6 +175,6 @@ pub(crate) fn finish<R: Threads + Sync, K: Sink, L: Listener, A: Answerer>(
     ensures never_falls { K.faults sink.old ≤ K.faults sink.new }
 {
     let Waiting { mut answerer, wave } = waiting;
-    answer_wave(rt, alloc, sink, audience, &mut answerer, &wave)?;
+    answer_wave(rt, alloc, sink, audience, &mut answerer, &wave, gate)?;
     close(alloc, sink, audience, answerer)
 }

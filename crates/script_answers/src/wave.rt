@@ -15,6 +15,7 @@ use agg_listen::{Audience, Listener};
 use agg_model::{Bytes, List};
 use std::alloc::Global;
 use std::thread::Threads;
+use worker_gate::Gate;
 
 /// Answers the searches of a wave, writes their lines in their order, and tells the listeners of each once it is written. A wave
 /// may be empty, and then nothing is answered nor written.
@@ -28,6 +29,7 @@ pub fn answer_wave<R: Threads + Sync, K: Sink, L: Listener, A: Answerer>(
     audience: &mut Audience<L>,
     answerer: &mut A,
     bodies: &List<Bytes>,
+    gate: &dyn Gate,
 ) -> Result<(), Stop>
     requires some { 1 ≤ (A.in_force answerer.old).width }
     requires few { length bodies.now ≤ (A.in_force answerer.old).width }
@@ -44,7 +46,7 @@ pub fn answer_wave<R: Threads + Sync, K: Sink, L: Listener, A: Answerer>(
     if bodies.is_empty() {
         return Ok(());
     }
-    let answers = answerer.answer(rt, alloc, bodies)?;
+    let answers = answerer.answer(rt, alloc, bodies, gate)?;
     write_answers(alloc, sink, audience, &answers)
 }
 

@@ -25,6 +25,7 @@ use agg_model::Settings;
 use script_answers::{ScriptEnd, answer_script};
 use std::alloc::Global;
 use std::thread::Threads;
+use worker_gate::Gate;
 
 /// The status of a run whose third section ended so.
 fn status_of(end: ScriptEnd) -> Status
@@ -48,6 +49,7 @@ fn answer_loaded<R: Threads + Sync, S: Source, K: Sink, L: Listener, A: Opens>(
     audience: &mut Audience<L>,
     settings: Settings,
     loaded: Loaded,
+    gate: &dyn Gate,
 ) -> Status
     requires kept { kept lines.old ≡ None }
     requires in_range { AreInRange settings }
@@ -79,7 +81,7 @@ fn answer_loaded<R: Threads + Sync, S: Source, K: Sink, L: Listener, A: Opens>(
     }
     drop(items);
     let answerer = A::open(index, words, pass, settings);
-    status_of(answer_script(rt, alloc, lines, sink, audience, answerer, &settings))
+    status_of(answer_script(rt, alloc, lines, sink, audience, answerer, &settings, gate))
 }
 
 /// Answers a whole script, from its start.
@@ -90,6 +92,7 @@ pub(crate) fn answer_lines<R: Threads + Sync, S: Source, K: Sink, L: Listener, A
     sink: &mut K,
     audience: &mut Audience<L>,
     settings: Settings,
+    gate: &dyn Gate,
 ) -> Status
     requires kept { kept lines.old ≡ None }
     requires start { place_of lines.old ≡ start }
@@ -107,7 +110,7 @@ pub(crate) fn answer_lines<R: Threads + Sync, S: Source, K: Sink, L: Listener, A
 {
     match load(alloc, lines, &settings) {
         Ok(loaded) => answer_loaded::<R, S, K, L, A>(
-            rt, alloc, lines, sink, audience, settings, loaded,
+            rt, alloc, lines, sink, audience, settings, loaded, gate,
         ),
         Err(end) => end_loading(alloc, sink, audience, &end),
     }

@@ -24,6 +24,7 @@ use agg_model::{Generate, Settings, Text};
 use agg_settings::{SettingsFault, settings_of};
 use std::alloc::Global;
 use std::thread::Threads;
+use worker_gate::Gate;
 
 /// Answers the script that a source has left.
 fn answer_source<R: Threads + Sync, S: Source, K: Sink, L: Listener, A: Opens>(
@@ -33,6 +34,7 @@ fn answer_source<R: Threads + Sync, S: Source, K: Sink, L: Listener, A: Opens>(
     sink: &mut K,
     audience: &mut Audience<L>,
     settings: Settings,
+    gate: &dyn Gate,
 ) -> Status
     requires in_range { AreInRange settings }
     requires takes { A.takes settings }
@@ -49,7 +51,9 @@ fn answer_source<R: Threads + Sync, S: Source, K: Sink, L: Listener, A: Opens>(
         return Status::Memory;
     };
     let mut lines = Lines::new(alloc, source, block);
-    let status = answer_lines::<R, S, K, L, A>(rt, alloc, &mut lines, sink, audience, settings);
+    let status = answer_lines::<R, S, K, L, A>(
+        rt, alloc, &mut lines, sink, audience, settings, gate,
+    );
     let _source = lines.into_source();
     status
 }
@@ -62,6 +66,7 @@ fn answer_generated<R: Threads + Sync, K: Sink, L: Listener, A: Opens>(
     audience: &mut Audience<L>,
     settings: Settings,
     generate: &Generate,
+    gate: &dyn Gate,
 ) -> Status
     requires in_range { AreInRange settings }
     requires takes { A.takes settings }
@@ -75,7 +80,7 @@ fn answer_generated<R: Threads + Sync, K: Sink, L: Listener, A: Opens>(
         return Status::Memory;
     };
     let mut source = Given::new(script);
-    answer_source::<R, Given, K, L, A>(rt, alloc, &mut source, sink, audience, settings)
+    answer_source::<R, Given, K, L, A>(rt, alloc, &mut source, sink, audience, settings, gate)
 }
 
 /// Answers the script that the settings ask for: what the source has left, or a generated script.
@@ -86,6 +91,7 @@ fn answer_settings<R: Threads + Sync, S: Source, K: Sink, L: Listener, A: Opens>
     sink: &mut K,
     audience: &mut Audience<L>,
     settings: Settings,
+    gate: &dyn Gate,
 ) -> Status
     requires in_range { AreInRange settings }
     requires takes { A.takes settings }
@@ -99,9 +105,9 @@ fn answer_settings<R: Threads + Sync, S: Source, K: Sink, L: Listener, A: Opens>
 {
     match &settings.generate {
         Some(generate) => answer_generated::<R, K, L, A>(
-            rt, alloc, sink, audience, settings, generate,
+            rt, alloc, sink, audience, settings, generate, gate,
         ),
-        None => answer_source::<R, S, K, L, A>(rt, alloc, source, sink, audience, settings),
+        None => answer_source::<R, S, K, L, A>(rt, alloc, source, sink, audience, settings, gate),
     }
 }
 
@@ -115,6 +121,7 @@ fn status_of<R: Threads + Sync, S: Source, K: Sink, L: Listener, A: Opens>(
     source: &mut S,
     sink: &mut K,
     audience: &mut Audience<L>,
+    gate: &dyn Gate,
 ) -> Status
     requires takes { (settings : AnySettings) → settings_given several words.now ≡ Ok settings → A.takes settings }
     ensures output { (input before : Items ℕ) → S.left source.old ≡ Some input → K.written sink.old ≡ Some before →
@@ -129,7 +136,7 @@ fn status_of<R: Threads + Sync, S: Source, K: Sink, L: Listener, A: Opens>(
 {
     match settings_of(alloc, words, several) {
         Ok(settings) => answer_settings::<R, S, K, L, A>(
-            rt, alloc, source, sink, audience, settings,
+            rt, alloc, source, sink, audience, settings, gate,
         ),
         Err(SettingsFault::Usage(usage)) => {
             ended(write_usage(alloc, sink, audience, &usage), Status::Usage)
@@ -150,7 +157,7 @@ fn status_of<R: Threads + Sync, S: Source, K: Sink, L: Listener, A: Opens>(
 /// - 7: memory ran out; whole lines of the output were written.
 ///
 /// Each listener of the audience is told of each answer to a search once its line was written whole. Whoever answers may start
-/// threads, which have ended when it returns.
+/// threads, which have ended when it returns; workers that share tasks pass the gate.
 pub fn run<R: Threads + Sync, S: Source, K: Sink, L: Listener, A: Opens>(
     rt: &R,
     alloc: Global,
@@ -159,6 +166,7 @@ pub fn run<R: Threads + Sync, S: Source, K: Sink, L: Listener, A: Opens>(
     source: &mut S,
     sink: &mut K,
     audience: &mut Audience<L>,
+    gate: &dyn Gate,
 ) -> u8
     requires takes { (settings : AnySettings) → settings_given several words.now ≡ Ok settings → A.takes settings }
     // What was written and read, where the source and the sink tell their bytes.
@@ -173,5 +181,5 @@ pub fn run<R: Threads + Sync, S: Source, K: Sink, L: Listener, A: Opens>(
     ensures read_fault { result ≡ 3 → Rose (S.faults source.old) (S.faults source.new) }
     ensures write_fault { result ≡ 4 → Rose (K.faults sink.old) (K.faults sink.new) }
 {
-    status_of::<R, S, K, L, A>(rt, alloc, several, words, source, sink, audience).code()
+    status_of::<R, S, K, L, A>(rt, alloc, several, words, source, sink, audience, gate).code()
 }

@@ -1,15 +1,11 @@
 //! One worker, who answers one search after another.
-ghost use Rattle.std.specs.Prelude.{◌≡◌, ◌≤◌, ℕ, List as Items, length, map, IfOk, []};
+ghost use Rattle.std.specs.Prelude.{◌≡◌, []};
 ghost use Rattle.index_laws.specs.Indexes.{index_of};
-ghost use Rattle.agg_model.specs.declared.settings.Settings.{Settings as AnySettings};
 ghost use Rattle.agg_settings.specs.Ranges.{AreInRange};
 ghost use Rattle.agg_spec.specs.Answers.{Recent};
 ghost use Rattle.agg_spec.specs.Columns.{columns_charge};
-ghost use Rattle.agg_spec.specs.Index.{Index as AnyIndex};
-ghost use Rattle.agg_spec.specs.Requests.{request_of};
-ghost use Rattle.agg_spec.specs.Rounds.{Round};
 ghost use Rattle.agg_spec.specs.Statistics.{AreTotals};
-ghost use Rattle.script_answers.specs.Answering.{AnswersRound, MayBe, Reopens};
+ghost use Rattle.script_answers.specs.Answering.{MayBe, Reopens};
 ghost use Rattle.script_run.specs.Charged.{IsCharged};
 ghost use Rattle.solo_answerer.specs.Worked.{IsForOne, IsIdle, WorkerAnswered};
 
@@ -23,6 +19,7 @@ use script_run::Opens;
 use shard_columns::Index;
 use std::alloc::{AllocError, Global};
 use std::thread::Threads;
+use worker_gate::Gate;
 
 /// One worker, with the index whose searches it answers, the breakers, and the settings in force.
 #[derive(Drop)]
@@ -56,18 +53,8 @@ impl Answerer for Worker {
         _rt: &R,
         alloc: Global,
         bodies: &List<Bytes>,
-    ) -> Result<List<Answered>, AllocError>
-        requires some { 1 ≤ length bodies.now }
-        requires few { length bodies.now ≤ self.old.settings.width }
-        ensures rounds { IfOk result (λ answers. (recent : Recent) →
-            MayBe self.old.settings (WorkerAnswered self.old.settings self.old.index self.old.pass.view) recent →
-            AnswersRound (index_of self.old.index) (columns_charge (index_of self.old.index)) recent
-            (map (request_of (index_of self.old.index)) bodies.now)
-            (WorkerAnswered self.new.settings self.new.index self.new.pass.view) answers) }
-        ensures same_settings { self.new.settings ≡ self.old.settings }
-        ensures same_index { index_of self.new.index ≡ index_of self.old.index }
-        ensures same_columns { columns_charge (index_of self.new.index) ≡ columns_charge (index_of self.old.index) }
-    {
+        _gate: &dyn Gate,
+    ) -> Result<List<Answered>, AllocError> {
         let body = &bodies.as_slice()[0];
         // No line of a script is longer.
         if body.len() > MAX_LINE {

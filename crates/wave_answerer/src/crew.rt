@@ -1,15 +1,13 @@
 //! Many workers, who answer the searches of a wave side by side.
-ghost use Rattle.std.specs.Prelude.{◌≡◌, ◌≤◌, IfOk, [], false, length, map, nat_le};
+ghost use Rattle.std.specs.Prelude.{◌≡◌, [], false, length, nat_le};
 ghost use Rattle.std.specs.List.{list_all};
-ghost use Rattle.std.specs.Thread.{IsSync};
 ghost use Rattle.index_laws.specs.Indexes.{index_of};
 ghost use Rattle.agg_model.specs.declared.limits.TheConstants.{MAX_LINE};
 ghost use Rattle.agg_settings.specs.Ranges.{AreInRange};
 ghost use Rattle.agg_spec.specs.Answers.{Recent};
 ghost use Rattle.agg_spec.specs.Columns.{columns_charge};
-ghost use Rattle.agg_spec.specs.Requests.{request_of};
 ghost use Rattle.agg_spec.specs.Statistics.{AreTotals, is_solo};
-ghost use Rattle.script_answers.specs.Answering.{AnswersRound, MayBe, Reopens};
+ghost use Rattle.script_answers.specs.Answering.{MayBe, Reopens};
 ghost use Rattle.script_run.specs.Charged.{IsCharged};
 ghost use Rattle.solo_answerer.specs.Worked.{IsIdle};
 ghost use Rattle.wave_answerer.specs.Worked.{CrewAnswered};
@@ -20,10 +18,11 @@ use breaker_tree::{Reopened, close, reopen};
 use breaker_words::{Pass, Words, look};
 use script_answers::{Answerer, Reopening};
 use script_run::Opens;
-use search_wave::{OpenGate, search_pages, search_wave};
+use search_wave::{search_pages, search_wave};
 use shard_columns::Index;
 use std::alloc::{AllocError, Global};
 use std::thread::Threads;
+use worker_gate::Gate;
 
 /// Many workers, with the index whose searches they answer, the breakers, and the settings in force. Between two waves there is no
 /// thread of theirs.
@@ -66,19 +65,8 @@ impl Answerer for Crew {
         rt: &R,
         alloc: Global,
         bodies: &List<Bytes>,
-    ) -> Result<List<Answered>, AllocError>
-        requires shared { IsSync R.row }
-        requires some { 1 ≤ length bodies.now }
-        requires few { length bodies.now ≤ self.old.settings.width }
-        ensures rounds { IfOk result (λ answers. (recent : Recent) →
-            MayBe self.old.settings (CrewAnswered self.old.index self.old.pass.view) recent →
-            AnswersRound (index_of self.old.index) (columns_charge (index_of self.old.index)) recent
-            (map (request_of (index_of self.old.index)) bodies.now)
-            (CrewAnswered self.new.index self.new.pass.view) answers) }
-        ensures same_settings { self.new.settings ≡ self.old.settings }
-        ensures same_index { index_of self.new.index ≡ index_of self.old.index }
-        ensures same_columns { columns_charge (index_of self.new.index) ≡ columns_charge (index_of self.old.index) }
-    {
+        gate: &dyn Gate,
+    ) -> Result<List<Answered>, AllocError> {
         // No line of a script is longer.
         if !are_lines(bodies) {
             return Err(AllocError);
@@ -92,7 +80,7 @@ impl Answerer for Crew {
                 &self.index,
                 &bodies.as_slice()[0],
                 &self.settings,
-                &OpenGate,
+                &gate,
             );
         }
         search_wave(
@@ -103,7 +91,7 @@ impl Answerer for Crew {
             &self.index,
             bodies,
             &self.settings,
-            &OpenGate,
+            &gate,
         )
     }
 

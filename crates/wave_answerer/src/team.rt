@@ -15,6 +15,7 @@ use shard_columns::Index;
 use solo_answerer::Worker;
 use std::alloc::{AllocError, Global};
 use std::thread::Threads;
+use worker_gate::Gate;
 
 /// Who answers the searches of a script, whatever the settings are: one worker, where it is to run one search at a time, and else
 /// many.
@@ -56,10 +57,11 @@ impl Answerer for Team {
         rt: &R,
         alloc: Global,
         bodies: &List<Bytes>,
+        gate: &dyn Gate,
     ) -> Result<List<Answered>, AllocError> {
         match self {
-            Team::One(worker) => worker.answer(rt, alloc, bodies),
-            Team::Many(crew) => crew.answer(rt, alloc, bodies),
+            Team::One(worker) => worker.answer(rt, alloc, bodies, gate),
+            Team::Many(crew) => crew.answer(rt, alloc, bodies, gate),
         }
     }
 

@@ -17,6 +17,13 @@ pub trait Gate: Sync {
     fn pass(&self, task: u32, point: Point);
 }
 
+/// A gate that is lent as any gate.
+impl Gate for &dyn Gate {
+    fn pass(&self, task: u32, point: Point) {
+        (**self).pass(task, point);
+    }
+}
+
 /// A gate that is always open.
 pub struct OpenGate;
 
