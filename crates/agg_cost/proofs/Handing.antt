@@ -42,7 +42,7 @@ module _ (all : List PlacedRow) (k : Kind) where
       ap (λ (rs : List RowPaths). over_paths (carried all k f) (reached_by all rs)) (take_more reached i d below)
       ∙ reached-push all (carried all k f) (take i reached) (get_or reached i d)
 
-  stays-there : stays k ≡ true → (r : PlacedRow) → under all (r ∷ []) k (r ∷ []) ≡ r ∷ []
+  pub stays-there : stays k ≡ true → (r : PlacedRow) → under all (r ∷ []) k (r ∷ []) ≡ r ∷ []
   stays-there = there k
     where
       there : (k : Kind) → stays k ≡ true → (r : PlacedRow) → under all (r ∷ []) k (r ∷ []) ≡ r ∷ []

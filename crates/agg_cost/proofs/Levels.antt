@@ -33,7 +33,7 @@ module _ (kinds : List FieldKind) (all : List PlacedRow) where
   alike-buckets k a_number nodes p q e = refl
 
   -- one level: the nodes, their buckets, and what the children have
-  bound-level : (a : Agg) (nodes : ℕ) (rs : List Reached) →
+  pub bound-level : (a : Agg) (nodes : ℕ) (rs : List Reached) →
       let k = (out-Agg a).kind in
       let handed = handed_on kinds all k rs in
       let buckets = bucket_bound kinds all k (shape_of k) nodes (path_count handed) in

@@ -15,3 +15,7 @@ pub mod NodeSums
 pub mod SharedTypes
 pub mod SharedShards
 pub mod EachTask
+pub mod Widths
+pub mod KeyNumbers
+pub mod Holding
+pub mod Narrowness

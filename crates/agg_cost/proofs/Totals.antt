@@ -79,7 +79,7 @@ module _ (rows : List PlacedRow) where
       → node_bound kinds rows a 1 (collected_by (is_global (out-Agg a).kind) rows (reached_by rows rs)) ≡ bytes_of kinds rows s a
   one-bytes kinds s a rs e = ap (λ (reached : List Reached). node_bound kinds rows a 1 reached) (collected (is_global (out-Agg a).kind) (reached_by rows rs) (matched_roots rows s.query) e)
 
-sum-more : (f : Agg → ℕ) (xs : List Agg) (i : ℕ) (a : Agg) → i < length xs → a ≡ get_or xs i a → sum_by f (take (i + 1) xs) ≡ sum_by f (take i xs) + f a
+pub sum-more : (f : Agg → ℕ) (xs : List Agg) (i : ℕ) (a : Agg) → i < length xs → a ≡ get_or xs i a → sum_by f (take (i + 1) xs) ≡ sum_by f (take i xs) + f a
 sum-more f xs i a below is =
     let whole = ap (sum_by f) (take_more xs i a below) ∙ sum_by-append f (take i xs) (get_or xs i a ∷ []) in
     let one = sum_by-cons f (get_or xs i a) [] in

@@ -7,3 +7,4 @@ pub mod Staying
 pub mod Roots
 pub mod Searches
 pub mod Nodes
+pub mod Widths

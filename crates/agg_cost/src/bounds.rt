@@ -31,7 +31,7 @@ fn path_count(reached: &[RowPaths]) -> u64
 }
 
 // A bound on the buckets of so many nodes, to whose keys so many paths lead.
-fn bucket_count(kind: &Kind, nodes: u64, paths: u64) -> u64
+pub(crate) fn bucket_count(kind: &Kind, nodes: u64, paths: u64) -> u64
     ensures { (kinds : List FieldKind) (rows : List PlacedRow) → result ≡ capped (bucket_bound kinds rows kind.now (shape_of kind.now) nodes paths) }
 {
     match kind {

@@ -9,8 +9,10 @@ mod key_counts;
 mod paths;
 mod searches;
 mod task;
+mod width;
 
 pub use bounds::node_bytes;
 pub use paths::RowPaths;
 pub use searches::{ceilings, search_ceiling};
 pub use task::ceiling;
+pub use width::is_too_wide;

@@ -1,5 +1,5 @@
 -- What the shards that are left come to, and which searches run.
-use Rattle.std.specs.Prelude.{◌≡◌, refl, ℕ, ◌+◌, ◌-◌, ◌≤◌, nat_lt, not, Bool, true, false, List, [], ◌∷◌, ◌*◌, is_some, length, Option, Some, None, Result, Ok, Err}
+use Rattle.std.specs.Prelude.{◌≡◌, refl, ℕ, ◌+◌, ◌-◌, ◌≤◌, nat_lt, Bool, true, false, List, [], ◌∷◌, ◌*◌, is_none, length, Option, Some, None, Result, Ok, Err}
 use Rattle.std.proofs.Common.{◌∙◌, sym, ap, subst, arith}
 use Rattle.std.proofs.lemmas.Bool.{le-ltb}
 use Rattle.agg_evaluation.specs.Ceiling.{search_ceiling}
@@ -101,9 +101,9 @@ module _ (index : Index) (max : ℕ) (search : Search) where
       ap (λ s. running s (outcome index max request [])) e ∙ ap (running (Ok search)) (not-wide request [] n e some)
       ∙ runs-count (unfailed index []) (nat_lt max (total_buckets search (answer_of index search (unfailed index []))))
 
-pub from-some : (o : Option ℕ) (b : Bool) → is_some o ≡ not b → b ≡ false → (n : ℕ) × (o ≡ Some n)
+pub from-some : (o : Option ℕ) (b : Bool) → b ≡ is_none o → b ≡ false → (n : ℕ) × (o ≡ Some n)
 from-some (Some n) b e h = (n, refl)
-from-some None b e h = absurd (let no : false ≡ true = e ∙ ap not h in (let none : ⊥ = cc in none))
+from-some None b e h = absurd (let no : false ≡ true = sym h ∙ e in (let none : ⊥ = cc in none))
 
 -- what reading a body told, unless memory ran out
 pub told-fault : (read : Result Search RequestFault) (f : RequestFault) → Gives (λ (search : Search). search) (Err f) read → IsTold f → read ≡ Err f

@@ -20,7 +20,7 @@ use crate::paging::Found;
 use crate::progress::Progress;
 use crate::reducing::reduce_search;
 use crate::stop::Stop;
-use agg_cost::search_ceiling;
+use agg_cost::is_too_wide;
 use agg_model::{Answered, Bytes, Child, Failure, List, Outcome, Refused, Search, Settings};
 use agg_reading::RequestFault;
 use agg_request::search_of;
@@ -57,7 +57,7 @@ fn run_search(
     ensures stops { IfErr result (λ stop. IfRefused stop (λ t. (request : Request) → request.search ≡ Ok search →
         StopsSearching settings.now (index_of index.now) request pass.old.view pass.new.view progress.new.failures t)) }
 {
-    if search_ceiling(alloc, index, &search)?.is_none() {
+    if is_too_wide(alloc, index, &search)? {
         return Ok(Found::without_page(Outcome::Refused(Refused::TooWide)));
     }
     let size = settings.batch as usize;

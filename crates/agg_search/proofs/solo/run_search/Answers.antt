@@ -1,33 +1,32 @@
 use Rattle.std.proofs.lemmas.Result.{err_from_is_err_and}
-use Rattle.std.proofs.Common.{sym, ◌∙◌}
 use Rattle.index_laws.specs.Indexes.{index_of}
 use Rattle.agg_search.proofs.AnswerParts.{shards-apart}
 use Rattle.agg_search.proofs.Outcomes.{from-some, search-ends, stops-search-if}
 use Rattle.agg_search.proofs.solo.run_search.Goals as goal
 
-pub search_ceiling-requires-clause-apart : goal.search_ceiling-requires-clause-apart
-search_ceiling-requires-clause-apart c = shards-apart c.args.index.now
+pub is_too_wide-requires-clause-apart : goal.is_too_wide-requires-clause-apart
+is_too_wide-requires-clause-apart c = shards-apart c.args.index.now
 
 pub reduce_search-requires-clause-search : goal.reduce_search-requires-clause-search
 reduce_search-requires-clause-search c =
-    let found = from-some c.in_ok-search_ceiling.field-0 c.is_none.result c.is_none.ensures c.if-is_none.false in
-    record { made = c.requires.made; ceiling = found.0; is = sym c.in_ok-search_ceiling.ensures ∙ found.1 }
+    let found = from-some _ c.in_ok-is_too_wide.field-0 c.in_ok-is_too_wide.ensures c.if-branch.false in
+    record { made = c.requires.made; ceiling = found.0; is = found.1 }
 
 pub outcome_of-requires-clause-search : goal.outcome_of-requires-clause-search
 outcome_of-requires-clause-search c =
-    let found = from-some c.in_ok-search_ceiling.field-0 c.is_none.result c.is_none.ensures c.if-is_none.false in
-    record { made = c.requires.made; ceiling = found.0; is = sym c.in_ok-search_ceiling.ensures ∙ found.1 }
+    let found = from-some _ c.in_ok-is_too_wide.field-0 c.in_ok-is_too_wide.ensures c.if-branch.false in
+    record { made = c.requires.made; ceiling = found.0; is = found.1 }
 
 pub returns-in_err-whole-clause-stops : goal.returns-in_err-whole-clause-stops
 returns-in_err-whole-clause-stops c =
     let p = err_from_is_err_and c.from_residual-in_err-whole.result c.from_residual-in_err-whole.ensures.1 in
-    let found = from-some c.in_ok-search_ceiling.field-0 c.is_none.result c.is_none.ensures c.if-is_none.false in
+    let found = from-some _ c.in_ok-is_too_wide.field-0 c.in_ok-is_too_wide.ensures c.if-branch.false in
     rw (p.1, p.2)
-    (stops-search-if c.args.settings.now (index_of c.args.index.now) c.args.search found.0 (sym c.in_ok-search_ceiling.ensures ∙ found.1) c.args.words.now.limits c.requires.limits
+    (stops-search-if c.args.settings.now (index_of c.args.index.now) c.args.search found.0 found.1 c.args.words.now.limits c.requires.limits
     c.args.pass.now.view c.reduce_search.new.pass.view c.reduce_search.new.progress.failures c.in_err-whole.field-0.0 c.in_err-whole.ensures.stops)
 
 pub returns-clause-searches : goal.returns-clause-searches
 returns-clause-searches c request is before r stands =
-    let found = from-some c.in_ok-search_ceiling.field-0 c.is_none.result c.is_none.ensures c.if-is_none.false in
-    search-ends c.args.settings.now (index_of c.args.index.now) c.args.search request is found.0 (sym c.in_ok-search_ceiling.ensures ∙ found.1) c.args.words.now.limits c.requires.limits
+    let found = from-some _ c.in_ok-is_too_wide.field-0 c.in_ok-is_too_wide.ensures c.if-branch.false in
+    search-ends c.args.settings.now (index_of c.args.index.now) c.args.search request is found.0 found.1 c.args.words.now.limits c.requires.limits
     before c.reduce_search.new.pass.view r c.reduce_search.new.progress.failures c.in_ok-outcome_of.field-0.outcome (c.in_ok-whole.ensures.reduces before r stands) c.in_ok-outcome_of.ensures.outcome
