@@ -99,11 +99,25 @@ fn number_at(alloc: Global, line: &str, path: &str) -> Result<Option<u64>, Fail>
     Ok(value.pointer(path).and_then(Value::as_u64))
 }
 
-/// The line of a search that this breaker refused at this total, in bytes.
-fn refusal(alloc: Global, breaker: &str, total: u64, limit: u64) -> Result<String, AllocError> {
-    format!(in alloc;
-        "{{\"error\":{{\"bytes_limit\":{limit},\"bytes_wanted\":{total},\"durability\":\"TRANSIENT\",\"reason\":\"[{breaker}] Data too large, data for [search] would be [{total}b], which is larger than the limit of [{limit}b]\",\"type\":\"circuit_breaking_exception\"}},\"status\":429}}"
-    )
+/// What the statistics say that a breaker holds, in bytes.
+fn held_at(alloc: Global, statistics: &str, breaker: &str) -> Result<Option<u64>, Fail> {
+    let path = format!(in alloc; "/breakers/{breaker}/estimated_size_in_bytes")?;
+    number_at(alloc, statistics, path.as_str())
+}
+
+/// The line of a search that this breaker refused at a total in bytes, or that of one that is not refused.
+fn wanted_line(
+    alloc: Global,
+    breaker: &str,
+    total: Option<u64>,
+    limit: u64,
+) -> Result<String, AllocError> {
+    match total {
+        Some(bytes) => format!(in alloc;
+            "{{\"error\":{{\"bytes_limit\":{limit},\"bytes_wanted\":{bytes},\"durability\":\"TRANSIENT\",\"reason\":\"[{breaker}] Data too large, data for [search] would be [{bytes}b], which is larger than the limit of [{limit}b]\",\"type\":\"circuit_breaking_exception\"}},\"status\":429}}"
+        ),
+        None => String::from_str(alloc, ANSWER),
+    }
 }
 
 /// The first task goes on when the second is claimed, by another worker.
@@ -175,6 +189,16 @@ const CASES: [Case; 5] = [
     },
 ];
 
+/// The words of a run at a limit, in bytes.
+fn storm_words(
+    alloc: Global,
+    workers: u32,
+    setting: &str,
+    limit: u64,
+) -> Result<String, AllocError> {
+    format!(in alloc; "--batched-reduce-size 2 --workers {workers} -E {setting}={limit}b")
+}
+
 /// Runs a case, and answers the total at which the search was refused. Behind it nothing is held but the columns: 20 values of 8 bytes and
 /// 12 words of one byte, times 1.03.
 fn refused_at<R: Threads + Abort + Sync>(
@@ -190,24 +214,16 @@ fn refused_at<R: Threads + Abort + Sync>(
         limit,
         alone: _,
     } = *case;
-    let words = format!(in alloc;
-        "--batched-reduce-size 2 --workers {workers} -E {setting}={limit}b"
-    )?;
+    let words = storm_words(alloc, workers, setting, limit)?;
     let text = printed(rt, alloc, words.as_str(), seven_shards(alloc, 1)?, gate)?;
-    let [Some(line), Some(statistics), None] = [1, 2, 3].map(|n| text.lines().nth(n)) else {
-        return Err(Fail::new("not three lines"));
-    };
+    assert_eq!(rt; text.lines().count(), 3, "{words}");
+    let line = text.lines().nth(1).unwrap_or_default();
+    let statistics = text.lines().last().unwrap_or_default();
     let total = number_at(alloc, line, "/error/bytes_wanted")?;
-    match total {
-        Some(bytes) => {
-            assert!(rt; limit < bytes, "{words}");
-            assert_eq!(rt;
-                line,
-                refusal(alloc, breaker, bytes, limit)?.as_str(),
-                "{words}"
-            );
-        }
-        None => assert_eq!(rt; line, ANSWER, "{words}"),
+    let wanted = wanted_line(alloc, breaker, total, limit)?;
+    assert!(rt; line == wanted.as_str(), "{words}: {line}");
+    if let Some(bytes) = total {
+        assert!(rt; limit < bytes, "{words}");
     }
     for (name, held) in [
         ("request", 0),
@@ -215,12 +231,7 @@ fn refused_at<R: Threads + Abort + Sync>(
         ("inflight_requests", 0),
         ("parent", 178),
     ] {
-        let path = format!(in alloc; "/breakers/{name}/estimated_size_in_bytes")?;
-        assert_eq!(rt;
-            number_at(alloc, statistics, path.as_str())?,
-            Some(held),
-            "{words}"
-        );
+        assert_eq!(rt; held_at(alloc, statistics, name)?, Some(held), "{words}");
     }
     Ok(total)
 }
