@@ -30,7 +30,8 @@ CanDeal drafts document =
 -- one more document is put behind those that the drafts hold, whichever they are
 abbrev pub Deals : List ShardDraft → List ShardDraft → Document → Type 0
 Deals old new document =
-    (m : Mapping) (documents : List Document) → AreDraftsOf m (cut documents (length old)) old → AreLight m (documents ++ document ∷ []) → AreDraftsOf m (cut (documents ++ document ∷ []) (length old)) new
+    (m : Mapping) (documents : List Document) → AreDraftsOf m (cut documents (length old)) old →
+    AreLight m (documents ++ document ∷ []) → AreDraftsOf m (cut (documents ++ document ∷ []) (length old)) new
 
 -- the drafts hold some documents under this mapping
 abbrev pub AreDraftsFor : Mapping → List ShardDraft → Type 0
@@ -58,4 +59,5 @@ pub record CanGrow (drafts : Option (Vec ShardDraft Global)) (document : Documen
 -- they hold one more document, whichever they held
 abbrev pub Grows : Option (Vec ShardDraft Global) → Option (Vec ShardDraft Global) → Document → Type 0
 Grows old new document =
-    (m : Mapping) (documents : List Document) (shards : ℕ) → 1 ≤ shards → AreGrowing m documents shards old → AreLight m (documents ++ document ∷ []) → AreGrowing m (documents ++ document ∷ []) shards new
+    (m : Mapping) (documents : List Document) (shards : ℕ) → 1 ≤ shards → AreGrowing m documents shards old →
+    AreLight m (documents ++ document ∷ []) → AreGrowing m (documents ++ document ∷ []) shards new

@@ -1,2 +1,3 @@
+-- What is said of documents that go into columns as bulk actions bring them.
 pub mod Drafts
 pub mod Loadings
