@@ -19,3 +19,5 @@ pub mod Widths
 pub mod KeyNumbers
 pub mod Holding
 pub mod Narrowness
+pub mod Together
+pub mod EachRoom

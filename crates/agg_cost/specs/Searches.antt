@@ -1,5 +1,5 @@
 -- What is asked of the shards of an index that searches run over ('Search API'), and the ceilings of their tasks.
-use Rattle.std.specs.Prelude.{◌≡◌, ℕ, List, Option, flat_map, map, Some, slice_get}
+use Rattle.std.specs.Prelude.{◌≡◌, ◌≤◌, ⊤, ℕ, List, [], ◌∷◌, Option, Some, flat_map, map, slice_get}
 use Rattle.agg_evaluation.specs.Ceiling.{ceiling}
 use Rattle.agg_evaluation.specs.Counted.{IsApart}
 use Rattle.agg_evaluation.specs.Rows.{PlacedRow}
@@ -18,3 +18,9 @@ AreApart shards = (place : ℕ) (shard : Columns) → slice_get shards place ≡
 -- the ceiling of each task, search by search and shard by shard
 abbrev pub task_ceilings : List FieldKind → List Search → List (List PlacedRow) → List (Option ℕ)
 task_ceilings kinds searches shards = flat_map (λ search. map (ceiling kinds search) shards) searches
+
+-- a room for each of these tasks: each has a ceiling, and room for that at least
+abbrev pub AreRoomsFor : List ℕ → List (Option ℕ) → Type 0
+AreRoomsFor [] [] = ⊤
+AreRoomsFor (room ∷ rooms) (Some ceiling ∷ ceilings) = (ceiling ≤ room) × AreRoomsFor rooms ceilings
+AreRoomsFor _ _ = ⊥

@@ -7,12 +7,14 @@ mod handing_on;
 mod key_bytes;
 mod key_counts;
 mod paths;
+mod room;
 mod searches;
 mod task;
 mod width;
 
 pub use bounds::node_bytes;
 pub use paths::RowPaths;
+pub use room::rooms;
 pub use searches::{ceilings, search_ceiling};
 pub use task::ceiling;
 pub use width::is_too_wide;

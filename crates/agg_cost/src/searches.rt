@@ -94,7 +94,7 @@ fn found_by_shard<R: Threads + Sync>(
 }
 
 // The ceilings of a search's tasks, shard by shard.
-fn ceilings_by_shard<R: Threads + Sync>(
+pub(crate) fn ceilings_by_shard<R: Threads + Sync>(
     rt: &R,
     alloc: Global,
     index: &Index,

@@ -28,7 +28,8 @@ use column_query::matched;
 use shard_columns::Shard;
 use std::alloc::{AllocError, Global};
 
-const GREATEST_CEILING: u64 = 1_125_899_906_842_624;
+/// The greatest ceiling, of a task and of a search, in bytes.
+pub(crate) const GREATEST_CEILING: u64 = 1_125_899_906_842_624;
 
 fn all_roots(alloc: Global, shard: &Shard) -> Result<Vec<RowPaths>, AllocError>
     ensures roots { IfOk result (λ found. reached_by shard.now.rows found.items ≡ once_each (roots shard.now.rows)) }

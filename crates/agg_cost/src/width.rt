@@ -1,4 +1,5 @@
-//! Whether a search is too wide, by bounds that need no walk over the rows that it reaches.
+//! What tasks can hold at most, by bounds that need no walk along the paths to rows: each aggregation's fields of keys are counted
+//! once row by row, twice at a composite. Whether a search is too wide, by these bounds where they settle it.
 ghost use Rattle.std.specs.Prelude.{◌≡◌, ◌+◌, ◌*◌, ◌^◌, ◌<◌, IfOk, IfSome, IsTrue, is_none, length, true};
 ghost use Rattle.agg_cost.specs.Fields.{HasFields};
 ghost use Rattle.agg_cost.specs.Searches.{AreApart, kinds_of};
@@ -149,7 +150,7 @@ fn is_narrow(shard: &Shard, kind: &Kind) -> bool
 }
 
 // What the ceiling of a task is at most; none where it may be too wide.
-fn task_most(shard: &Shard, search: &Search) -> Option<u64>
+pub(crate) fn task_most(shard: &Shard, search: &Search) -> Option<u64>
     requires { IsSearchFor shard.now search.now }
     ensures { IfSome result (λ most. HasCeilingAtMost most shard.now.kinds search.now shard.now.rows) }
 {

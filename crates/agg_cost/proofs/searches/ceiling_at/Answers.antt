@@ -1,5 +1,5 @@
-use Rattle.std.proofs.Common.{◌≡◌, List, sym, ◌∙◌, subst, ap, Some}
-use Rattle.std.specs.Prelude.{ℕ, Option, IfOk, slice_get}
+use Rattle.std.proofs.Common.{◌≡◌, List, sym, ◌∙◌, subst, ap}
+use Rattle.std.specs.Prelude.{ℕ, Option, IfOk}
 use Rattle.agg_evaluation.specs.Ceiling.{ceiling}
 use Rattle.agg_evaluation.specs.Rows.{PlacedRow}
 use Rattle.agg_cost.specs.Searches.{kinds_of}

@@ -1,5 +1,5 @@
 use Rattle.std.proofs.Common.{◌≡◌, List, sym, ◌∙◌, subst, ap, length, map, ◌<◌, []}
-use Rattle.std.specs.Prelude.{ℕ, Option, Result, Ok, IfOk, slice_index_or}
+use Rattle.std.specs.Prelude.{ℕ, Option, Ok, IfOk, slice_index_or}
 use Rattle.std.proofs.lemmas.Result.{IfOk-weaker}
 use Rattle.agg_evaluation.specs.Ceiling.{ceiling}
 use Rattle.agg_evaluation.specs.Rows.{PlacedRow}
