@@ -1,4 +1,4 @@
--- What is known of an index, of the searches that are made for it, and of their ceilings, is all that workers ask of a pool.
+-- What is known of an index, of the searches that are made for it, and of room for their tasks, is all that workers ask of a pool.
 use Rattle.std.specs.Prelude.{◌≡◌, refl, ◌≤◌, ◌<◌, ◌*◌, ℕ, zero, suc, true, Bool, List, [], ◌∷◌, length, slice_get, Some, IsTrue}
 use Rattle.std.proofs.Common.{sym, subst, arith}
 use Rattle.agg_cost.proofs.EachTask.{all-at}

@@ -1,4 +1,4 @@
-//! What is known of an index, of searches that are made for it and of their ceilings is all that the workers of a pool ask
+//! What is known of an index, of searches that are made for it and of room for their tasks is all that the workers of a pool ask
 //! for. The law is the contract of a function of `laws`. No code runs.
 #![tactic(auto)]
 

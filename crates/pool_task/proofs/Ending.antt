@@ -48,7 +48,7 @@ size-low z n low high = grind (arith, ints)
 size-high : (z : ℤ) (n : ℕ) → pos n ≤ℤ z → n ≤ unsigned_abs z
 size-high z n h = grind (arith, ints)
 
--- the pass of a task that has not begun has the task's ceiling, and holds nothing
+-- the pass of a task that has not begun may hold what the pool has for the task, and holds nothing
 pub fresh-cap : (p : Pool) (q s : ℕ) (a : PassModel) → IsFresh p q s a → a.view.cap ≡ ceiling_at p q s
 fresh-cap p q s a fresh = ap (λ (v : View). v.cap) fresh.is
 

@@ -1,10 +1,11 @@
--- The tasks of a pool: each has its ceiling, and the numbers of its answers fit.
-use Rattle.std.specs.Prelude.{◌≡◌, refl, ◌≤◌, ℕ, zero, suc, ◌+◌, ◌*◌, true, Bool, List, [], ◌∷◌, ◌++◌, map, flat_map, length, Option, Some, slice_get, slice_index, slice_index_or, IsTrue}
-use Rattle.std.proofs.Common.{sym, ◌∙◌, ap, arith}
+-- The tasks of a pool: each has room for its ceiling, and the numbers of its answers fit.
+use Rattle.std.specs.Prelude.{◌≡◌, refl, ◌≤◌, ℕ, zero, suc, ◌+◌, ◌*◌, true, Bool, List, [], ◌∷◌, ◌++◌, map, flat_map, length, Some, slice_get, slice_index, slice_index_or, IsTrue}
+use Rattle.std.proofs.Common.{sym, ◌∙◌, ap, subst, arith}
 use Rattle.std.proofs.Math.Nat.{suc-mul}
+use Rattle.agg_cost.proofs.EachRoom.{HasRoomAt, room-at}
 use Rattle.agg_cost.proofs.EachTask.{all-at}
 use Rattle.agg_cost.proofs.Summing.{by-mapping, get-map, one-shard, search-made}
-use Rattle.agg_cost.specs.Searches.{kinds_of}
+use Rattle.agg_cost.specs.Searches.{kinds_of, task_ceilings}
 use Rattle.agg_evaluation.specs.Ceiling.{ceiling}
 use Rattle.agg_evaluation.specs.Cost.{cost}
 use Rattle.agg_evaluation.specs.SearchFits.{search_fits}
@@ -56,18 +57,6 @@ length-rows : {A B : Type 0} (f : A → B) (xs : List A) → length (map f xs) �
 length-rows f [] = refl
 length-rows f (x ∷ xs) = ap suc (length-rows f xs)
 
-get-some : (cs : List ℕ) (k n : ℕ) → slice_get (map (λ (c : ℕ). Some c) cs) k ≡ Some (Some n) → slice_index cs k ≡ n
-get-some [] zero n e = absurd (let no : ⊥ = cc in no)
-get-some [] (suc k) n e = absurd (let no : ⊥ = cc in no)
-get-some (c ∷ cs) zero n e = let same : c ≡ n = cc in same
-get-some (c ∷ cs) (suc k) n e = get-some cs k n e
-
-get-none : (cs : List ℕ) (k : ℕ) (o : Option ℕ) → slice_get (map (λ (c : ℕ). Some c) cs) k ≡ Some o → o ≡ Some (slice_index cs k)
-get-none [] zero o e = absurd (let no : ⊥ = cc in no)
-get-none [] (suc k) o e = absurd (let no : ⊥ = cc in no)
-get-none (c ∷ cs) zero o e = let same : Some c ≡ o = cc in sym same
-get-none (c ∷ cs) (suc k) o e = get-none cs k o e
-
 -- as many shards
 pub shards-are : (index : ShardIndex) (p : Pool) → IsPoolOf index p → shard_count p ≡ length index.shards
 shards-are index p pool = ap (λ ix. length ix.shards) pool.index_is ∙ length-rows (λ (c : Columns). c.rows) index.shards
@@ -94,22 +83,30 @@ module _ (index : ShardIndex) (p : Pool) (pool : IsPoolOf index p) (q s : ℕ) (
   pub search-fits : IsSearchFor shard search
   search-fits = search-made index.mapping shard search fits-one (one-shard index.mapping index.shards s shard at index.built)
 
-  -- the task's ceiling
-  pub ceiling-is : ceiling shard.kinds search shard.rows ≡ Some (ceiling_at p q s)
-  ceiling-is =
+  -- the task has a ceiling, and the pool has at least that for it
+  pub room-is : HasRoomAt p.ceilings (q * shard_count p + s) (ceiling shard.kinds search shard.rows)
+  room-is =
       let row = get-row (λ (z : Search). map (ceiling kinds z) (rows_by_shard index.shards)) (length index.shards) (λ z. length-rows (ceiling kinds z) (rows_by_shard index.shards) ∙ length-rows (λ (c : Columns). c.rows) index.shards) p.searches q s search (ceiling kinds search shard.rows) asked
       (get-map (ceiling kinds search) (rows_by_shard index.shards) s shard.rows (get-map (λ (c : Columns). c.rows) index.shards s shard at)) in
-      let there = ap (λ (os : List (Option ℕ)). slice_get os (q * length index.shards + s)) pool.ceilings ∙ row in
-      by-mapping index.mapping shard search (one-shard index.mapping index.shards s shard at index.built)
-      ∙ get-none p.ceilings (q * length index.shards + s) (ceiling kinds search shard.rows) there
-      ∙ ap (λ n. Some (slice_index p.ceilings (q * n + s))) (sym (shards-are index p pool))
+      let there = room-at p.ceilings (task_ceilings kinds p.searches (rows_by_shard index.shards)) (q * length index.shards + s) (ceiling kinds search shard.rows) pool.ceilings row in
+      record {
+        bytes = there.bytes;
+        is = by-mapping index.mapping shard search (one-shard index.mapping index.shards s shard at index.built) ∙ there.is;
+        low = subst (λ n. there.bytes ≤ slice_index p.ceilings (q * n + s)) (sym (shards-are index p pool)) there.low;
+      }
 
   pub ceiling-some : 1 ≤ ceiling_at p q s
-  ceiling-some = let low = tree-room shard search search-fits (ceiling_at p q s) ceiling-is 0 in omega (arith, low)
+  ceiling-some =
+      let room = room-is in
+      let low = tree-room shard search search-fits room.bytes room.is 0 in
+      let within = room.low in
+      omega (arith, low, within)
 
   -- twice what the answer costs is within it
   pub ceiling-answer : 2 * cost_at p q s ≤ ceiling_at p q s
   ceiling-answer =
-      let low = answer-room shard search search-fits (ceiling_at p q s) ceiling-is in
+      let room = room-is in
+      let low = answer-room shard search search-fits room.bytes room.is in
+      let within = room.low in
       let same : cost_at p q s ≡ cost (shard_answer search shard.rows) = (λ i. cost (shard_answer (search-is i) (rows-are i))) in
-      omega (arith, low, same)
+      omega (arith, low, within, same)

@@ -1,7 +1,7 @@
 //! A script that is loaded, and its searches in one pool.
 ghost use Rattle.std.specs.Prelude.{◌≡◌, ◌+◌, ◌*◌, ◌≤◌, ◌<◌, ◌^◌, IfOk, IfSome, IsTrue, Some, map, sum};
 ghost use Rattle.std.specs.List.{list_all};
-ghost use Rattle.agg_cost.specs.Searches.{kinds_of, task_ceilings};
+ghost use Rattle.agg_cost.specs.Searches.{AreRoomsFor, kinds_of, task_ceilings};
 ghost use Rattle.agg_evaluation.specs.SearchFits.{search_fits};
 ghost use Rattle.agg_model.specs.declared.breaker.Which.{Which as AnyWhich};
 ghost use Rattle.arrival_moves.specs.declared.limits.TheConstants.{MAX_TASKS};
@@ -139,8 +139,8 @@ fn ceilings_of<R: Threads + Sync>(
     searches: &List<Search>,
 ) -> Result<List<u64>, Fail>
     requires made { IsTrue (list_all (search_fits index.now.mapping) searches.now) }
-    ensures ceilings { IfOk result (λ all. map (λ c. Some c) all
-        ≡ task_ceilings (kinds_of index.now.mapping) searches.now (rows_by_shard index.now.shards)) }
+    ensures ceilings { IfOk result (λ all. AreRoomsFor all
+        (task_ceilings (kinds_of index.now.mapping) searches.now (rows_by_shard index.now.shards))) }
 {
     let found = ceilings(rt, alloc, index, searches)?;
     known(alloc, found.as_slice())

@@ -58,7 +58,7 @@ fn answer_held<R: Threads + Sync, G: Gate>(
     let Reading {
         asked,
         searches,
-        ceilings,
+        rooms,
     } = read_bodies(rt, alloc, index, bodies, &refusals, page)?;
     // What it holds at the parent is the sum of what it holds at the children.
     let _cap = pass.cap();
@@ -71,7 +71,7 @@ fn answer_held<R: Threads + Sync, G: Gate>(
         pass,
         index,
         &searches,
-        &ceilings,
+        &rooms,
         settings.workers,
         settings.batch,
         gate,

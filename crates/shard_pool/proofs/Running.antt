@@ -1,12 +1,13 @@
 -- What the opening of a pool leaves to its workers, and what they leave to its close.
-use Rattle.std.specs.Prelude.{◌≡◌, refl, ◌<◌, ℕ, suc, ◌+◌, ◌*◌, All, IsTrue, List, [], ◌∷◌, ◌++◌, drop, flat_map, length, map, slice_index_or, sum, sum_by, take, Some}
+use Rattle.std.specs.Prelude.{◌≡◌, refl, ◌<◌, ℕ, suc, ◌+◌, ◌*◌, All, IsTrue, List, [], ◌∷◌, ◌++◌, drop, flat_map, length, map, slice_index_or, sum, sum_by, take}
 use Rattle.std.specs.List.{list_all}
 use Rattle.std.proofs.Common.{◌∙◌, sym, ap, subst, arith, length-append}
 use Rattle.std.proofs.Math.Nat.{suc-mul}
 use Rattle.std.proofs.Math.Seq.{take-append_seam}
 use Rattle.std.proofs.lemmas.List.{length-map}
 use Rattle.std.proofs.lemmas.List.Sums.{sum_by-cons}
-use Rattle.agg_cost.specs.Searches.{kinds_of, task_ceilings}
+use Rattle.agg_cost.proofs.EachRoom.{rooms-number}
+use Rattle.agg_cost.specs.Searches.{AreRoomsFor, kinds_of, task_ceilings}
 use Rattle.agg_evaluation.specs.Ceiling.{ceiling}
 use Rattle.agg_evaluation.specs.SearchFits.{search_fits}
 use Rattle.agg_model.specs.declared.aggregation.Search.{Search}
@@ -36,14 +37,13 @@ rows-length f n each (x ∷ xs) =
 
 -- the searches over the index are a pool
 pub pool-over : (words : WordsModel) (index : ShardIndex) (searches : List Search) (ceilings : List ℕ) (p : Pool) → p ≡ pool_of words index searches ceilings
-    → IsTrue (list_all (search_fits index.mapping) searches) → map (λ c. Some c) ceilings ≡ task_ceilings (kinds_of index.mapping) searches (rows_by_shard index.shards) → IsPoolOf index p
+    → IsTrue (list_all (search_fits index.mapping) searches) → AreRoomsFor ceilings (task_ceilings (kinds_of index.mapping) searches (rows_by_shard index.shards)) → IsPoolOf index p
 pool-over words index searches ceilings p same made bounds = subst (IsPoolOf index) (sym same) (record { index_is = refl; made = made; ceilings = bounds })
 
--- a ceiling for each task
+-- a ceiling for the pass of each task
 pub ceiling-count : (index : ShardIndex) (p : Pool) → IsPoolOf index p → length p.ceilings ≡ length p.searches * length index.shards
 ceiling-count index p pool =
-    sym (length-map p.ceilings (λ (c : ℕ). Some c))
-    ∙ ap length pool.ceilings
+    rooms-number p.ceilings (task_ceilings (kinds_of index.mapping) p.searches (rows_by_shard index.shards)) pool.ceilings
     ∙ rows-length (λ (z : Search). map (ceiling (kinds_of index.mapping) z) (rows_by_shard index.shards)) (length index.shards)
     (λ z. length-map (rows_by_shard index.shards) (ceiling (kinds_of index.mapping) z) ∙ length-map index.shards (λ (c : Columns). c.rows)) p.searches
 

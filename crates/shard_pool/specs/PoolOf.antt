@@ -1,4 +1,4 @@
--- The pool of some searches over an index, with the ceilings of their tasks ('Search API').
+-- The pool of some searches over an index, with the ceilings of the passes that their tasks get ('Search API').
 use Rattle.std.specs.Prelude.{ℕ, List}
 use Rattle.agg_model.specs.declared.aggregation.Search.{Search}
 use Rattle.breaker_words.specs.Passes.{WordsModel}

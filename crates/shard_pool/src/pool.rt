@@ -1,8 +1,7 @@
 //! The run of a pool.
-ghost use Rattle.std.specs.Prelude.{◌≡◌, ◌+◌, ◌*◌, ◌≤◌, ◌<◌, ℕ, IfOk, IsTrue, OnErr, length, map, slice_index_or, sum};
-ghost use Rattle.std.specs.Prelude.{Some};
+ghost use Rattle.std.specs.Prelude.{◌≡◌, ◌+◌, ◌*◌, ◌≤◌, ◌<◌, ℕ, IfOk, IsTrue, OnErr, length, slice_index_or, sum};
 ghost use Rattle.std.specs.List.{list_all};
-ghost use Rattle.agg_cost.specs.Searches.{kinds_of, task_ceilings};
+ghost use Rattle.agg_cost.specs.Searches.{AreRoomsFor, kinds_of, task_ceilings};
 ghost use Rattle.agg_evaluation.specs.SearchFits.{search_fits};
 ghost use Rattle.agg_model.specs.declared.breaker.Which.{Which as AnyWhich};
 ghost use Rattle.agg_model.specs.declared.limits.TheConstants.{MAX_AT_ONCE};
@@ -48,7 +47,7 @@ fn run_pool_by<J: PoolCall + Send + Sync, G: Gate, R: Threads + Sync>(
     requires size { 2 ≤ size }
     requires few { length searches.now * length index.now.shards ≤ MAX_TASKS }
     requires made { IsTrue (list_all (search_fits index.now.mapping) searches.now) }
-    requires ceilings { map (λ c. Some c) ceilings.now ≡ task_ceilings (kinds_of index.now.mapping) searches.now (rows_by_shard index.now.shards) }
+    requires ceilings { AreRoomsFor ceilings.now (task_ceilings (kinds_of index.now.mapping) searches.now (rows_by_shard index.now.shards)) }
     requires room { (x : AnyWhich) → most_of pass.old.view x + sum ceilings.now ≤ pass.old.view.cap }
     requires left { sum ceilings.now < pass.old.view.cap }
     ensures number { IfOk result (λ ends. length ends ≡ length searches.now) }
@@ -86,9 +85,9 @@ fn run_pool_by<J: PoolCall + Send + Sync, G: Gate, R: Threads + Sync>(
 /// that nobody has taken; results are merged in batches of up to `size` in the order of their arrival, by the worker that
 /// brought the last one. It takes the memory of its table before anything is charged; threads that cannot be made are done without.
 ///
-/// Each search is made for the mapping of the index, and `ceilings` holds the ceiling of each task in bytes, search by search
-/// and shard by shard. The pass has the whole cap; the ceilings together leave of it what the pass ever had standing at a breaker,
-/// and one byte at least.
+/// Each search is made for the mapping of the index. `ceilings` holds what the pass of each task may hold in bytes, search by search
+/// and shard by shard: the ceiling of the task, or more. The pass has the whole cap; the ceilings together leave of it what the
+/// pass ever had standing at a breaker, and one byte at least.
 /// 1 to `MAX_AT_ONCE` workers, batches of 2 or more, `MAX_TASKS` tasks at most.
 ///
 /// Of each search it tells the parts, or the charge that was refused, or that memory ran out; where a search allows partial
@@ -114,7 +113,7 @@ pub fn run_pool<G: Gate, R: Threads + Sync>(
     requires size { 2 ≤ size }
     requires few { length searches.now * length index.now.shards ≤ MAX_TASKS }
     requires made { IsTrue (list_all (search_fits index.now.mapping) searches.now) }
-    requires ceilings { map (λ c. Some c) ceilings.now ≡ task_ceilings (kinds_of index.now.mapping) searches.now (rows_by_shard index.now.shards) }
+    requires ceilings { AreRoomsFor ceilings.now (task_ceilings (kinds_of index.now.mapping) searches.now (rows_by_shard index.now.shards)) }
     requires room { (x : AnyWhich) → most_of pass.old.view x + sum ceilings.now ≤ pass.old.view.cap }
     requires left { sum ceilings.now < pass.old.view.cap }
     ensures number { IfOk result (λ ends. length ends ≡ length searches.now) }

@@ -1,3 +1,2 @@
-pub mod Together
 pub mod OneMore
 pub mod Pages

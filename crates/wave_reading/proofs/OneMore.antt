@@ -1,20 +1,16 @@
 -- What one more body asks for.
-use Rattle.std.specs.Prelude.{◌≡◌, refl, ℕ, ◌≤◌, List, [], ◌∷◌, ◌++◌, map, sum, nat_lt, if◌then◌else◌, Bool, true, false, ◌&&◌, IsTrue, OnOk, Option, Some, None, option_and_then, Result, Ok, Err}
+use Rattle.std.specs.Prelude.{◌≡◌, refl, ℕ, ◌^◌, ◌≤◌, List, [], ◌∷◌, ◌++◌, map, sum, Bool, true, false, ◌&&◌, IsTrue, OnOk, Option, Some, None, is_none, Result, Ok, Err}
 use Rattle.std.specs.List.{AllByRecursion, list_all}
 use Rattle.std.proofs.Common.{◌∙◌, sym, ap, subst, arith, length-append}
-use Rattle.std.proofs.lemmas.Bool.{ltb-false}
 use Rattle.std.proofs.lemmas.Grind.{flat_map-append}
-use Rattle.std.proofs.lemmas.List.{map-append}
 use Rattle.std.proofs.lemmas.List.Sums.{sum_by-append}
 use Rattle.list_laws.proofs.Lists.{append-nil}
-use Rattle.agg_cost.specs.Searches.{kinds_of, task_ceilings}
-use Rattle.agg_evaluation.specs.Ceiling.{ceiling, greatest_ceiling, search_ceiling, sum_of_all, within_greatest}
-use Rattle.agg_evaluation.specs.Rows.{PlacedRow}
+use Rattle.agg_cost.proofs.EachRoom.{rooms-append}
+use Rattle.agg_cost.specs.Searches.{AreRoomsFor, kinds_of, task_ceilings}
+use Rattle.agg_evaluation.specs.Ceiling.{ceiling, search_ceiling}
 use Rattle.agg_evaluation.specs.SearchFits.{search_fits}
 use Rattle.agg_model.specs.declared.aggregation.Search.{Search}
 use Rattle.agg_model.specs.declared.breaker.Tripped.{Tripped}
-use Rattle.agg_model.specs.declared.limits.TheConstants.{MAX_BYTE_SIZE}
-use Rattle.agg_model.specs.declared.mapping.FieldKind.{FieldKind}
 use Rattle.agg_model.specs.declared.outcome.Refused.{Refused}
 use Rattle.agg_model.specs.declared.outcome.Refused.TheVariants as refused
 use Rattle.agg_search.proofs.Outcomes.{not-run, not-wide, runs, too-wide}
@@ -72,71 +68,71 @@ all-made index (x ∷ xs) run = and-true (search_fits index.mapping x) (list_all
     and-true true b first later = later
     and-true false b first later = absurd (let no : ⊥ = cc in no)
 
--- what a search comes to whose tasks' ceilings are these
-module _ (kinds : List FieldKind) (search : Search) (shards : List (List PlacedRow)) (found : List (Option ℕ)) (all : found ≡ task_ceilings kinds (search ∷ []) shards) where
-  pub ceiling-is : search_ceiling kinds search shards ≡ option_and_then within_greatest (sum_of_all found)
-  ceiling-is = sym (ap (λ os. option_and_then within_greatest (sum_of_all os)) (all ∙ append-nil (map (ceiling kinds search) shards)))
+-- whether a search has a ceiling
+module _ (o : Option ℕ) where
+  pub has-none : true ≡ is_none o → o ≡ None
+  has-none wide = by_case o refl
+    where
+      by_case : (r : Option ℕ) → o ≡ r → o ≡ None
+      by_case None same = same
+      by_case (Some n) same = absurd (let no : true ≡ false = wide ∙ ap is_none same in (let none : ⊥ = cc in none))
 
-within-low : (o : Option ℕ) (n : ℕ) → Some n ≡ option_and_then within_greatest o → n ≤ MAX_BYTE_SIZE
-within-low None n e = absurd (let no : ⊥ = cc in no)
-within-low (Some m) n e = by_test (nat_lt greatest_ceiling m) refl
-  where
-    by_test : (b : Bool) → nat_lt greatest_ceiling m ≡ b → n ≤ MAX_BYTE_SIZE
-    by_test true same = absurd (let no : Some n ≡ None = e ∙ ap (λ b. if b then None else Some m) same in (let none : ⊥ = cc in none))
-    by_test false same =
-        let is : Some n ≡ Some m = e ∙ ap (λ b. if b then None else Some m) same in
-        let number : n ≡ m = cc in
-        let low = ltb-false greatest_ceiling m same in
-        omega (arith, low, number)
+  pub has-some : false ≡ is_none o → (n : ℕ) × (o ≡ Some n)
+  has-some narrow = by_case o refl
+    where
+      by_case : (r : Option ℕ) → o ≡ r → (n : ℕ) × (o ≡ Some n)
+      by_case (Some n) same = (n, same)
+      by_case None same = absurd (let no : false ≡ true = narrow ∙ ap is_none same in (let none : ⊥ = cc in none))
 
-module _ (index : ShardIndex) (requests : List Request) (refusals : List (Option Tripped)) (asked : List Asked) (searches : List Search) (ceilings : List ℕ)
-    (read : HasRead index requests refusals asked searches ceilings) (request : Request) where
+module _ (index : ShardIndex) (requests : List Request) (refusals : List (Option Tripped)) (asked : List Asked) (searches : List Search) (rooms : List ℕ)
+    (read : HasRead index requests refusals asked searches rooms) (request : Request) where
   -- a body for which nothing runs
   quiet : (t : Option Tripped) (a : Asked) → AreAsked (index_of index) (request ∷ []) (t ∷ []) (a ∷ []) []
-      → HasRead index (requests ++ request ∷ []) (refusals ++ t ∷ []) (asked ++ a ∷ []) searches ceilings
+      → HasRead index (requests ++ request ∷ []) (refusals ++ t ∷ []) (asked ++ a ∷ []) searches rooms
   quiet t a one = record {
     asked_are = subst (λ xs. AreAsked (index_of index) (requests ++ request ∷ []) (refusals ++ t ∷ []) (asked ++ a ∷ []) xs) (append-nil searches)
         (asked-append (index_of index) requests (request ∷ []) refusals (t ∷ []) asked (a ∷ []) searches [] read.asked_are one);
     run = read.run;
     few = (let more = length-append requests (request ∷ []) in let few = read.few in omega arith);
-    ceilings_are = read.ceilings_are;
+    rooms_are = read.rooms_are;
     low = read.low;
   }
 
-  pub tripped-more : (t : Tripped) → HasRead index (requests ++ request ∷ []) (refusals ++ Some t ∷ []) (asked ++ asks.Tripped t ∷ []) searches ceilings
+  pub tripped-more : (t : Tripped) → HasRead index (requests ++ request ∷ []) (refusals ++ Some t ∷ []) (asked ++ asks.Tripped t ∷ []) searches rooms
   tripped-more t = quiet (Some t) (asks.Tripped t) (refl, tt)
 
-  pub refused-more : (r : Refused) → IsRefusedAs (index_of index) request r → HasRead index (requests ++ request ∷ []) (refusals ++ None ∷ []) (asked ++ asks.Refused r ∷ []) searches ceilings
+  pub refused-more : (r : Refused) → IsRefusedAs (index_of index) request r → HasRead index (requests ++ request ∷ []) (refusals ++ None ∷ []) (asked ++ asks.Refused r ∷ []) searches rooms
   refused-more r is = quiet None (asks.Refused r) (is, tt)
 
-  module _ (search : Search) (made : IsTrue (search_fits index.mapping search)) (is : request.search ≡ Ok search) (found : List (Option ℕ))
-      (all : found ≡ task_ceilings (kinds_of index.mapping) (search ∷ []) (rows_by_shard index.shards)) where
-    pub wide-more : None ≡ option_and_then within_greatest (sum_of_all found)
-        → HasRead index (requests ++ request ∷ []) (refusals ++ None ∷ []) (asked ++ asks.Refused refused.TooWide ∷ []) searches ceilings
-    wide-more none =
-        refused-more refused.TooWide
-        (is-too-wide (index_of index) request search is (ceiling-is (kinds_of index.mapping) search (rows_by_shard index.shards) found all ∙ sym none))
+  module _ (search : Search) (made : IsTrue (search_fits index.mapping search)) (is : request.search ≡ Ok search) where
+    pub wide-more : true ≡ is_none (search_ceiling (kinds_of index.mapping) search (rows_by_shard index.shards))
+        → HasRead index (requests ++ request ∷ []) (refusals ++ None ∷ []) (asked ++ asks.Refused refused.TooWide ∷ []) searches rooms
+    wide-more wide =
+        refused-more refused.TooWide (is-too-wide (index_of index) request search is (has-none (search_ceiling (kinds_of index.mapping) search (rows_by_shard index.shards)) wide))
 
-    pub running-more : (low : List ℕ) → map (λ c. Some c) low ≡ found → Some (sum low) ≡ option_and_then within_greatest (sum_of_all found)
-        → HasRead index (requests ++ request ∷ []) (refusals ++ None ∷ []) (asked ++ asks.Runs ∷ []) (searches ++ search ∷ []) (ceilings ++ low)
-    running-more low same total =
+    pub running-more : (found : List ℕ) → AreRoomsFor found (map (ceiling (kinds_of index.mapping) search) (rows_by_shard index.shards)) → sum found ≤ 2 ^ 50
+        → false ≡ is_none (search_ceiling (kinds_of index.mapping) search (rows_by_shard index.shards))
+        → HasRead index (requests ++ request ∷ []) (refusals ++ None ∷ []) (asked ++ asks.Runs ∷ []) (searches ++ search ∷ []) (rooms ++ found)
+    running-more found are few narrow =
         let shards = rows_by_shard index.shards in
         let kinds = kinds_of index.mapping in
-        let some : search_ceiling kinds search shards ≡ Some (sum low) = ceiling-is kinds search shards found all ∙ sym total in
+        let of : Search → List (Option ℕ) = λ s. map (ceiling kinds s) shards in
+        let some = has-some (search_ceiling kinds search shards) narrow in
+        let tasks : of search ≡ task_ceilings kinds (search ∷ []) shards = sym (append-nil (of search)) in
+        let both : task_ceilings kinds searches shards ++ of search ≡ task_ceilings kinds (searches ++ search ∷ []) shards =
+        ap (λ xs. task_ceilings kinds searches shards ++ xs) tasks ∙ sym (flat_map-append of searches (search ∷ [])) in
         record {
           asked_are = asked-append (index_of index) requests (request ∷ []) refusals (None ∷ []) asked (asks.Runs ∷ []) searches (search ∷ []) read.asked_are
-              (is-run (index_of index) request search is (sum low) some, tt);
-          run = all-push (CanRun index) searches search read.run (record { made = made; ceiling = sum low; is = some });
+              (is-run (index_of index) request search is some.0 some.1, tt);
+          run = all-push (CanRun index) searches search read.run (record { made = made; ceiling = some.0; is = some.1 });
           few = (let more = length-append requests (request ∷ []) in let longer = length-append searches (search ∷ []) in let few = read.few in omega arith);
-          ceilings_are = map-append (λ (c : ℕ). Some c) ceilings low ∙ (ap (λ xs. xs ++ map (λ (c : ℕ). Some c) low) read.ceilings_are
-              ∙ (ap (λ xs. task_ceilings kinds searches shards ++ xs) (same ∙ all) ∙ sym (flat_map-append (λ (s : Search). map (ceiling kinds s) shards) searches (search ∷ []))));
-          low = (let longer = length-append searches (search ∷ []) in let both = sum_by-append (λ (n : ℕ). n) ceilings low in let before = read.low in
-              let one = within-low (sum_of_all found) (sum low) total in omega arith);
+          rooms_are = subst (AreRoomsFor (rooms ++ found)) both (rooms-append rooms found (task_ceilings kinds searches shards) (of search) read.rooms_are are);
+          low = (let longer = length-append searches (search ∷ []) in let both = sum_by-append (λ (n : ℕ). n) rooms found in let before = read.low in omega arith);
         }
 
 -- what was there before the first body
 pub nothing-read : (index : ShardIndex) → HasRead index [] [] [] [] []
-nothing-read index = record { asked_are = tt; run = tt; few = omega arith; ceilings_are = refl; low = omega arith }
+nothing-read index = record { asked_are = tt; run = tt; few = omega arith; rooms_are = tt; low = omega arith }
 
 -- what follows where a call went well from what it then tells
 pub on-ok : {T E : Type 0} (r : Result T E) (A B : Type 0) → OnOk r A → (A → B) → OnOk r B

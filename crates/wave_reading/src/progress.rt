@@ -6,12 +6,12 @@ use crate::reading::Reading;
 use agg_model::{List, Search};
 use std::alloc::{AllocError, Global};
 
-/// What bodies asked for so far, in their order: the searches that run, and the ceilings of their tasks in bytes.
+/// What bodies asked for so far, in their order: the searches that run, and room for their tasks in bytes.
 #[derive(Drop)]
 pub struct Progress {
     pub asked: List<Asked>,
     pub searches: Vec<Search>,
-    pub ceilings: Vec<u64>,
+    pub rooms: Vec<u64>,
 }
 
 impl Progress {
@@ -19,25 +19,25 @@ impl Progress {
     pub fn new(alloc: Global) -> Self
         ensures asked { result.asked ≡ [] }
         ensures searches { result.searches.items ≡ [] }
-        ensures ceilings { result.ceilings.items ≡ [] }
+        ensures rooms { result.rooms.items ≡ [] }
     {
         Progress {
             asked: List::new(alloc),
             searches: Vec::new(alloc),
-            ceilings: Vec::new(alloc),
+            rooms: Vec::new(alloc),
         }
     }
 
     /// Puts a search that runs behind what was asked for. `one` is the list of it alone.
-    pub fn add_running(&mut self, one: List<Search>, ceilings: Vec<u64>) -> Result<(), AllocError>
+    pub fn add_running(&mut self, one: List<Search>, rooms: Vec<u64>) -> Result<(), AllocError>
         ensures asked { OnOk result (self.new.asked ≡ self.old.asked ++ Asked.Runs ∷ []) }
         ensures searches { OnOk result (self.new.searches.items ≡ self.old.searches.items ++ one) }
-        ensures ceilings { OnOk result (self.new.ceilings.items ≡ self.old.ceilings.items ++ ceilings.items) }
+        ensures rooms { OnOk result (self.new.rooms.items ≡ self.old.rooms.items ++ rooms.items) }
     {
         let mut searches = one.into_vec();
-        let mut ceilings = ceilings;
+        let mut rooms = rooms;
         self.searches.append(&mut searches)?;
-        self.ceilings.append(&mut ceilings)?;
+        self.rooms.append(&mut rooms)?;
         self.asked.push(Asked::Runs)
     }
 
@@ -45,17 +45,17 @@ impl Progress {
     pub fn into_reading(self) -> Reading
         ensures asked { result.asked ≡ self.asked }
         ensures searches { result.searches ≡ self.searches.items }
-        ensures ceilings { result.ceilings ≡ self.ceilings.items }
+        ensures rooms { result.rooms ≡ self.rooms.items }
     {
         let Progress {
             asked,
             searches,
-            ceilings,
+            rooms,
         } = self;
         Reading {
             asked,
             searches: List::from_vec(searches),
-            ceilings: List::from_vec(ceilings),
+            rooms: List::from_vec(rooms),
         }
     }
 }

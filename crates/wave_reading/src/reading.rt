@@ -1,7 +1,7 @@
 //! The bodies, as they are read.
-ghost use Rattle.std.specs.Prelude.{◌≡◌, ◌≤◌, ◌*◌, ◌++◌, ◌∷◌, [], IfOk, IfSome, IsTrue, List as Items, None, Ok, OnOk, Option, Some, length, map, sum};
+ghost use Rattle.std.specs.Prelude.{◌≡◌, ◌≤◌, ◌*◌, ◌++◌, ◌∷◌, [], IfOk, IfSome, IsTrue, List as Items, None, Ok, OnOk, Option, length, sum};
 ghost use Rattle.std.specs.List.{AllByRecursion, list_all};
-ghost use Rattle.agg_cost.specs.Searches.{kinds_of, task_ceilings};
+ghost use Rattle.agg_cost.specs.Searches.{AreRoomsFor, kinds_of, task_ceilings};
 ghost use Rattle.agg_evaluation.specs.SearchFits.{search_fits};
 ghost use Rattle.agg_model.specs.declared.breaker.Tripped.{Tripped as AnyTripped};
 ghost use Rattle.agg_model.specs.declared.limits.TheConstants.{MAX_BYTE_SIZE};
@@ -14,9 +14,8 @@ ghost use Rattle.wave_reading.specs.Asking.{AreAsked, requests_from};
 ghost use Rattle.wave_reading.specs.Read.{HasRead};
 
 use crate::asked::Asked;
-use crate::low::all_low;
 use crate::progress::Progress;
-use agg_cost::ceilings;
+use agg_cost::rooms;
 use agg_model::{Bytes, List, Refused, Search, Tripped};
 use agg_reading::RequestFault;
 use agg_request::search_of;
@@ -31,8 +30,8 @@ pub struct Reading {
     pub asked: List<Asked>,
     /// The searches that run, in the same order.
     pub searches: List<Search>,
-    /// The ceiling of each of their tasks in bytes, search by search and shard by shard.
-    pub ceilings: List<u64>,
+    /// Room for each of their tasks in bytes, search by search and shard by shard: at least the task's ceiling.
+    pub rooms: List<u64>,
 }
 
 /// The search that a body asks for, or why it is none. Where its search was read before, it is `page`.
@@ -68,15 +67,16 @@ fn add_search<R: Threads + Sync>(
     requires made { IsTrue (search_fits index.now.mapping search) }
     ensures { OnOk result ((requests : Items Request) (refusals : Items (Option AnyTripped)) (request : Request) →
         request.search ≡ Ok search →
-        HasRead index.now requests refusals progress.old.asked progress.old.searches.items progress.old.ceilings.items →
+        HasRead index.now requests refusals progress.old.asked progress.old.searches.items progress.old.rooms.items →
         HasRead index.now (requests ++ request ∷ []) (refusals ++ None ∷ [])
-        progress.new.asked progress.new.searches.items progress.new.ceilings.items) }
+        progress.new.asked progress.new.searches.items progress.new.rooms.items) }
 {
-    let mut one = List::new(alloc);
-    one.push(search)?;
-    let found = ceilings(rt, alloc, index, &one)?;
-    match all_low(alloc, &found)? {
-        Some(low) => progress.add_running(one, low),
+    match rooms(rt, alloc, index, &search)? {
+        Some(found) => {
+            let mut one = List::new(alloc);
+            one.push(search)?;
+            progress.add_running(one, found)
+        }
         None => progress.asked.push(Asked::Refused(Refused::TooWide)),
     }
 }
@@ -92,9 +92,9 @@ fn read_body<R: Threads + Sync>(
 ) -> Result<(), AllocError>
     requires made { IfSome page (λ search. IsTrue (search_fits index.now.mapping search)) }
     ensures { OnOk result ((requests : Items Request) (refusals : Items (Option AnyTripped)) →
-        HasRead index.now requests refusals progress.old.asked progress.old.searches.items progress.old.ceilings.items →
+        HasRead index.now requests refusals progress.old.asked progress.old.searches.items progress.old.rooms.items →
         HasRead index.now (requests ++ request_at (index_of index.now) body.now page ∷ []) (refusals ++ None ∷ [])
-        progress.new.asked progress.new.searches.items progress.new.ceilings.items) }
+        progress.new.asked progress.new.searches.items progress.new.rooms.items) }
 {
     match search_in(alloc, index, body, page)? {
         Ok(search) => add_search(rt, alloc, index, search, progress),
@@ -114,9 +114,9 @@ fn ask<R: Threads + Sync>(
 ) -> Result<(), AllocError>
     requires made { IfSome page (λ search. IsTrue (search_fits index.now.mapping search)) }
     ensures { OnOk result ((requests : Items Request) (refusals : Items (Option AnyTripped)) →
-        HasRead index.now requests refusals progress.old.asked progress.old.searches.items progress.old.ceilings.items →
+        HasRead index.now requests refusals progress.old.asked progress.old.searches.items progress.old.rooms.items →
         HasRead index.now (requests ++ request_at (index_of index.now) body.now page ∷ []) (refusals ++ refusal ∷ [])
-        progress.new.asked progress.new.searches.items progress.new.ceilings.items) }
+        progress.new.asked progress.new.searches.items progress.new.rooms.items) }
 {
     match refusal {
         Some(tripped) => progress.asked.push(Asked::Tripped(tripped)),
@@ -124,8 +124,8 @@ fn ask<R: Threads + Sync>(
     }
 }
 
-/// Reads the bodies whose charges were granted, and computes the ceilings of their tasks, by several threads where they can be
-/// made. `refusals` has the refusal of each body's charge. Where the search of the first body was read before, it is `page`.
+/// Reads the bodies whose charges were granted, and finds room for their tasks, at least the ceiling of each. Where bounds do not
+/// settle it, several threads compute the ceilings, where they can be made. `refusals` has the refusal of each body's charge. Where the search of the first body was read before, it is `page`.
 ///
 /// It fails only where memory is wanting.
 pub fn read_bodies<R: Threads + Sync>(
@@ -142,10 +142,10 @@ pub fn read_bodies<R: Threads + Sync>(
     ensures run { IfOk result (λ r. AllByRecursion (CanRun index.now) r.searches) }
     ensures made { IfOk result (λ r. IsTrue (list_all (search_fits index.now.mapping) r.searches)) }
     ensures few { IfOk result (λ r. length r.searches ≤ length bodies.now) }
-    ensures ceilings { IfOk result (λ r. map (λ c. Some c) r.ceilings
-        ≡ task_ceilings (kinds_of index.now.mapping) r.searches (rows_by_shard index.now.shards)) }
+    ensures rooms { IfOk result (λ r. AreRoomsFor r.rooms
+        (task_ceilings (kinds_of index.now.mapping) r.searches (rows_by_shard index.now.shards))) }
     // A search whose tasks have higher ceilings together is too wide.
-    ensures low { IfOk result (λ r. sum r.ceilings ≤ length r.searches * MAX_BYTE_SIZE) }
+    ensures low { IfOk result (λ r. sum r.rooms ≤ length r.searches * MAX_BYTE_SIZE) }
 {
     let mut page = page;
     let mut progress = Progress::new(alloc);

@@ -10,11 +10,11 @@ use Rattle.breaker_words.specs.Passes.{IsOf, WordsModel}
 use Rattle.collect_tree.specs.Ends.{IfDone, IfMemory, IfRefused}
 use Rattle.growth_laws.specs.Amounts.{amounts}
 use Rattle.pool_results.specs.Carried.{IsCarried}
-use Rattle.pool_results.specs.Pools.{ceiling_at, search_at}
+use Rattle.pool_results.specs.Pools.{search_at}
 use Rattle.shard_columns.specs.Columns.{Columns}
 use Rattle.task_charges.specs.Ended.{IsDone, IsGivenUp, IsRefused}
 use Rattle.pool_task.proofs.Ending.{carried-after, fresh-cap, fresh-hold}
-use Rattle.pool_task.proofs.Pooling.{ceiling-is, ceiling-some, rows-are, search-fits, search-is, shards-are}
+use Rattle.pool_task.proofs.Pooling.{ceiling-some, room-is, rows-are, search-fits, search-is, shards-are}
 use Rattle.pool_task.proofs.running.run.Goals as goal
 
 pub run_task-end-requires-clause-made : goal.run_task-end-requires-clause-made
@@ -35,10 +35,11 @@ run_task-end-requires-clause-room g c =
     (here c.as_slice.result.now q search (subst (λ (xs : List Search). q < length xs) (sym (c.as_slice.ensures ∙ c.requires.searches)) c.args.load.task.search) c.index-as_slice-search.is) in
     let at : slice_get index.shards s ≡ Some shard = subst (λ (xs : List Columns). slice_get xs s ≡ Some shard) c.as_slice-2.ensures
     (here c.as_slice-2.result.now s shard (subst (λ (xs : List Columns). s < length xs) (sym c.as_slice-2.ensures) (subst (λ n. s < n) (shards-are index p c.requires.pool) c.args.load.task.shard)) c.index-as_slice-shard.is) in
+    let task = room-is index p c.requires.pool q s search shard asked at in
     record {
-      ceiling = ceiling_at p q s;
-      is = ceiling-is index p c.requires.pool q s search shard asked at;
-      fits = let cap = fresh-cap p q s c.args.load.pass c.args.load.fresh in let hold = fresh-hold p q s c.args.load.pass c.args.load.fresh in omega (arith, cap, hold);
+      ceiling = task.bytes;
+      is = task.is;
+      fits = let cap = fresh-cap p q s c.args.load.pass c.args.load.fresh in let hold = fresh-hold p q s c.args.load.pass c.args.load.fresh in let low = task.low in omega (arith, cap, hold, low);
     }
 
 pub invariant_of-result : goal.invariant_of-result

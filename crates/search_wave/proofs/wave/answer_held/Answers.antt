@@ -29,7 +29,7 @@ read_bodies-requires-clause-number g c κs within =
 
 pub answer_all-requires-clause-ends : goal.answer_all-requires-clause-ends
 answer_all-requires-clause-ends g c =
-    ends-of c.args.words.now c.args.index.now c.in_ok-asked.field-0.searches c.in_ok-asked.field-0.ceilings c.args.settings.now.batch c.run_pool.new.pass.view c.in_ok-ends.ends
+    ends-of c.args.words.now c.args.index.now c.in_ok-asked.field-0.searches c.in_ok-asked.field-0.rooms c.args.settings.now.batch c.run_pool.new.pass.view c.in_ok-ends.ends
     c.in_ok-ends.ensures.number c.in_ok-ends.ensures.ends
 
 pub answer_all-requires-clause-asked : goal.answer_all-requires-clause-asked
@@ -63,7 +63,7 @@ returns-clause-wave g c =
     let requests = requests_from index c.args.page c.args.bodies.now in
     let asked = c.in_ok-asked.field-0.asked in
     let searches = c.in_ok-asked.field-0.searches in
-    let ceilings = c.in_ok-asked.field-0.ceilings in
+    let rooms = c.in_ok-asked.field-0.rooms in
     let ends = c.in_ok-ends.ends in
     let old = c.look.new.pass in
     let charged = c.charge_bodies.new.pass in
@@ -74,7 +74,7 @@ returns-clause-wave g c =
     let same_limits = c.requires.limits in
     if-ok-map _ (λ (pages : List Page). IsWave settings index requests c.args.pass.now.view answered (map (λ (p : Page). p.answered) pages)) c.answer_all.result c.answer_all.ensures.answers
     (λ pages found. subst (λ (p : PassModel). IsWave settings index requests p.view answered (map (λ (q : Page). q.answered) pages)) c.look.ensures.same
-    (is-wave settings c.args.index.now words requests c.in_ok-refusals.refusals asked searches ceilings ends (map (λ (q : Page). q.answered) pages) old.view charged.view opened closed answered (record {
+    (is-wave settings c.args.index.now words requests c.in_ok-refusals.refusals asked searches rooms ends (map (λ (q : Page). q.answered) pages) old.view charged.view opened closed answered (record {
       limits = same_limits;
       request_before = ap (λ (p : PassModel). hold_of p.view which.Request) c.look.ensures.same ∙ c.requires.request;
       fielddata_charged = c.charge_bodies.ensures.fielddata;

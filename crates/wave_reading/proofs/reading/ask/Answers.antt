@@ -16,6 +16,6 @@ returns-in-Some g c =
     let request = request_at (index_of index) c.args.body.now c.args.page in
     on-ok c.push.result _ _ c.push.ensures.ok
     (λ asked requests refusals read.
-    subst (λ (o : Option Tripped). HasRead index (requests ++ request ∷ []) (refusals ++ o ∷ []) c.push.new.self p.searches.items p.ceilings.items) (sym c.in-Some.is)
-    (subst (λ (xs : List Asked). HasRead index (requests ++ request ∷ []) (refusals ++ Some t ∷ []) xs p.searches.items p.ceilings.items) (sym asked)
-    (tripped-more index requests refusals p.asked p.searches.items p.ceilings.items read request t)))
+    subst (λ (o : Option Tripped). HasRead index (requests ++ request ∷ []) (refusals ++ o ∷ []) c.push.new.self p.searches.items p.rooms.items) (sym c.in-Some.is)
+    (subst (λ (xs : List Asked). HasRead index (requests ++ request ∷ []) (refusals ++ Some t ∷ []) xs p.searches.items p.rooms.items) (sym asked)
+    (tripped-more index requests refusals p.asked p.searches.items p.rooms.items read request t)))

@@ -33,8 +33,8 @@ loop-place-preserved g c =
     let p = c.ask.new.progress in
     record {
       page_is = c.take-read.ensures.after ∙ sym (ap (λ (bs : List (List ℕ)). page_behind bs page) bodies ∙ behind-one (take i items) body page);
-      read = subst (λ (rs : List Request). HasRead c.args.index.now rs (take (i + 1) c.args.refusals.now) p.asked p.searches.items p.ceilings.items) (sym requests)
-          (subst (λ (ts : List (Option Tripped)). HasRead c.args.index.now (requests_from index page (take i items) ++ request_at index body c.take-read.result ∷ []) ts p.asked p.searches.items p.ceilings.items) (sym refusals)
+      read = subst (λ (rs : List Request). HasRead c.args.index.now rs (take (i + 1) c.args.refusals.now) p.asked p.searches.items p.rooms.items) (sym requests)
+          (subst (λ (ts : List (Option Tripped)). HasRead c.args.index.now (requests_from index page (take i items) ++ request_at index body c.take-read.result ∷ []) ts p.asked p.searches.items p.rooms.items) (sym refusals)
           (c.in_ok-ask.ensures (requests_from index page (take i items)) (take i c.args.refusals.now) c.loop-place.invariant.read));
     }
 

@@ -21,5 +21,5 @@ returns-in-Err g c =
     let is : request.search ≡ Err c.in-Err.refused = sym c.in_ok-search.ensures.read ∙ c.in-Err.is in
     on-ok c.push.result _ _ c.push.ensures.ok
     (λ asked requests refusals read.
-    subst (λ (xs : List Asked). HasRead index (requests ++ request ∷ []) (refusals ++ None ∷ []) xs p.searches.items p.ceilings.items) (sym asked)
-    (refused-more index requests refusals p.asked p.searches.items p.ceilings.items read request c.in-Err.refused (is-refused (index_of index) request c.in-Err.refused is)))
+    subst (λ (xs : List Asked). HasRead index (requests ++ request ∷ []) (refusals ++ None ∷ []) xs p.searches.items p.rooms.items) (sym asked)
+    (refused-more index requests refusals p.asked p.searches.items p.rooms.items read request c.in-Err.refused (is-refused (index_of index) request c.in-Err.refused is)))
