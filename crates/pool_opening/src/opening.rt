@@ -28,7 +28,7 @@ pub struct Opened<J: PoolCall> {
     pub desks: Vec<Desk<Load<J>, Outcome<J>>>,
 }
 
-/// Opens a pool: each task of the searches on the shards waits with a pass that has the task's ceiling, split from the one that is
+/// Opens a pool: each task of the searches on the shards waits with a pass that has its ceiling of these, split from the one that is
 /// given, which has the whole cap. All memory is taken before a pass is split, but for that of the table, which may be refused:
 /// all passes are joined back then.
 pub fn open_pool<J: PoolCall>(

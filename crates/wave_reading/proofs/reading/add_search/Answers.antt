@@ -21,9 +21,9 @@ returns-in-Some g c =
     let search = c.args.search in
     let found = c.in-Some.found.items in
     let one : c.push.new.self ≡ search ∷ [] = c.in_ok-push.ensures.ok ∙ ap (λ (xs : List Search). xs ++ search ∷ []) c.new-one.ensures in
-    let are = subst (λ o. IfSome o (λ v. AreRoomsFor v.items (map (ceiling (kinds_of index.mapping) search) (rows_by_shard index.shards)))) c.in-Some.is c.in_ok-rooms.ensures.rooms in
-    let few = subst (λ o. IfSome o (λ v. sum v.items ≤ 2 ^ 50)) c.in-Some.is c.in_ok-rooms.ensures.low in
-    let narrow = sym (ap is_none c.in-Some.is) ∙ c.in_ok-rooms.ensures.wide in
+    let are = subst (λ o. IfSome o (λ v. AreRoomsFor v.items (map (ceiling (kinds_of index.mapping) search) (rows_by_shard index.shards)))) c.in-Some.is c.in_ok-found.ensures.rooms in
+    let few = subst (λ o. IfSome o (λ v. sum v.items ≤ 2 ^ 50)) c.in-Some.is c.in_ok-found.ensures.low in
+    let narrow = sym (ap is_none c.in-Some.is) ∙ c.in_ok-found.ensures.wide in
     on-ok-three c.add_running.result _ _ _ _ c.add_running.ensures.asked c.add_running.ensures.searches c.add_running.ensures.rooms
     (λ asked searches rooms requests refusals request is read.
     subst (λ (xs : List Asked). HasRead index (requests ++ request ∷ []) (refusals ++ None ∷ []) xs c.add_running.new.self.searches.items c.add_running.new.self.rooms.items) (sym asked)
@@ -36,7 +36,7 @@ returns-in-None g c =
     let index = c.args.index.now in
     let p = c.args.progress.now in
     let search = c.args.search in
-    let wide = sym (ap is_none c.in-None.is) ∙ c.in_ok-rooms.ensures.wide in
+    let wide = sym (ap is_none c.in-None.is) ∙ c.in_ok-found.ensures.wide in
     on-ok c.push-in-None.result _ _ c.push-in-None.ensures.ok
     (λ asked requests refusals request is read.
     subst (λ (xs : List Asked). HasRead index (requests ++ request ∷ []) (refusals ++ None ∷ []) xs p.searches.items p.rooms.items) (sym asked)
