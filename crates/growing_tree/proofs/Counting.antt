@@ -23,7 +23,7 @@ use Rattle.shard_columns.specs.Columns.{Columns}
 use Rattle.growing_tree.specs.Codes.{code_key}
 use Rattle.growing_tree.specs.Decoded.{decoded}
 use Rattle.growing_tree.specs.Gathered.{gatherers, key_at, rows_at, shown_level}
-use Rattle.growing_tree.specs.Readiness.{IsKindReady, is_keyed}
+use Rattle.growing_tree.specs.Readiness.{IsKindReady, is_keyed, is_metric}
 use Rattle.growing_tree.specs.Shown.{HasBuckets, IsAlike, TakesRows, node_with, put_all}
 use Rattle.growing_tree.specs.Trees.{level_node}
 use Rattle.growing_tree.specs.declared.ready.Ready.{Ready, out-Ready}
@@ -78,6 +78,21 @@ handed-is all (kind.Nested context) rows nested around whole = absurd (nested co
 handed-is all (kind.ReverseNested context) rows nested around whole = absurd (around context refl)
 handed-is all kind.Global rows nested around whole = absurd (whole refl)
 handed-is all _ rows nested around whole = refl
+
+-- so does a metric
+pub handed-values : (all : List PlacedRow) (k : Kind) (rows : List PlacedRow) → IsTrue (is_metric k) → under all [] k rows ≡ rows
+handed-values all (kind.Nested context) rows h = absurd (false≢true h)
+handed-values all (kind.ReverseNested context) rows h = absurd (false≢true h)
+handed-values all kind.Global rows h = absurd (false≢true h)
+handed-values all _ rows h = refl
+
+-- the first row of a list that has one
+pub first-row : (f : ℕ → PlacedRow) (given rows : List ℕ) (row : PlacedRow) → given ≡ rows → map f rows ≡ row ∷ [] → f (get_or given 0 0) ≡ row
+first-row f given rows row same is = ap (λ (rs : List ℕ). f (get_or rs 0 0)) same ∙ at rows is
+  where
+    at : (rows : List ℕ) → map f rows ≡ row ∷ [] → f (get_or rows 0 0) ≡ row
+    at [] is = absurd (cc is)
+    at (first ∷ rows) is = cc is
 
 -- the values of one more row
 pub metric-more : (k : Kind) (rows : List PlacedRow) (row : PlacedRow) (m : Metric) → gathered_metric k (rows ++ row ∷ []) m ≡ metric_with k row (gathered_metric k rows m)

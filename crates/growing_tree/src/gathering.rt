@@ -1,11 +1,12 @@
 //! More rows in a tree: those that an aggregation counts go into the buckets of their keys, and in each bucket into the trees
 //! of the aggregations below.
-ghost use Rattle.std.specs.Prelude.{◌≡◌, ◌<◌, ◌+◌, All, IfOk, IsTrue, List as AnyList, OnOk, length, map, sum_by};
+ghost use Rattle.std.specs.Prelude.{◌≡◌, ◌<◌, ◌+◌, ◌∷◌, [], All, IfOk, IsTrue, List as AnyList, OnOk, length, map, sum_by};
 ghost use Rattle.std.specs.List.{list_all};
 ghost use Rattle.agg_model.specs.declared.key.Key.{Key};
 ghost use Rattle.agg_model.specs.declared.aggregation.Agg.{out-Agg};
 ghost use Rattle.agg_evaluation.specs.Cost.{node_cost};
 ghost use Rattle.agg_evaluation.specs.Counted.{IsApart};
+ghost use Rattle.agg_evaluation.specs.Keys.{keys};
 ghost use Rattle.agg_evaluation.specs.Rows.{PlacedRow};
 ghost use Rattle.evaluation_laws.proofs.CostLaws.{bytes};
 ghost use Rattle.shard_columns.specs.Built.{IsShard};
@@ -21,7 +22,7 @@ ghost use Rattle.growing_tree.specs.declared.ready.Ready.{out-Ready};
 use crate::beginning::{begin_bucket, bucket_bytes};
 use crate::groups::{Groups, group_rows};
 use crate::kinds::{
-    are_metrics, ascend, has_buckets, has_fixed_keys, place_of, row_codes, take_rows,
+    are_metrics, ascend, has_buckets, has_fixed_keys, lone_code, place_of, row_codes, take_rows,
 };
 use crate::ready::{Ready, ReadyKind};
 use crate::single::{one_row, with_row};
@@ -32,6 +33,57 @@ use bucket_places::{Place, Places};
 use nested_agg::{rows_around, rows_beneath};
 use shard_columns::Shard;
 use std::alloc::{AllocError, Global};
+
+// More rows in the tree of a metric, which costs what it did.
+fn gather_values(
+    agg: &Agg,
+    ready: &Ready,
+    shard: &Shard,
+    rows: &List<u32>,
+    tree: &mut Tree,
+) -> Result<(), AllocError>
+    requires metric { IsTrue (is_metric (out-Agg agg.now).kind) }
+    requires in_range { All (λ n. n < length shard.now.rows) rows.now }
+    ensures tree { OnOk result (decoded shard.now ready.now tree.new
+        ≡ gathered shard.now.rows agg.now (rows_at shard.now rows.now) (decoded shard.now ready.now tree.old)) }
+    ensures cost { OnOk result (node_cost (decoded shard.now ready.now tree.new)
+        ≡ node_cost (decoded shard.now ready.now tree.old)) }
+{
+    take_rows(&agg.kind, shard, rows, &mut tree.level)?;
+    Ok(())
+}
+
+// More rows in the tree of one of the children of a bucket. A metric takes their values at once.
+#[cycle(gather)]
+fn gather_child(
+    alloc: Global,
+    agg: &Agg,
+    ready: &Ready,
+    shard: &Shard,
+    rows: &List<u32>,
+    spare: &mut Vec<Vec<i64>>,
+    tree: &mut Tree,
+) -> Result<u64, AllocError>
+    requires ready { IsReadyFor shard.now agg.now ready.now }
+    requires built { IsShard shard.now }
+    requires apart { IsApart shard.now.rows }
+    requires in_range { All (λ n. n < length shard.now.rows) rows.now }
+    ensures tree { OnOk result (decoded shard.now ready.now tree.new
+        ≡ gathered shard.now.rows agg.now (rows_at shard.now rows.now) (decoded shard.now ready.now tree.old)) }
+    ensures cost { IfOk result (λ added. node_cost (decoded shard.now ready.now tree.new)
+        ≡ node_cost (decoded shard.now ready.now tree.old) + added) }
+{
+    match &ready.kind {
+        ReadyKind::Metric => {
+            gather_values(agg, ready, shard, rows, tree)?;
+            Ok(0)
+        }
+        _ => {
+            let more = gather(alloc, agg, ready, shard, rows, spare, tree)?;
+            Ok(more)
+        }
+    }
+}
 
 /// Puts more rows into each of the trees side by side, which are those of these aggregations: the children of one bucket. The
 /// answer is by how many bytes their cost rose. Lists of codes, errors and time as in `gather`.
@@ -63,7 +115,7 @@ pub fn gather_children(
         if place >= children.len() {
             return Err(AllocError);
         }
-        let more = gather(
+        let more = gather_child(
             alloc,
             &aggs.as_slice()[place],
             &ready.as_slice()[place],
@@ -290,6 +342,58 @@ fn put_codes(
     Ok(added)
 }
 
+// One more row, which stands alone in the list, in the buckets of its keys.
+#[cycle(gather)]
+fn put_row(
+    alloc: Global,
+    agg: &Agg,
+    ready: &Ready,
+    shard: &Shard,
+    rows: &List<u32>,
+    spare: &mut Vec<Vec<i64>>,
+    level: &mut Level,
+) -> Result<u64, AllocError>
+    requires ready { IsReadyFor shard.now agg.now ready.now }
+    requires built { IsShard shard.now }
+    requires apart { IsApart shard.now.rows }
+    requires alone { length rows.now ≡ 1 }
+    requires in_range { All (λ n. n < length shard.now.rows) rows.now }
+    ensures buckets { OnOk result ((row : PlacedRow) → rows_at shard.now rows.now ≡ row ∷ [] →
+        shown_level shard.now ready.now level.new
+        ≡ put_all (λ k. row ∷ []) (gatherers shard.now (out-Agg agg.now).children)
+        (keys shard.now.rows (out-Agg agg.now).kind row)
+        (shown_level shard.now ready.now level.old)) }
+    ensures cost { IfOk result (λ added. sum_by bytes (shown_level shard.now ready.now level.new)
+        ≡ sum_by bytes (shown_level shard.now ready.now level.old) + added) }
+    ensures form { OnOk result (IsAlike level.old level.new) }
+    ensures aligned { IsAligned level.old → IsAligned level.new }
+{
+    let row = rows.as_slice()[0];
+    match lone_code(shard, &agg.kind, &ready.kind, row) {
+        Some(Some(code)) => {
+            let more = put(alloc, agg, ready, shard, rows, spare, code, level)?;
+            Ok(more)
+        }
+        Some(None) => Ok(0),
+        None => {
+            let mut codes = spare.pop().unwrap_or(Vec::new(alloc));
+            row_codes(shard, &agg.kind, &ready.kind, row, &mut codes)?;
+            let more = put_codes(
+                alloc,
+                agg,
+                ready,
+                shard,
+                rows,
+                spare,
+                codes.as_slice(),
+                level,
+            )?;
+            spare.push(codes)?;
+            Ok(more)
+        }
+    }
+}
+
 // The rows of groups in the buckets of their codes, one after another.
 #[cycle(gather)]
 fn put_groups(
@@ -365,25 +469,13 @@ fn put_in_turn(
     ensures form { OnOk result (IsAlike level.old level.new) }
     ensures aligned { IsAligned level.new }
 {
-    let mut codes = spare.pop().unwrap_or(Vec::new(alloc));
     let mut single = one_row(alloc, 0)?;
     let mut added = 0;
     for row in rows.as_slice() {
-        row_codes(shard, &agg.kind, &ready.kind, *row, &mut codes)?;
         single = with_row(single, *row);
-        let more = put_codes(
-            alloc,
-            agg,
-            ready,
-            shard,
-            &single,
-            spare,
-            codes.as_slice(),
-            level,
-        )?;
+        let more = put_row(alloc, agg, ready, shard, &single, spare, level)?;
         added = sum(added, more)?;
     }
-    spare.push(codes)?;
     Ok(added)
 }
 
@@ -413,25 +505,7 @@ fn count_keyed(
     ensures aligned { IsAligned level.new }
 {
     if rows.len() == 1 {
-        let mut codes = spare.pop().unwrap_or(Vec::new(alloc));
-        row_codes(
-            shard,
-            &agg.kind,
-            &ready.kind,
-            rows.as_slice()[0],
-            &mut codes,
-        )?;
-        let added = put_codes(
-            alloc,
-            agg,
-            ready,
-            shard,
-            rows,
-            spare,
-            codes.as_slice(),
-            level,
-        )?;
-        spare.push(codes)?;
+        let added = put_row(alloc, agg, ready, shard, rows, spare, level)?;
         return Ok(added);
     }
     if are_metrics(&agg.children) {

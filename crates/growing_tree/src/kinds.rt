@@ -1,5 +1,5 @@
 //! What the kinds of aggregations make of codes and rows.
-ghost use Rattle.std.specs.Prelude.{◌≡◌, ◌<◌, All, IfOk, IsTrue, OnOk, length, map, pos};
+ghost use Rattle.std.specs.Prelude.{◌≡◌, ◌<◌, All, IfOk, IfSome, IsTrue, OnOk, length, map, option_to_list, pos};
 ghost use Rattle.std.specs.List.{list_all};
 ghost use Rattle.std.specs.List.Sorted.{IsStrictlyIncreasing};
 ghost use Rattle.agg_model.specs.declared.aggregation.Agg.{out-Agg};
@@ -19,10 +19,15 @@ use crate::ready::ReadyKind;
 use crate::tree::Level;
 use agg_model::{Agg, Kind, List};
 use filters_agg::codes as codes_of_filters;
-use histogram_agg::{codes as codes_of_histogram, key_bytes as key_bytes_of_interval};
+use histogram_agg::{
+    codes as codes_of_histogram, key_bytes as key_bytes_of_interval,
+    lone_code as lone_code_of_histogram,
+};
 use shard_columns::Shard;
 use std::alloc::AllocError;
-use terms_agg::{codes as codes_of_terms, key_bytes as key_bytes_of_term};
+use terms_agg::{
+    codes as codes_of_terms, key_bytes as key_bytes_of_term, lone_code as lone_code_of_terms,
+};
 
 /// Whether the codes are numbers of buckets that exist from the start.
 pub(crate) fn has_fixed_keys(kind: &ReadyKind) -> bool
@@ -105,6 +110,29 @@ pub fn row_codes(
             Ok(())
         }
         ReadyKind::Composite => Err(AllocError),
+    }
+}
+
+/// The code of the row's one key, where that is told without a list; `Some(None)` says that the row has no key. Of another row
+/// nothing is said: it has the codes that `row_codes` gives. Time is constant.
+pub(crate) fn lone_code(
+    shard: &Shard,
+    kind: &Kind,
+    ready: &ReadyKind,
+    row: u32,
+) -> Option<Option<i64>>
+    requires ready { IsKindReady shard.now kind.now ready.now }
+    requires built { IsShard shard.now }
+    requires in_range { row < length shard.now.rows }
+    ensures { IfSome result (λ code. map (code_key shard.now ready.now) (option_to_list code)
+        ≡ keys shard.now.rows kind.now (row_of shard.now.rows row)) }
+{
+    match ready {
+        ReadyKind::Terms(terms) => lone_code_of_terms(shard, terms, row),
+        ReadyKind::Histogram(histogram) => lone_code_of_histogram(shard, histogram, row),
+        ReadyKind::Single | ReadyKind::Metric | ReadyKind::Filters(_) | ReadyKind::Composite => {
+            None
+        }
     }
 }
 

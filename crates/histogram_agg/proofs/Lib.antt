@@ -4,3 +4,4 @@ mod Rows
 mod Values
 pub mod Coding
 pub mod Made
+pub mod Numbers

@@ -12,5 +12,5 @@ pub use prepared::PreparedHistogram;
 pub use preparing::{
     codes_have_keys_of_their_own, key, key_bytes, made_histograms_can_be_prepared, prepare,
 };
-pub use row_codes::{codes, count};
+pub use row_codes::{codes, count, lone_code};
 pub use row_keys::{key_count, keys};

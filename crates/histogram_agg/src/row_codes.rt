@@ -1,7 +1,8 @@
 //! The codes of a row's keys.
-ghost use Rattle.std.specs.Prelude.{◌≡◌, ◌<◌, length, map, OnOk};
+ghost use Rattle.std.specs.Prelude.{◌≡◌, ◌<◌, ◌∷◌, [], filter, length, map, option_to_list, IfSome, OnOk};
 ghost use Rattle.agg_model.specs.declared.aggregation.Kind.{Kind};
-ghost use Rattle.agg_evaluation.specs.Keys.{keys as keys_of_row};
+ghost use Rattle.agg_evaluation.specs.Keys.{interval_start, is_between, keys as keys_of_row};
+ghost use Rattle.agg_model.specs.declared.key.Key.TheVariants.{Whole};
 ghost use Rattle.agg_evaluation.specs.Rows.{row_of};
 ghost use Rattle.shard_columns.specs.Built.{IsShard};
 ghost use Rattle.histogram_agg.specs.Codes.{IsReady, key_of};
@@ -48,6 +49,37 @@ pub fn codes(
         }
     }
     Ok(())
+}
+
+// The code of a number's key, where the key lies within the hard bounds.
+fn code_within(prepared: &PreparedHistogram, number: i64) -> Option<i64>
+    ensures { map (key_of prepared.now) (option_to_list result) ≡ filter (is_between prepared.now.hard)
+        (Whole (interval_start prepared.now.interval prepared.now.offset number) ∷ []) }
+{
+    let code = code_of(prepared.interval, prepared.offset, number);
+    if is_allowed(prepared, code) {
+        Some(code)
+    } else {
+        None
+    }
+}
+
+/// The code of the row's one key, where the row has one number in the field or no value; `Some(None)` says that it has no key. Of
+/// another row nothing is said: it has the codes that `codes` gives. Time is constant, and no list is wanted.
+pub fn lone_code(shard: &Shard, prepared: &PreparedHistogram, row: u32) -> Option<Option<i64>>
+    requires built { IsShard shard.now }
+    requires in_range { row < length shard.now.rows }
+    ensures { IfSome result (λ code. (kind : Kind) → IsReady kind prepared.now →
+        map (key_of prepared.now) (option_to_list code) ≡ keys_of_row shard.now.rows kind (row_of shard.now.rows row)) }
+{
+    let numbers = shard.numbers(row, prepared.field);
+    if numbers.len() == 1 {
+        return Some(code_within(prepared, numbers[0]));
+    }
+    if shard.value_count(row, prepared.field) == 0 {
+        return Some(prepared.missing);
+    }
+    None
 }
 
 /// The number of the row's keys. It takes time in proportion to the row's values, and no memory.

@@ -1,5 +1,5 @@
 -- A metric of one more value.
-use Rattle.std.proofs.Common.{◌≡◌, refl, ℕ, ℤ, ◌+◌, ◌≤◌, zero, suc, List, [], ◌∷◌, ◌++◌, length, take, Some, None, sym, ◌∙◌, ap, subst, arith, add-one}
+use Rattle.std.proofs.Common.{◌≡◌, refl, ℕ, ℤ, ◌+◌, ◌<◌, ◌≤◌, zero, suc, List, [], ◌∷◌, ◌++◌, length, map, take, Option, Some, None, sym, ◌∙◌, ap, subst, arith, add-one}
 use Rattle.std.specs.Prelude.{◌+ℤ◌, filter_map}
 use Rattle.std.specs.List.{reduce, slice_get}
 use Rattle.std.specs.Int.{int_min, int_max}
@@ -10,9 +10,11 @@ use Rattle.std.proofs.lemmas.List.Sums.{fold-append}
 use Rattle.list_laws.proofs.Lists.{filter_map-append, append-nil}
 use Rattle.agg_model.specs.declared.partial.Metric.{Metric}
 use Rattle.agg_model.specs.declared.row.Scalar.{Scalar}
-use Rattle.agg_model.specs.declared.row.Scalar.TheVariants.{Whole}
+use Rattle.agg_model.specs.declared.row.Scalar.TheVariants.{Whole, Word, Flag}
+use Rattle.agg_evaluation.specs.Keys.{or_missing}
 use Rattle.agg_evaluation.specs.Shard.{metric_of, int_sum, integer_of}
 use Rattle.agg_evaluation.proofs.MetricLaws.{int_sum-append}
+use Rattle.shard_columns.specs.Lent.{wholes_in}
 
 abbrev numbers : List Scalar → List ℤ
 numbers = filter_map integer_of
@@ -70,3 +72,28 @@ take-next (s ∷ seen) values n v is = ap (λ (xs : List Scalar). s ∷ xs) (tak
 -- one value more is seen
 pub seen_more : (seen values : List Scalar) (n : ℕ) (v : Scalar) → slice_get values n ≡ Some v → (seen ++ take n values) ++ v ∷ [] ≡ seen ++ take (n + 1) values
 seen_more seen values n v is = subst (λ (k : ℕ). (seen ++ take n values) ++ v ∷ [] ≡ seen ++ take k values) (sym (add-one n)) (take-next seen values n v is)
+
+-- all values are seen
+pub all-seen : (values : List Scalar) (n : ℕ) → length values ≤ n → take n values ≡ values
+all-seen [] zero le = refl
+all-seen [] (suc n) le = refl
+all-seen (v ∷ values) zero le = absurd (omega arith)
+all-seen (v ∷ values) (suc n) le = ap (λ (vs : List Scalar). v ∷ vs) (all-seen values n (omega arith))
+
+few-wholes : (values : List Scalar) → length (wholes_in values) ≤ length values
+few-wholes [] = omega arith
+few-wholes (Whole n ∷ values) = let fewer = few-wholes values in omega arith
+few-wholes (Word w ∷ values) = let fewer = few-wholes values in omega arith
+few-wholes (Flag b ∷ values) = let fewer = few-wholes values in omega arith
+
+-- where there are as many whole numbers as values, those are the values
+pub wholes-are : (values : List Scalar) → length (wholes_in values) ≡ length values → map Whole (wholes_in values) ≡ values
+wholes-are [] all = refl
+wholes-are (Whole n ∷ values) all = ap (λ (vs : List Scalar). Whole n ∷ vs) (wholes-are values (omega arith))
+wholes-are (Word w ∷ values) all = let fewer = few-wholes values in absurd (omega arith)
+wholes-are (Flag b ∷ values) all = let fewer = few-wholes values in absurd (omega arith)
+
+-- nothing stands for the values of a row that has some
+pub some-values : (missing : Option Scalar) (values : List Scalar) → 0 < length values → or_missing missing values ≡ values
+some-values missing [] some = absurd (omega arith)
+some-values missing (v ∷ values) some = refl

@@ -1,8 +1,9 @@
 //! The values of rows, taken into a metric one after another.
-ghost use Rattle.std.specs.Prelude.{◌≡◌, ◌<◌, ◌≤◌, ◌+◌, ◌++◌, ◌∷◌, [], ◌^◌, List, length, option_map};
+ghost use Rattle.std.specs.Prelude.{◌≡◌, ◌<◌, ◌≤◌, ◌+◌, ◌++◌, ◌∷◌, [], ◌^◌, List, length, map, option_map};
 ghost use Rattle.std.specs.Int.{int_min, int_max};
 ghost use Rattle.std.specs.Option.{option_map_or};
 ghost use Rattle.agg_model.specs.declared.row.Scalar.{Scalar};
+ghost use Rattle.agg_model.specs.declared.row.Scalar.TheVariants.{Whole};
 ghost use Rattle.agg_evaluation.specs.Keys.{values_or};
 ghost use Rattle.agg_evaluation.specs.Rows.{row_of};
 ghost use Rattle.agg_evaluation.specs.Shard.{metric_of};
@@ -50,6 +51,20 @@ fn with_value(metric: Metric, cell: Cell<'_>) -> Metric
     }
 }
 
+// Takes numbers, one after another.
+fn take_numbers(numbers: &[i64], metric: &mut Metric)
+    requires few { metric.old.count ≤ 2 ^ 62 }
+    requires short { length numbers.now < 2 ^ 62 }
+    requires bounded { IsBounded metric.old }
+    ensures values { (seen : List Scalar) → metric.old ≡ metric_of seen →
+        metric.new ≡ metric_of (seen ++ map Whole numbers.now) }
+    ensures bounded { IsBounded metric.new }
+{
+    for number in numbers {
+        *metric = with_value(*metric, Cell::Whole(*number));
+    }
+}
+
 /// Takes the values that a row has of a field into the metric, or where it has none the one that stands for a missing value,
 /// if there is one. The metric has seen at most 2^62 values, of 64 bits each. It takes time in proportion to the values.
 pub fn take(shard: &Shard, row: u32, field: u32, missing: Option<Cell<'_>>, metric: &mut Metric)
@@ -66,6 +81,11 @@ pub fn take(shard: &Shard, row: u32, field: u32, missing: Option<Cell<'_>>, metr
             *metric = with_value(*metric, cell);
         }
         return;
+    }
+    // The numbers of a row lie side by side, and are looked up once.
+    let numbers = shard.numbers(row, field);
+    if numbers.len() == count as usize {
+        return take_numbers(numbers, metric);
     }
     for place in 0..count {
         *metric = with_value(*metric, shard.value(row, field, place));

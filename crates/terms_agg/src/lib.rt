@@ -16,6 +16,6 @@ pub use prepared::{
     PreparedTerms, code_count, codes_have_keys_of_their_own, has_key, key, key_bytes,
 };
 pub use preparing::{made_terms_can_be_prepared, prepare};
-pub use row_codes::{codes, count};
+pub use row_codes::{codes, count, lone_code};
 pub use row_keys::{key_count, keys};
 pub use trimming::trim;

@@ -1,5 +1,5 @@
 //! The codes of a row.
-ghost use Rattle.std.specs.Prelude.{◌≡◌, ◌<◌, ◌+◌, ◌++◌, ℕ, length, map, take, option_to_list, true, OnOk};
+ghost use Rattle.std.specs.Prelude.{◌≡◌, ◌<◌, ◌+◌, ◌++◌, ℕ, length, map, take, option_to_list, true, IfSome, OnOk};
 ghost use Rattle.std.specs.List.{list_all};
 ghost use Rattle.agg_model.specs.Options.{TermsOptions};
 ghost use Rattle.agg_model.specs.declared.aggregation.Kind.{Kind};
@@ -70,6 +70,25 @@ pub fn codes(
         }
     }
     Ok(())
+}
+
+/// The code of the row's one key, where the row has at most one value of the field; `Some(None)` says that it has no key. A row of
+/// more values, of which nothing is said, has those that `codes` gives. Time is constant, and no list is wanted.
+pub fn lone_code(shard: &Shard, prepared: &PreparedTerms, row: u32) -> Option<Option<i64>>
+    requires built { IsShard shard.now }
+    requires known { prepared.now.field < length shard.now.kinds }
+    requires in_range { row < length shard.now.rows }
+    ensures keys { IfSome result (λ code. (kind : Kind) → IsReady shard.now kind prepared.now →
+        map (key_of shard.now prepared.now) (option_to_list code) ≡ keys_of_row shard.now.rows kind (row_of shard.now.rows row)) }
+    ensures codes { IfSome result (λ code. (kind : Kind) → IsReady shard.now kind prepared.now →
+        list_all (is_code shard.now prepared.now) (option_to_list code) ≡ true) }
+{
+    let values = row_values(shard, row, prepared.field);
+    match value_count(values) {
+        0 => Some(prepared.missing),
+        1 => Some(next_code(prepared, values, 0)),
+        _ => None,
+    }
 }
 
 /// The number of the row's keys. It takes time in proportion to the row's values, and no memory.

@@ -32,8 +32,8 @@ use Rattle.growing_tree.proofs.Steps.{found-buckets, found-cost, added-buckets, 
 use Rattle.growing_tree.proofs.Turns.{metrics-steps, one-more}
 use Rattle.growing_tree.proofs.gathering.+gather.Goals as goal
 
-pub gather_children-gather-requires : goal.gather_children-gather-requires
-gather_children-gather-requires t c =
+pub gather_children-gather_child-requires : goal.gather_children-gather_child-requires
+gather_children-gather_child-requires t c =
     let place = c.loop-place.place in
     let a = c.index-as_slice-place.result in
     let r = c.index-as_slice-place-in-loop-place.result in
@@ -82,11 +82,11 @@ gather_children-loop-place-preserved t c =
     let g_is = mapped-at (gatherer_of shard.rows) c.args.aggs.now place a below (c.index-as_slice-place.is ∙ ap (λ xs. get_or xs place a) c.as_slice.ensures) in
     let d_is = mapped-at (decoded shard) c.args.ready.now place r within (c.index-as_slice-place-in-loop-place.is ∙ ap (λ xs. get_or xs place r) c.as_slice-in-loop-place.ensures) in
     let old_is = item-at children place c.index_mut.result.now there c.index_mut.ensures.value in
-    let more = child-cost ds children place (decoded shard r) c.index_mut.result.now c.gather.new.tree c.in_ok-more.more d_is old_is c.in_ok-more.ensures.cost in
+    let more = child-cost ds children place (decoded shard r) c.index_mut.result.now c.gather_child.new.tree c.in_ok-more.more d_is old_is c.in_ok-more.ensures.cost in
     let before = c.loop-place.invariant.cost in
     let added : c.in_ok-added.added ≡ c.loop-place.added + c.in_ok-more.more = c.in_ok-added.ensures in
     (record {
-      trees = child-more ds gs (rows_at shard c.args.rows.now) (shown_children shard c.args.ready.now c.args.children.now.items) children place (decoded shard r) (gatherer_of shard.rows a) c.index_mut.result.now c.gather.new.tree d_is g_is old_is
+      trees = child-more ds gs (rows_at shard c.args.rows.now) (shown_children shard c.args.ready.now c.args.children.now.items) children place (decoded shard r) (gatherer_of shard.rows a) c.index_mut.result.now c.gather_child.new.tree d_is g_is old_is
           c.loop-place.invariant.trees c.in_ok-more.ensures.tree;
       cost = omega arith;
     })
@@ -272,9 +272,6 @@ put_groups-returns-clause-buckets t c = λ rows_of h.
     c.loop-place.invariant.buckets rows_of h
     ∙ ap (λ ks. put_all rows_of (gatherers shard (out-Agg c.args.agg.now).children) ks (shown_level shard r c.args.level.now)) (take-full (map key_of codes) c.loop-place.place all)
 
-pub put_in_turn-row_codes-requires-clause-ready : goal.put_in_turn-row_codes-requires-clause-ready
-put_in_turn-row_codes-requires-clause-ready t c = (level-ready c.args.shard.now c.args.agg.now c.args.ready.now c.requires.ready).kind
-
 pub put_in_turn-loop-row-preserved : goal.put_in_turn-loop-row-preserved
 put_in_turn-loop-row-preserved t c =
     let shard = c.args.shard.now in
@@ -292,12 +289,12 @@ put_in_turn-loop-row-preserved t c =
     let buckets = shown_level shard r c.args.level.now in
     let ready = (level-ready shard a r c.requires.ready).kind in
     let own = codes-own shard k (out-Ready r).kind ready in
-    let keys_are = ap (map key_of) c.as_slice.ensures.value ∙ c.in_ok-row_codes.ensures in
     let more = c.in_ok-more.ensures.cost in
     let before = c.loop-row.invariant.cost in
     let added : c.in_ok-added.added ≡ c.loop-row.added + c.in_ok-more.more = c.in_ok-added.ensures in
     (record {
-      buckets = c.in_ok-more.ensures.buckets ∙ (λ j. put_all (λ q. map row_at (c.with_row-single.ensures j)) gs (keys_are j) (c.loop-row.invariant.buckets j))
+      buckets = c.in_ok-more.ensures.buckets (row_at row) (ap (map row_at) c.with_row-single.ensures)
+          ∙ ap (put_all (λ q. row_at row ∷ []) gs (keys shard.rows k (row_at row))) c.loop-row.invariant.buckets
           ∙ one-more gs (metrics-steps shard.rows (out-Agg a).children c.requires.metrics) shard.rows k (map row_at (take i items)) (row_at row) buckets
           (keyed-keeps shard k (out-Ready r).kind ready c.requires.keyed) (level-up ds key_of own c.args.level.now c.requires.aligned)
           ∙ ap (λ rs. gathered_buckets shard.rows gs k rs buckets) (sym (ap (map row_at) (take-more items i row (slice_get-get_or items i 0 l)) ∙ map-append row_at (take i items) (row ∷ [])));
@@ -306,9 +303,6 @@ put_in_turn-loop-row-preserved t c =
       aligned = λ h. c.in_ok-more.ensures.aligned (c.loop-row.invariant.aligned h);
       single = ap (λ (rs : List ℕ). length rs) c.with_row-single.ensures;
     })
-
-pub count_keyed-row_codes-requires-clause-ready : goal.count_keyed-row_codes-requires-clause-ready
-count_keyed-row_codes-requires-clause-ready t c = (level-ready c.args.shard.now c.args.agg.now c.args.ready.now c.requires.ready).kind
 
 pub count_keyed-group_rows-requires-clause-ready : goal.count_keyed-group_rows-requires-clause-ready
 count_keyed-group_rows-requires-clause-ready t c = (level-ready c.args.shard.now c.args.agg.now c.args.ready.now c.requires.ready).kind
@@ -344,8 +338,7 @@ count_keyed-returns-then-len-eq1-clause-buckets t c =
     let row = get_or rows 0 0 in
     let buckets = shown_level shard r c.args.level.now in
     let one = one-item rows (omega (arith, c.len.ensures, c.if-len-eq1.true)) in
-    let keys_are = ap (map key_of) c.as_slice-then-len-eq1.ensures.value ∙ c.in_ok-row_codes.ensures ∙ ap (λ (rs : List ℕ). keys shard.rows k (row_at (get_or rs 0 0))) c.as_slice.ensures in
-    c.in_ok-added.ensures.buckets ∙ (λ i. put_all (λ q. map row_at (one i)) gs (keys_are i) buckets)
+    c.in_ok-added.ensures.buckets (row_at row) (ap (map row_at) one)
     ∙ one-row shard.rows gs k (row_at row) buckets (keyed-keeps shard k (out-Ready r).kind (level-ready shard c.args.agg.now r c.requires.ready).kind c.requires.keyed)
     ∙ ap (λ rs. gathered_buckets shard.rows gs k (map row_at rs) buckets) (sym one)
 
@@ -428,3 +421,13 @@ count-returns-in_ok-take_rows-in-Metric-clause-cost t c =
     let a = c.args.agg.now in
     let r = c.args.ready.now in
     metric-cost shard a r (rows_at shard c.args.rows.now) c.tree.inside.level c.take_rows.new.level c.in_ok-take_rows-in-Metric.ensures.values ∙ ap (λ n. node_cost (decoded shard r n) + 0) c.tree.view_is
+
+pub gather_child-gather_values-requires-clause-metric : goal.gather_child-gather_values-requires-clause-metric
+gather_child-gather_values-requires-clause-metric t c =
+    subst (IsKindReady c.args.shard.now (out-Agg c.args.agg.now).kind) c.in-Metric.is (level-ready c.args.shard.now c.args.agg.now c.args.ready.now c.requires.ready).kind
+
+pub put_row-lone_code-requires-clause-ready : goal.put_row-lone_code-requires-clause-ready
+put_row-lone_code-requires-clause-ready t c = (level-ready c.args.shard.now c.args.agg.now c.args.ready.now c.requires.ready).kind
+
+pub put_row-row_codes-requires-clause-ready : goal.put_row-row_codes-requires-clause-ready
+put_row-row_codes-requires-clause-ready t c = (level-ready c.args.shard.now c.args.agg.now c.args.ready.now c.requires.ready).kind

@@ -48,34 +48,40 @@ invariant-put_in_turn-loop-row l = record {
 
 -- the depth of the aggregation falls at its children; within one level a caller stands above what it calls
 abbrev pub decreases-gather_children : goal.decreases-gather_children
-decreases-gather_children l = 9 * most size-Agg l.aggs.now + 7
+decreases-gather_children l = 11 * most size-Agg l.aggs.now + 9
+
+abbrev pub decreases-gather_child : goal.decreases-gather_child
+decreases-gather_child l = 11 * size-Agg l.agg.now + 8
 
 abbrev pub decreases-gather_bucket : goal.decreases-gather_bucket
-decreases-gather_bucket l = 9 * most size-Agg l.aggs.now + 8
+decreases-gather_bucket l = 11 * most size-Agg l.aggs.now + 10
 
 abbrev pub decreases-put_coded : goal.decreases-put_coded
-decreases-put_coded l = 9 * size-Agg l.agg.now
+decreases-put_coded l = 11 * size-Agg l.agg.now
 
 abbrev pub decreases-put_fixed : goal.decreases-put_fixed
-decreases-put_fixed l = 9 * size-Agg l.agg.now
+decreases-put_fixed l = 11 * size-Agg l.agg.now
 
 abbrev pub decreases-put : goal.decreases-put
-decreases-put l = 9 * size-Agg l.agg.now + 1
+decreases-put l = 11 * size-Agg l.agg.now + 1
 
 abbrev pub decreases-put_codes : goal.decreases-put_codes
-decreases-put_codes l = 9 * size-Agg l.agg.now + 2
+decreases-put_codes l = 11 * size-Agg l.agg.now + 2
+
+abbrev pub decreases-put_row : goal.decreases-put_row
+decreases-put_row l = 11 * size-Agg l.agg.now + 3
 
 abbrev pub decreases-put_groups : goal.decreases-put_groups
-decreases-put_groups l = 9 * size-Agg l.agg.now + 2
+decreases-put_groups l = 11 * size-Agg l.agg.now + 2
 
 abbrev pub decreases-put_in_turn : goal.decreases-put_in_turn
-decreases-put_in_turn l = 9 * size-Agg l.agg.now + 3
+decreases-put_in_turn l = 11 * size-Agg l.agg.now + 4
 
 abbrev pub decreases-count_keyed : goal.decreases-count_keyed
-decreases-count_keyed l = 9 * size-Agg l.agg.now + 4
+decreases-count_keyed l = 11 * size-Agg l.agg.now + 5
 
 abbrev pub decreases-count : goal.decreases-count
-decreases-count l = 9 * size-Agg l.agg.now + 5
+decreases-count l = 11 * size-Agg l.agg.now + 6
 
 abbrev pub decreases-gather : goal.decreases-gather
-decreases-gather l = 9 * size-Agg l.agg.now + 6
+decreases-gather l = 11 * size-Agg l.agg.now + 7
