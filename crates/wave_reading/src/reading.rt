@@ -125,7 +125,8 @@ fn ask<R: Threads + Sync>(
 }
 
 /// Reads the bodies whose charges were granted, and finds room for their tasks, at least the ceiling of each. Where bounds do not
-/// settle it, several threads compute the ceilings, where they can be made. `refusals` has the refusal of each body's charge. Where the search of the first body was read before, it is `page`.
+/// settle it, several threads compute the ceilings, where they can be made. `refusals` has the refusal of each body's charge. Where
+/// the search of the first body was read before, it is `page`.
 ///
 /// It fails only where memory is wanting.
 pub fn read_bodies<R: Threads + Sync>(
