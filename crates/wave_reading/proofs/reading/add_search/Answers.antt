@@ -14,13 +14,13 @@ use Rattle.wave_reading.proofs.reading.add_search.Goals as goal
 pub rooms-requires-clause-apart : goal.rooms-requires-clause-apart
 rooms-requires-clause-apart g c κs within = shards-apart c.args.index.now
 
-pub returns-in-Some : goal.returns-in-Some
-returns-in-Some g c =
+pub returns-in_ok-push-in-Some : goal.returns-in_ok-push-in-Some
+returns-in_ok-push-in-Some g c =
     let index = c.args.index.now in
     let p = c.args.progress.now in
     let search = c.args.search in
     let found = c.in-Some.found.items in
-    let one : c.push.new.self ≡ search ∷ [] = c.in_ok-push.ensures.ok ∙ ap (λ (xs : List Search). xs ++ search ∷ []) c.new-one.ensures in
+    let one : c.push.new.self ≡ search ∷ [] = c.in_ok-push-in-Some.ensures.ok ∙ ap (λ (xs : List Search). xs ++ search ∷ []) c.new-one.ensures in
     let are = subst (λ o. IfSome o (λ v. AreRoomsFor v.items (map (ceiling (kinds_of index.mapping) search) (rows_by_shard index.shards)))) c.in-Some.is c.in_ok-found.ensures.rooms in
     let few = subst (λ o. IfSome o (λ v. sum v.items ≤ 2 ^ 50)) c.in-Some.is c.in_ok-found.ensures.low in
     let narrow = sym (ap is_none c.in-Some.is) ∙ c.in_ok-found.ensures.wide in
