@@ -13,5 +13,7 @@ pub returns : goal.returns
 returns g c =
     let found = c.as_slice.result.now in
     let tasks = task_ceilings (kinds_of c.args.index.now.mapping) c.args.searches.now (rows_by_shard c.args.index.now.shards) in
-    IfOk-weaker c.known.result (λ (all : List ℕ). map (λ (n : ℕ). Some n) all ≡ found) (λ (all : List ℕ). AreRoomsFor all tasks)
-    (λ all same. ceilings-are-rooms all tasks (same ∙ (c.as_slice.ensures ∙ c.in_ok-found.ensures))) c.known.ensures
+    record {
+      ceilings = IfOk-weaker c.known.result (λ (all : List ℕ). map (λ (n : ℕ). Some n) all ≡ found) (λ (all : List ℕ). AreRoomsFor all tasks)
+          (λ all same. ceilings-are-rooms all tasks (same ∙ (c.as_slice.ensures ∙ c.in_ok-found.ensures))) c.known.ensures;
+    }
