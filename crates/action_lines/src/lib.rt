@@ -7,7 +7,5 @@
 mod action;
 mod label;
 mod members;
-#[cfg(test)]
-mod tests;
 
 pub use action::{action_of, action_with};

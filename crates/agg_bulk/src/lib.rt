@@ -11,8 +11,6 @@ mod index;
 mod items;
 mod loading;
 mod sections;
-#[cfg(test)]
-mod tests;
 
 pub use columns::columns_charge;
 pub use end::LoadEnd;

@@ -7,8 +7,6 @@ mod routing;
 mod shards;
 mod slot;
 mod store;
-#[cfg(test)]
-mod tests;
 mod weight;
 
 pub use document::document_of;

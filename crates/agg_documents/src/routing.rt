@@ -27,6 +27,3 @@ pub fn shard_of(routing: &[u8], shards: u32) -> u32
 {
     (hash_of(routing) % u64::from(shards)) as u32
 }
-
-#[cfg(test)]
-mod tests;

@@ -3,7 +3,5 @@
 
 mod draws;
 mod script;
-#[cfg(test)]
-mod tests;
 
 pub use script::make;

@@ -6,8 +6,6 @@ mod large_answers;
 pub mod laws;
 mod list_listener;
 mod listener;
-#[cfg(test)]
-mod tests;
 
 pub use audience::Audience;
 pub use large_answers::LargeAnswers;

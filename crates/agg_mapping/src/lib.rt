@@ -14,8 +14,6 @@ mod numbering;
 mod ordered;
 mod paths;
 mod properties;
-#[cfg(test)]
-mod tests;
 
 pub use collected::Collected;
 pub use fault::MapFault;

@@ -8,8 +8,6 @@ mod fields;
 mod leaves;
 mod probes;
 mod query;
-#[cfg(test)]
-mod tests;
 
 pub use fields::{field, field_in, nested, path_in};
 pub use leaves::{exists, ids, match_all, range, term, terms};

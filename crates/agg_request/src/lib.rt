@@ -8,8 +8,6 @@
 mod body;
 mod names;
 mod parts;
-#[cfg(test)]
-mod tests;
 mod tree;
 
 pub use body::search_of;

@@ -4,8 +4,6 @@
 
 mod merging;
 mod reducing;
-#[cfg(test)]
-mod tests;
 
 pub use agg_model::Tripped;
 pub use reducing::{ReduceEnd, reduce};

@@ -100,6 +100,3 @@ pub fn scalar(
         }
     }
 }
-
-#[cfg(test)]
-mod tests;

@@ -9,8 +9,6 @@ mod field_value;
 mod lists;
 mod refusal;
 mod roles;
-#[cfg(test)]
-mod tests;
 mod values;
 mod walk;
 

@@ -3,7 +3,6 @@ pub mod SelectLaws
 pub mod FinishableLaws
 pub mod CountLaws
 pub mod RangeLaws
-pub mod SampleLaws
 pub mod Intervals
 pub mod KeySteps
 pub mod Filled
@@ -13,5 +12,4 @@ pub mod WholesOfNothing
 pub mod FilledPasses
 pub mod AggSizes
 pub mod PlanAgrees
-pub mod GapSamples
 pub mod SpanLaws

@@ -2,9 +2,6 @@ pub mod Causes
 pub mod Counts
 pub mod Paths
 pub mod Planned
-pub mod SampleGaps
-pub mod SampleMapping
-pub mod SampleTerms
 pub mod Selection
 pub mod Steps
 pub mod Terms

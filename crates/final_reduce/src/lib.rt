@@ -8,15 +8,11 @@ mod count;
 mod errors;
 mod filling;
 mod finishing;
-#[cfg(test)]
-mod gap_tests;
 mod lent;
 mod parts;
 mod range;
 mod select;
 mod spans;
 mod terms;
-#[cfg(test)]
-mod tests;
 
 pub use finishing::{FinalFault, finish};

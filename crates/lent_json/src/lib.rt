@@ -9,8 +9,6 @@ mod fault;
 mod members;
 mod number;
 mod scalars;
-#[cfg(test)]
-mod tests;
 mod value;
 
 pub use bytes::reading;

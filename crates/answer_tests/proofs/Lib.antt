@@ -1,0 +1,3 @@
+pub mod SampleLaws
+pub mod GapSamples
+pub mod BatchSamples

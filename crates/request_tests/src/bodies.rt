@@ -1,0 +1,260 @@
+//! Search bodies, and their refusals.
+ghost use Rattle.agg_model.specs.MappingOrder.{IsOrdered};
+
+use agg_mapping::index_line_of;
+use agg_model::{Key, Kind, Mapping, Order, OrderBy};
+use agg_reading::RequestFault;
+use agg_request::search_of;
+use std::alloc::{AllocError, Global};
+use std::test::Fail;
+
+const INDEX: &[u8] =
+    b"{\"index\":\"i\",\"mappings\":{\"properties\":{\"b\":{\"type\":\"boolean\"},\"n\":{\"type\":\"long\"},\
+\"t\":{\"type\":\"keyword\"},\"v\":{\"type\":\"nested\",\"properties\":{\"s\":{\"type\":\"keyword\"}}}}}}";
+
+fn refusal(alloc: Global, body: &str, mapping: &Mapping) -> Option<(u16, String)>
+    requires { IsOrdered mapping.now }
+{
+    match search_of(alloc, body.as_bytes(), mapping) {
+        Err(RequestFault::Bad { code, path }) => {
+            Some((code, String::from_str(alloc, path.as_str()).ok()?))
+        }
+        _ => None,
+    }
+}
+
+fn is_refused(alloc: Global, body: &str, mapping: &Mapping, code: u16, pointer: &str) -> bool
+    requires { IsOrdered mapping.now }
+{
+    match refusal(alloc, body, mapping) {
+        Some((found, at)) => found == code && at.as_str() == pointer,
+        None => false,
+    }
+}
+
+#[test]
+fn each_refusal_has_its_number_and_its_pointer(rt: HostRuntime) -> Result<(), Fail> {
+    let Ok(index) = index_line_of(rt.alloc(), INDEX) else {
+        assert!(rt; false);
+        return Ok(());
+    };
+    for (code, pointer, body) in [
+        (100, "", "[]"),
+        (101, "/aggz", "{\"aggz\":{}}"),
+        (102, "/aggs/a/terms", "{\"aggs\":{\"a\":{\"terms\":{}}}}"),
+        (
+            103,
+            "/aggs/a/terms/field",
+            "{\"aggs\":{\"a\":{\"terms\":{\"field\":5}}}}",
+        ),
+        (
+            104,
+            "/aggs/a/terms/size",
+            "{\"aggs\":{\"a\":{\"terms\":{\"field\":\"t\",\"size\":0}}}}",
+        ),
+        (105, "/query/match", "{\"query\":{\"match\":{}}}"),
+        (
+            106,
+            "/aggs/a/cardinality",
+            "{\"aggs\":{\"a\":{\"cardinality\":{}}}}",
+        ),
+        (107, "", "{\"aggs\":{},\"aggregations\":{}}"),
+        (
+            108,
+            "/aggs/a/sum/field",
+            "{\"aggs\":{\"a\":{\"sum\":{\"field\":\"t\"}}}}",
+        ),
+        (
+            109,
+            "/aggs/a/reverse_nested",
+            "{\"aggs\":{\"a\":{\"reverse_nested\":{}}}}",
+        ),
+        (
+            110,
+            "/aggs/a/aggs",
+            "{\"aggs\":{\"a\":{\"sum\":{\"field\":\"n\"},\"aggs\":{\"b\":{\"sum\":{\"field\":\"n\"}}}}}}",
+        ),
+        (112, "/aggs/a>b", "{\"aggs\":{\"a>b\":{\"global\":{}}}}"),
+        (
+            113,
+            "/aggs/a/terms/order/x~1y",
+            "{\"aggs\":{\"a\":{\"terms\":{\"field\":\"t\",\"order\":{\"x/y\":\"asc\"}}}}}",
+        ),
+    ] {
+        assert!(rt;
+            is_refused(rt.alloc(), body, &index.mapping, code, pointer),
+            "{body}"
+        );
+    }
+    Ok(())
+}
+
+/// A body of filters, each below the one before.
+fn nested_filters(alloc: Global, levels: u32) -> Result<String, AllocError> {
+    let mut body = String::from_str(alloc, "{")?;
+    for _ in 0..levels {
+        body.push_str("\"aggs\":{\"f\":{\"filter\":{\"match_all\":{}},")?;
+    }
+    body.push_str("\"aggs\":{}")?;
+    for _ in 0..levels {
+        body.push_str("}}")?;
+    }
+    body.push_str("}")?;
+    Ok(body)
+}
+
+#[test]
+fn aggregations_nest_sixteen_deep(rt: HostRuntime) -> Result<(), Fail> {
+    let Ok(index) = index_line_of(rt.alloc(), INDEX) else {
+        assert!(rt; false);
+        return Ok(());
+    };
+    let deep = nested_filters(rt.alloc(), 16)?;
+    assert!(rt; search_of(rt.alloc(), deep.as_bytes(), &index.mapping).is_ok());
+    let deeper = nested_filters(rt.alloc(), 17)?;
+    let mut pointer = String::new(rt.alloc());
+    for _ in 0..17u8 {
+        pointer.push_str("/aggs/f")?;
+    }
+    assert!(rt;
+        is_refused(
+            rt.alloc(),
+            deeper.as_str(),
+            &index.mapping,
+            111,
+            pointer.as_str()
+        )
+    );
+    Ok(())
+}
+
+#[test]
+fn bytes_that_are_no_json_have_no_pointer(rt: HostRuntime) -> Result<(), Fail> {
+    let Ok(index) = index_line_of(rt.alloc(), INDEX) else {
+        assert!(rt; false);
+        return Ok(());
+    };
+    for body in [
+        b"".as_slice(),
+        b"{".as_slice(),
+        b"{\"size\":01}".as_slice(),
+        b"\"\xff\"".as_slice(),
+    ] {
+        assert!(rt;
+            matches!(
+                search_of(rt.alloc(), body, &index.mapping),
+                Err(RequestFault::NotJson)
+            )
+        );
+    }
+    Ok(())
+}
+
+const EVERY_KIND: &[u8] = b"{\"size\":0,\"query\":{\"term\":{\"t\":\"x\"}},\"aggs\":{\
+\"a\":{\"terms\":{\"field\":\"t\",\"size\":20,\"order\":[{\"m.value\":\"desc\"},{\"_key\":\"asc\"}],\"include\":[\"x\"],\"missing\":7},\
+\"aggs\":{\"m\":{\"max\":{\"field\":\"n\"}}}},\
+\"b\":{\"histogram\":{\"field\":\"n\",\"interval\":5,\"offset\":2,\"hard_bounds\":{\"min\":-3}}},\
+\"c\":{\"filters\":{\"filters\":{\"y\":{\"match_all\":{}}},\"other_bucket\":true}},\
+\"d\":{\"filter\":{\"exists\":{\"field\":\"b\"}}},\
+\"e\":{\"missing\":{\"field\":\"t\"}},\
+\"f\":{\"global\":{}},\
+\"g\":{\"nested\":{\"path\":\"v\"},\"aggregations\":{\"r\":{\"reverse_nested\":{}}}},\
+\"h\":{\"composite\":{\"sources\":[{\"x\":{\"terms\":{\"field\":\"t\",\"missing_bucket\":true}}},\
+{\"y\":{\"histogram\":{\"field\":\"n\",\"interval\":10,\"order\":\"desc\"}}}],\"after\":{\"y\":20,\"x\":null}}},\
+\"i\":{\"sum\":{\"field\":\"n\"}},\
+\"j\":{\"min\":{\"field\":\"n\"}},\
+\"k\":{\"avg\":{\"field\":\"n\",\"missing\":1}},\
+\"l\":{\"value_count\":{\"field\":\"b\"}}}}";
+
+fn is_terms(kind: &Kind) -> bool {
+    matches!(
+        kind,
+        Kind::Terms {
+            field: 2,
+            size: 20,
+            shard_size: 40,
+            min_doc_count: 1,
+            ..
+        }
+    )
+}
+
+fn is_ordered_by_its_child(kind: &Kind) -> bool {
+    let by_child = Order {
+        by: OrderBy::Child(0),
+        descending: true,
+    };
+    match kind {
+        Kind::Terms { order, .. } => order.len() == 2 && order.get(0) == Some(&by_child),
+        _ => false,
+    }
+}
+
+fn is_histogram(kind: &Kind) -> bool {
+    matches!(
+        kind,
+        Kind::Histogram {
+            field: 1,
+            interval: 5,
+            offset: 2,
+            min_doc_count: 0,
+            ..
+        }
+    )
+}
+
+fn has_other_bucket(kind: &Kind) -> bool {
+    match kind {
+        Kind::Filters {
+            other: Some(key),
+            ..
+        } => key.as_str() == "_other_",
+        _ => false,
+    }
+}
+
+fn is_page_after(kind: &Kind) -> bool {
+    match kind {
+        Kind::Composite {
+            sources,
+            size: 10,
+            after: Some(Key::Many(parts)),
+        } => sources.len() == 2 && parts.len() == 2 && parts.get(0) == Some(&Key::Null),
+        _ => false,
+    }
+}
+
+fn is_wanted(place: usize, kind: &Kind) -> bool {
+    match place {
+        0 => is_terms(kind) && is_ordered_by_its_child(kind),
+        1 => is_histogram(kind),
+        2 => has_other_bucket(kind),
+        3 => matches!(kind, Kind::Filter { .. }),
+        4 => matches!(kind, Kind::Missing { field: 2 }),
+        5 => matches!(kind, Kind::Global),
+        6 => matches!(kind, Kind::Nested { context: 1 }),
+        7 => is_page_after(kind),
+        8 => matches!(kind, Kind::Sum { field: 1, .. }),
+        9 => matches!(kind, Kind::Min { field: 1, .. }),
+        10 => matches!(kind, Kind::Avg { field: 1, .. }),
+        11 => matches!(kind, Kind::ValueCount { field: 0, .. }),
+        _ => false,
+    }
+}
+
+#[test]
+fn every_kind_is_read(rt: HostRuntime) -> Result<(), Fail> {
+    let Ok(index) = index_line_of(rt.alloc(), INDEX) else {
+        assert!(rt; false);
+        return Ok(());
+    };
+    let Ok(search) = search_of(rt.alloc(), EVERY_KIND, &index.mapping) else {
+        assert!(rt; false);
+        return Ok(());
+    };
+    assert!(rt; search.body_bytes == EVERY_KIND.len() as u64 && search.aggs.len() == 12);
+    for (place, agg) in search.aggs.as_slice().iter().enumerate() {
+        assert!(rt; is_wanted(place, &agg.kind), "{place}");
+    }
+    Ok(())
+}
