@@ -10,8 +10,6 @@ mod label;
 pub mod laws;
 mod limits;
 mod plan;
-#[cfg(test)]
-mod tests;
 mod view;
 
 pub use item::{ArrivedTask, ClosedBatch, HeldBatch, Item, LoadedTask, Ticket};

@@ -11,16 +11,12 @@ mod known;
 pub mod laws;
 mod merging;
 mod opening;
-#[cfg(test)]
-mod passes;
 mod places;
 mod results;
 mod rule;
 mod sharing;
 mod stops;
 mod table;
-#[cfg(test)]
-mod tests;
 
 pub use cell::Labelled;
 pub use desk::Desk;

@@ -5,11 +5,11 @@ use Rattle.arrival_moves.specs.declared.item.Item.TheVariants.{Batch}
 use Rattle.arrival_moves.specs.declared.label.Label.{Label}
 use Rattle.arrival_moves.specs.Labels.{no_label, joined_label}
 use Rattle.arrival_moves.specs.Lists.{numbers_from, without}
-use Rattle.arrival_table.specs.declared.tests.Done.{Done}
+use Rattle.arrival_tests.specs.declared.desks.Done.{Done}
 use Rattle.arrival_table.specs.Holding.{HasBatch}
 use Rattle.arrival_table.specs.Models.{DeskModel}
 use Rattle.arrival_table.proofs.OneItem.{batch_has, taken_hand}
-use Rattle.arrival_table.proofs.tests.merge.Goals as goal
+use Rattle.arrival_tests.proofs.desks.merge.Goals as goal
 
 -- the batch of its two tickets
 first_half : (b n : ℕ) → n ≡ 2 → b * 2 / n ≡ b

@@ -1,7 +1,7 @@
 use Rattle.std.proofs.Common.{◌≡◌, ◌+◌, ◌≤◌, []}
 use Rattle.arrival_moves.specs.Plans.{task_count}
 use Rattle.arrival_table.specs.Models.{IsOf}
-use Rattle.arrival_table.proofs.tests.work.Given as goal
+use Rattle.arrival_tests.proofs.desks.work.Given as goal
 
 -- between two tasks nothing is in hand, and no claim was lost
 abbrev pub invariant-loop-task : goal.invariant-loop-task

@@ -1,18 +1,20 @@
 //! Desks that run the tasks of one table, alone and in two threads, and what a close gives then.
-ghost use Rattle.std.specs.Prelude.{◌≡◌, ◌+◌, ◌*◌, ◌/◌, ◌<◌, ◌≤◌, ℕ, ◌∷◌, [], true, false, IsTrue, IfOk, IfErr, IfSome, IfNone, All, length, slice_index};
+ghost use Rattle.std.specs.Prelude.{◌≡◌, ◌+◌, ◌*◌, ◌/◌, ◌<◌, ◌≤◌, ℕ, ◌∷◌, [], true, false, IsTrue, IfOk, IfErr, IfSome, IfNone, All, length, map};
 ghost use mathlib.Core.Option.{some};
 ghost use lib.ListN.{get_elem?};
 ghost use Rattle.arrival_moves.specs.declared.item.Item.TheVariants as item;
 ghost use Rattle.arrival_moves.specs.declared.limits.TheConstants.{MAX_TASKS};
+ghost use Rattle.arrival_moves.specs.AfterMove.{first_view};
 ghost use Rattle.arrival_moves.specs.Closing.{IsAtEnd};
 ghost use Rattle.arrival_moves.specs.Labels.{task_label, no_label};
 ghost use Rattle.arrival_moves.specs.Lists.{numbers_from};
-ghost use Rattle.arrival_moves.specs.Plans.{task_count, search_of, tasks_of, batch_size};
+ghost use Rattle.arrival_moves.specs.Plans.{task_count, search_of, tasks_of, batch_size, IsPlan};
 ghost use Rattle.arrival_table.specs.declared.opening.Task.{Task as TaskValue};
 ghost use Rattle.arrival_table.specs.Models.{IsOf};
 
-use crate::{Arrivals, Desk, Labelled, Merged, Task};
 use agg_model::List;
+use arrival_moves::Plan;
+use arrival_table::{Arrivals, Desk, Labelled, Merged, Task};
 use std::alloc::{AllocError, Global};
 use std::test::Fail;
 use std::thread;
@@ -144,16 +146,39 @@ fn merge(
     table.put_merged(desk, search, batch, both);
 }
 
+// How many tasks of the plan are of the search.
+fn count_of(plan: &Plan, search: u32) -> u64
+    ensures { result ≡ tasks_of plan.now search }
+{
+    let mut count = 0;
+    for one in plan.tasks.as_slice() {
+        if *one == search {
+            count += 1;
+        }
+    }
+    count
+}
+
+// How many results a batch has that is begun.
+fn size_of(plan: &Plan, search: u32, batch: u32) -> u64
+    requires begun { batch * plan.now.batch < tasks_of plan.now search }
+    ensures { result ≡ batch_size plan.now search batch }
+{
+    u64::from(plan.batch).min(count_of(plan, search) - u64::from(batch) * u64::from(plan.batch))
+}
+
 // Runs tasks until there is none more, and merges the batches that it completes. The task of the number `failing` fails.
 fn work(
     table: &Arrivals<Numbered, Done>,
     desk: &mut Desk<Numbered, Done>,
+    plan: &Plan,
     failing: u32,
     runs: &mut Vec<Run>,
 ) -> Result<(), AllocError>
     requires of { IsOf table.now desk.old }
+    requires plan { plan.now ≡ table.now.plan }
+    requires whole { IsPlan table.now.plan }
     requires two { table.now.plan.batch ≡ 2 }
-    requires few { task_count table.now.plan ≤ MAX_TASKS }
     requires claims { (desk.old.view.drawn ≤ task_count table.now.plan) × (task_count table.now.plan + 1 ≤ desk.old.view.left + desk.old.view.drawn) }
     requires empty { desk.old.view.hand ≡ [] }
     ensures of { IsOf table.now desk.new }
@@ -162,17 +187,11 @@ fn work(
     ensures empty { IfOk result (λ _. desk.new.view.hand ≡ []) }
 {
     while let Some(task) = table.claim(desk) {
-        let search = table.places.search_of(task);
+        let search = plan.search_of(task);
         let last = run_task(table, desk, search, task, task == failing);
         runs.push((task, last))?;
         if let Some(batch) = last {
-            merge(
-                table,
-                desk,
-                search,
-                batch,
-                table.places.batch_size(search, batch),
-            );
+            merge(table, desk, search, batch, size_of(plan, search, batch));
         }
     }
     Ok(())
@@ -182,11 +201,13 @@ fn work(
 fn work_apart(
     alloc: Global,
     table: &Arrivals<Numbered, Done>,
+    plan: &Plan,
     mut desk: Desk<Numbered, Done>,
 ) -> (Desk<Numbered, Done>, Result<Vec<Run>, AllocError>)
     requires of { IsOf table.now desk }
+    requires plan { plan.now ≡ table.now.plan }
+    requires whole { IsPlan table.now.plan }
     requires two { table.now.plan.batch ≡ 2 }
-    requires few { task_count table.now.plan ≤ MAX_TASKS }
     requires claims { (desk.view.drawn ≤ task_count table.now.plan) × (task_count table.now.plan + 1 ≤ desk.view.left + desk.view.drawn) }
     requires empty { desk.view.hand ≡ [] }
     ensures of { IsOf table.now result.0 }
@@ -195,7 +216,7 @@ fn work_apart(
     ensures empty { IfOk result.1 (λ _. result.0.view.hand ≡ []) }
 {
     let mut runs = Vec::new(alloc);
-    match work(table, &mut desk, NO_TASK, &mut runs) {
+    match work(table, &mut desk, plan, NO_TASK, &mut runs) {
         Ok(()) => (desk, Ok(runs)),
         Err(failed) => (desk, Err(failed)),
     }
@@ -204,21 +225,59 @@ fn work_apart(
 /// No task has this number.
 const NO_TASK: u32 = u32::MAX;
 
-// The tasks of searches, each with its load.
-fn tasks_of(alloc: Global, searches: &[u32]) -> Result<List<Task<Numbered>>, AllocError>
-    requires few { length searches.now ≤ MAX_TASKS }
-    ensures { IfOk result (λ ts. (length ts ≡ length searches.now)
-        × ((k : ℕ) (t : TaskValue Numbered) → get_elem? ts k ≡ some t → (t.search ≡ slice_index searches.now k) × (t.load.task ≡ k))) }
+// The plan of these tasks in batches of 2.
+fn plan_of(alloc: Global, searches: &[u32], count: u32) -> Result<Plan, AllocError>
+    ensures { IfOk result (λ p. p ≡ record { tasks = searches.now; searches = count; batch = 2 }) }
 {
     let mut tasks = List::new(alloc);
-    for place in 0..searches.len() {
-        let load = Numbered { task: place as u32 };
+    for search in searches {
+        tasks.push(*search)?;
+    }
+    Ok(Plan {
+        tasks,
+        searches: count,
+        batch: 2,
+    })
+}
+
+// The tasks of a plan, each with its load.
+fn tasks_of(alloc: Global, plan: &Plan) -> Result<List<Task<Numbered>>, AllocError>
+    requires few { task_count plan.now ≤ MAX_TASKS }
+    ensures plan { IfOk result (λ ts. map (λ (t : TaskValue Numbered). t.search) ts ≡ plan.now.tasks) }
+    ensures loads { IfOk result (λ ts. (k : ℕ) (t : TaskValue Numbered) → get_elem? ts k ≡ some t → (t.search ≡ search_of plan.now k) × (t.load.task ≡ k)) }
+{
+    let mut tasks = List::new(alloc);
+    for place in 0..plan.tasks.len() {
+        let task = place as u32;
         tasks.push(Task {
-            search: searches[place],
-            load,
+            search: plan.search_of(task),
+            load: Numbered { task },
         })?;
     }
     Ok(tasks)
+}
+
+// A table on these tasks in batches of 2, with its plan.
+fn opened(
+    alloc: Global,
+    searches: &[u32],
+    count: u32,
+) -> Result<(Arrivals<Numbered, Done>, Desk<Numbered, Done>, Plan), AllocError>
+    requires few { length searches.now ≤ MAX_TASKS }
+    requires searches { All (λ q. q < count) searches.now }
+    ensures of { IfOk result (λ r. IsOf r.0 r.1) }
+    ensures plan { IfOk result (λ r. r.2 ≡ r.0.plan) }
+    ensures whole { IfOk result (λ r. IsPlan r.0.plan) }
+    ensures two { IfOk result (λ r. r.0.plan.batch ≡ 2) }
+    ensures tasks { IfOk result (λ r. task_count r.0.plan ≡ length searches.now) }
+    ensures view { IfOk result (λ r. r.1.view ≡ first_view) }
+{
+    let plan = plan_of(alloc, searches, count)?;
+    let tasks = tasks_of(alloc, &plan)?;
+    match Arrivals::open(alloc, tasks, count, 2) {
+        Ok((table, desk)) => Ok((table, desk, plan)),
+        Err(_refused) => Err(AllocError),
+    }
 }
 
 fn rows_of(alloc: Global, merged: &[Merged<Done>]) -> Result<Vec<Row>, AllocError> {
@@ -247,12 +306,9 @@ fn alone(
     requires few { length searches.now ≤ MAX_TASKS }
     requires searches { All (λ q. q < count) searches.now }
 {
-    let tasks = tasks_of(alloc, searches)?;
-    let Ok((table, mut desk)) = Arrivals::<Numbered, Done>::open(alloc, tasks, count, 2) else {
-        return Err(AllocError);
-    };
+    let (table, mut desk, plan) = opened(alloc, searches, count)?;
     let mut runs = Vec::new(alloc);
-    work(&table, &mut desk, failing, &mut runs)?;
+    work(&table, &mut desk, &plan, failing, &mut runs)?;
     let merged = table.close(desk);
     let rows = rows_of(alloc, merged.as_slice())?;
     Ok((runs, rows))
@@ -303,16 +359,13 @@ fn one_desk_merges_every_batch(rt: HostRuntime) -> Result<(), Fail> {
 #[test]
 fn two_threads_share_the_tasks(rt: HostRuntime) -> Result<(), Fail> {
     let searches = [0, 1, 1, 0, 2, 1, 0, 1, 1, 2, 1, 0, 1, 1, 2, 0, 1, 1, 2, 1];
-    let tasks = tasks_of(rt.alloc(), searches.as_slice())?;
-    let Ok((table, mut a)) = Arrivals::<Numbered, Done>::open(rt.alloc(), tasks, 3, 2) else {
-        return Err(Fail::from(AllocError));
-    };
+    let (table, mut a, plan) = opened(rt.alloc(), searches.as_slice(), 3)?;
     let b = table.split(&mut a, 21);
     let (one, two) = (rt.alloc(), rt.alloc());
     let ((mut a, first), (b, second)) = thread::join(
         &rt,
-        || work_apart(one, &table, a),
-        || work_apart(two, &table, b),
+        || work_apart(one, &table, &plan, a),
+        || work_apart(two, &table, &plan, b),
     );
     let (Ok(first), Ok(second)) = (first, second) else {
         return Err(Fail::from(AllocError));

@@ -1,4 +1,4 @@
-use Rattle.arrival_table.proofs.passes.carry.Given as goal
+use Rattle.arrival_tests.proofs.passes.carry.Given as goal
 
 abbrev pub ghosts-carry_by : goal.ghosts-carry_by
 ghosts-carry_by a = record { pass = a.pass }

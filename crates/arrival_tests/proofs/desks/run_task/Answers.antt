@@ -5,7 +5,7 @@ use Rattle.arrival_moves.specs.declared.item.Item.TheVariants.{Arrived, Put}
 use Rattle.arrival_moves.specs.Plans.{search_of, tasks_of}
 use Rattle.arrival_table.specs.Models.{DeskModel}
 use Rattle.arrival_table.proofs.OneItem.{claimed_has, loaded_has, arrived_hand, arrived_has, put_hand, put_has}
-use Rattle.arrival_table.proofs.tests.run_task.Goals as goal
+use Rattle.arrival_tests.proofs.desks.run_task.Goals as goal
 
 pub take_task-load-requires-clause-claimed : goal.take_task-load-requires-clause-claimed
 take_task-load-requires-clause-claimed c = claimed_has c.args.task c.args.desk.now.view c.requires.claimed

@@ -6,8 +6,8 @@ ghost use Rattle.arrival_moves.specs.Plans.{task_count};
 ghost use Rattle.arrival_table.specs.Models.{IsOf};
 ghost use Rattle.breaker_words.specs.Passes.{PassModel};
 
-use crate::{Arrivals, Desk, Labelled, Task};
 use agg_model::List;
+use arrival_table::{Arrivals, Desk, Labelled, Task};
 use breaker_words::{
     Child, Limits, Pass, Step, Which, Words, join, look, set_ceiling, split, try_child, try_parent,
 };

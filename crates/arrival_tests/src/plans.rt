@@ -1,6 +1,6 @@
 //! The search of each task of a plan.
-use crate::Plan;
 use agg_model::List;
+use arrival_moves::Plan;
 use std::test::Fail;
 
 #[test]
