@@ -1,5 +1,5 @@
-//! What tasks can hold at most, by bounds that need no walk along the paths to rows: each aggregation's fields of keys are counted
-//! once row by row, twice at a composite. Whether a search is too wide, by these bounds where they settle it.
+//! What tasks can hold at most, by bounds that follow no path to a row. They count each aggregation's fields of keys in one pass
+//! over all rows, at a composite in two. Whether a search is too wide, by these bounds where they settle it.
 ghost use Rattle.std.specs.Prelude.{◌≡◌, ◌+◌, ◌*◌, ◌^◌, ◌<◌, IfOk, IfSome, IsTrue, is_none, length, true};
 ghost use Rattle.agg_cost.specs.Fields.{HasFields};
 ghost use Rattle.agg_cost.specs.Searches.{AreApart, kinds_of};

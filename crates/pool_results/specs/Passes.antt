@@ -17,7 +17,7 @@ use Rattle.pool_results.specs.Pools.{Pool, ceiling_at, peak_at}
 use Rattle.pool_results.specs.Runs.{shards_in, times_at, told_by}
 use Rattle.pool_results.specs.declared.shard_run.ShardRun.{ShardRun}
 
--- the pass of a task that has not begun: it has the task's ceiling and nothing else
+-- the pass of a task that has not begun: it may hold what the pool has for the task, and holds nothing
 pub record IsFresh (p : Pool) (q s : ℕ) (pass : PassModel) : Type 0 where
   pub of : IsOf p.words pass
   pub is : pass.view ≡ view_of p.words.limits (ceiling_at p q s) pass.view.total

@@ -11,7 +11,7 @@ use Rattle.agg_spec.specs.Index.{Index, rows_in}
 use Rattle.agg_spec.specs.Outcome.{whole_of}
 use Rattle.breaker_words.specs.Passes.{WordsModel}
 
--- the words that all charges go to, the index, the searches, and the ceiling of each task
+-- the words that all charges go to, the index, the searches, and what the pass of each task may hold: its ceiling
 pub record Pool : Type 0 where
   pub words : WordsModel
   pub index : Index
@@ -61,7 +61,8 @@ module _ (p : Pool) where
   abbrev pub cost_at : ℕ → ℕ → ℕ
   cost_at q s = cost (shard_answer (search_at q) (rows_in p.index s))
 
-  -- ceilings are ceilings, and whatever shards a search's answers are added up of, their numbers fit
+  -- each pass may hold twice what its task's answer costs, and whatever shards a search's answers are added up of, their numbers
+  -- fit
   pub record IsPool : Type 0 where
     pub some : (q s : ℕ) → IsTask q s → 1 ≤ ceiling_at q s
     pub answers : (q s : ℕ) → IsTask q s → 2 * cost_at q s ≤ ceiling_at q s

@@ -3,7 +3,8 @@ ghost use Rattle.pool_results.specs.Pools.{Pool};
 
 use std::marker::Brand;
 
-/// The call that loads and results belong to: its words, index, searches and ceilings. Contracts alone see it.
+/// The call that loads and results belong to: its words, index and searches, and what the pass of each task may hold. Contracts
+/// alone see it.
 pub trait PoolCall {
     ghost pool: { Pool };
 }

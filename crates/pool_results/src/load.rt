@@ -12,8 +12,8 @@ use std::alloc::Global;
 use std::collections::LinkedList;
 use std::marker::PhantomData;
 
-/// A task of a search on a shard, with a pass that may hold the task's ceiling and holds nothing yet. `runs` is the room for
-/// what becomes of it.
+/// A task of a search on a shard, with a pass that may hold what the pool has for the task and holds nothing yet. `runs` is the
+/// list for what becomes of it.
 #[derive(Drop)]
 pub struct Load<J: PoolCall> {
     pub search: u32,
