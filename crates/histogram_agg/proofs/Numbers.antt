@@ -1,4 +1,4 @@
--- The keys of values among which one is a whole number.
+-- The keys of values among which one is a whole number, and of one that is none.
 use Rattle.std.proofs.Common.{◌≡◌, refl, ℕ, ℤ, ◌<◌, Bool, List, [], ◌∷◌, length, map, Some, sym, ◌∙◌, ap, arith}
 use Rattle.std.specs.Prelude.{filter, flat_map}
 use Rattle.std.specs.List.{slice_get}
@@ -34,3 +34,11 @@ module _ (interval offset : ℕ) where
       ap (λ (k : ℤ). filter p (key_of_number k ∷ [])) (sym (some_same m n there))
       ∙ ap (λ (ks : List Key). filter p (distinct_keys ks)) (ap (map key_of_number) is ∙ sym (keys-are vs))
   one-number p vs (m ∷ k ∷ ns) n is one there = absurd (omega arith)
+
+  -- one value that is no number has none
+  pub no-number : (p : Key → Bool) (vs : List Scalar) → length vs ≡ 1 → (length (wholes_in vs) ≡ 1 → ⊥) → [] ≡ filter p (distinct_keys (flat_map (interval_key interval offset) vs))
+  no-number p [] one other = absurd (omega arith)
+  no-number p (Whole n ∷ []) one other = absurd (other refl)
+  no-number p (Word w ∷ []) one other = refl
+  no-number p (Flag b ∷ []) one other = refl
+  no-number p (v ∷ w ∷ vs) one other = absurd (omega arith)

@@ -1,9 +1,9 @@
 //! The codes of a row's keys.
-ghost use Rattle.std.specs.Prelude.{◌≡◌, ◌<◌, ◌∷◌, [], filter, length, map, option_to_list, IfSome, OnOk};
+ghost use Rattle.std.specs.Prelude.{◌≡◌, ◌<◌, ◌∷◌, [], filter, length, map, option_to_list, IfNone, IfSome, OnOk};
 ghost use Rattle.agg_model.specs.declared.aggregation.Kind.{Kind};
 ghost use Rattle.agg_evaluation.specs.Keys.{interval_start, is_between, keys as keys_of_row};
 ghost use Rattle.agg_model.specs.declared.key.Key.TheVariants.{Whole};
-ghost use Rattle.agg_evaluation.specs.Rows.{row_of};
+ghost use Rattle.agg_evaluation.specs.Rows.{row_of, values_of};
 ghost use Rattle.shard_columns.specs.Built.{IsShard};
 ghost use Rattle.histogram_agg.specs.Codes.{IsReady, key_of};
 
@@ -64,22 +64,25 @@ fn code_within(prepared: &PreparedHistogram, number: i64) -> Option<i64>
     }
 }
 
-/// The code of the row's one key, where the row has one number in the field or no value; `Some(None)` says that it has no key. Of
-/// another row nothing is said: it has the codes that `codes` gives. Time is constant, and no list is wanted.
+/// The code of the row's one key, where the row has at most one value of the field; `Some(None)` says that it has no key. `None`
+/// comes only of a row of more values, which has the codes that `codes` gives. Time is constant, and no list is wanted.
 pub fn lone_code(shard: &Shard, prepared: &PreparedHistogram, row: u32) -> Option<Option<i64>>
     requires built { IsShard shard.now }
     requires in_range { row < length shard.now.rows }
-    ensures { IfSome result (λ code. (kind : Kind) → IsReady kind prepared.now →
+    ensures keys { IfSome result (λ code. (kind : Kind) → IsReady kind prepared.now →
         map (key_of prepared.now) (option_to_list code) ≡ keys_of_row shard.now.rows kind (row_of shard.now.rows row)) }
+    ensures none { IfNone result (1 < length (values_of prepared.now.field (row_of shard.now.rows row))) }
 {
     let numbers = shard.numbers(row, prepared.field);
     if numbers.len() == 1 {
         return Some(code_within(prepared, numbers[0]));
     }
-    if shard.value_count(row, prepared.field) == 0 {
-        return Some(prepared.missing);
+    match shard.value_count(row, prepared.field) {
+        0 => Some(prepared.missing),
+        // A value that is no number has no key.
+        1 => Some(None),
+        _ => None,
     }
-    None
 }
 
 /// The number of the row's keys. It takes time in proportion to the row's values, and no memory.

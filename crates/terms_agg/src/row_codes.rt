@@ -1,5 +1,5 @@
 //! The codes of a row.
-ghost use Rattle.std.specs.Prelude.{◌≡◌, ◌<◌, ◌+◌, ◌++◌, ℕ, length, map, take, option_to_list, true, IfSome, OnOk};
+ghost use Rattle.std.specs.Prelude.{◌≡◌, ◌<◌, ◌+◌, ◌++◌, ℕ, length, map, take, option_to_list, true, IfNone, IfSome, OnOk};
 ghost use Rattle.std.specs.List.{list_all};
 ghost use Rattle.agg_model.specs.Options.{TermsOptions};
 ghost use Rattle.agg_model.specs.declared.aggregation.Kind.{Kind};
@@ -72,8 +72,8 @@ pub fn codes(
     Ok(())
 }
 
-/// The code of the row's one key, where the row has at most one value of the field; `Some(None)` says that it has no key. A row of
-/// more values, of which nothing is said, has those that `codes` gives. Time is constant, and no list is wanted.
+/// The code of the row's one key, where the row has at most one value of the field; `Some(None)` says that it has no key. `None`
+/// comes only of a row of more values, which has the codes that `codes` gives. Time is constant, and no list is wanted.
 pub fn lone_code(shard: &Shard, prepared: &PreparedTerms, row: u32) -> Option<Option<i64>>
     requires built { IsShard shard.now }
     requires known { prepared.now.field < length shard.now.kinds }
@@ -82,6 +82,7 @@ pub fn lone_code(shard: &Shard, prepared: &PreparedTerms, row: u32) -> Option<Op
         map (key_of shard.now prepared.now) (option_to_list code) ≡ keys_of_row shard.now.rows kind (row_of shard.now.rows row)) }
     ensures codes { IfSome result (λ code. (kind : Kind) → IsReady shard.now kind prepared.now →
         list_all (is_code shard.now prepared.now) (option_to_list code) ≡ true) }
+    ensures none { IfNone result (1 < length (values_of prepared.now.field (row_of shard.now.rows row))) }
 {
     let values = row_values(shard, row, prepared.field);
     match value_count(values) {

@@ -7,11 +7,11 @@ use Rattle.agg_evaluation.specs.Keys.{interval_start, is_between}
 use Rattle.agg_evaluation.specs.Rows.{row_of, values_of}
 use Rattle.shard_columns.specs.Lent.{wholes_in}
 use Rattle.histogram_agg.proofs.Coding.{keys-some}
-use Rattle.histogram_agg.proofs.Numbers.{one-number, some-value}
+use Rattle.histogram_agg.proofs.Numbers.{no-number, one-number, some-value}
 use Rattle.histogram_agg.proofs.row_codes.lone_code.Goals as goal
 
-pub returns-then-numbers-eq1 : goal.returns-then-numbers-eq1
-returns-then-numbers-eq1 c kind r =
+pub returns-then-numbers-eq1-clause-keys : goal.returns-then-numbers-eq1-clause-keys
+returns-then-numbers-eq1-clause-keys c kind r =
     let shard = c.args.shard.now in
     let p = c.args.prepared.now in
     let row = row_of shard.rows c.args.row in
@@ -25,3 +25,15 @@ returns-then-numbers-eq1 c kind r =
     c.code_within.ensures ∙ ap (λ (n : ℤ). filter (is_between p.hard) (Whole (interval_start p.interval p.offset n) ∷ [])) plain
     ∙ one-number p.interval p.offset (is_between p.hard) values numbers number c.numbers-numbers.ensures.exact one (slice_get-get_or numbers 0 (pos 0) (omega arith))
     ∙ keys-some shard kind p r row (some-value values some)
+
+pub returns-in-1-clause-keys : goal.returns-in-1-clause-keys
+returns-in-1-clause-keys c kind r =
+    let shard = c.args.shard.now in
+    let p = c.args.prepared.now in
+    let row = row_of shard.rows c.args.row in
+    let values = values_of p.field row in
+    let numbers = c.numbers-numbers.result.now in
+    let one : length values ≡ 1 = omega (arith, c.value_count.ensures, c.in-1.is) in
+    let lent : length numbers ≡ length (wholes_in values) = ap (λ (ns : List ℤ). length ns) c.numbers-numbers.ensures.exact in
+    no-number p.interval p.offset (is_between p.hard) values one (λ number. absurd (omega (arith, lent, number, c.if-numbers-eq1.false)))
+    ∙ keys-some shard kind p r row (omega arith)
