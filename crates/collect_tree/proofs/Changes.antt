@@ -1,5 +1,5 @@
 -- Numbers that change with a cost, place by place: what is added to it, and what is taken from it.
-use Rattle.std.specs.Prelude.{◌≡◌, ◌≢◌, refl, ℕ, zero, suc, ◌+◌, ◌<◌, ◌≤◌, true, false, nat_eq, List, length, replicate}
+use Rattle.std.specs.Prelude.{◌≡◌, ◌≢◌, refl, ℕ, ◌+◌, ◌<◌, ◌≤◌, true, false, nat_eq, List, length}
 use Rattle.std.proofs.Common.{sym, ◌∙◌, subst, arith}
 use Rattle.std.proofs.Math.ListN.{get_or, set}
 use Rattle.std.proofs.lemmas.Bool.Decides.{nat_tests}
@@ -107,9 +107,3 @@ set-more f xs i x within is before n below =
       | true ↦ λ e. let same : n ≡ i = grind (arith, nat_tests) in subst (λ m. get_or (set xs i x) m 0 ≡ f m) (sym same) (get_or-set_same xs i x 0 within ∙ is)
       | false ↦ λ e. let other : n ≢ i = grind (arith, nat_tests) in get_or-set_other xs i n x 0 other ∙ before n (omega arith)
     ] refl
-
--- a list of zeros has no other item
-pub zero-at : (n k : ℕ) → get_or (replicate n 0) k 0 ≡ 0
-zero-at zero k = refl
-zero-at (suc n) zero = refl
-zero-at (suc n) (suc k) = zero-at n k

@@ -337,7 +337,7 @@ fn collect_matched(
     let mut rows = Vec::new(growth.alloc);
     let mut hits = 0;
     let mut start = 0;
-    'blocks: while start < count {
+    while start < count {
         let end = start.saturating_add(BLOCK).min(count);
         let more = collect_matched_block(
             words, pass, shard, search, matched, growth, &mut rows, start, end, hits,
@@ -379,7 +379,7 @@ fn collect_globals(
     let count = shard.roots();
     let mut rows = Vec::new(growth.alloc);
     let mut start = 0;
-    'blocks: while start < count {
+    while start < count {
         let end = start.saturating_add(BLOCK).min(count);
         collect_global_block(words, pass, shard, search, growth, &mut rows, start, end)?;
         start = end;

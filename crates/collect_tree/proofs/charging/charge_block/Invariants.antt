@@ -14,7 +14,7 @@ invariant-loop-place l = record {
   of : IsOf l.words l.pass;
   rest : l.pass.view.trial ≡ Rest;
   cap : l.pass.view.cap ≡ l.fn.pass.view.cap;
-  held_is : l.held ≡ task_overhead + cost (built l.search l.shard.rows (before_root l.search l.shard.rows l.phase l.first + l.place));
+  held_is : l.held ≡ task_overhead + cost (built l.search l.shard.rows (before_root l.search l.shard.rows l.fn.phase l.fn.first + l.place));
   holds : HoldsTask l.shard l.search l.held l.pass.view;
-  paid : PaysOn l.words.limits (amounts l.search l.shard.rows) (before_root l.search l.shard.rows l.phase l.first) (before_root l.search l.shard.rows l.phase l.first + l.place) l.fn.pass.view l.pass.view;
+  paid : PaysOn l.words.limits (amounts l.search l.shard.rows) (before_root l.search l.shard.rows l.fn.phase l.fn.first) (before_root l.search l.shard.rows l.fn.phase l.fn.first + l.place) l.fn.pass.view l.pass.view;
 }

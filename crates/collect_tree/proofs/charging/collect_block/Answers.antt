@@ -52,11 +52,11 @@ charge_block-requires-clause-within c =
     let same = ap (λ (xs : List ℕ). length xs) c.as_slice.ensures.value in
     omega (arith, many, same, c.requires.within)
 
-pub returns-in_ok-charge_block-clause-grown : goal.returns-in_ok-charge_block-clause-grown
-returns-in_ok-charge_block-clause-grown c = c.in-Ok.ensures.grown
+pub returns-clause-grown : goal.returns-clause-grown
+returns-clause-grown c = c.in-Ok.ensures.grown
 
-pub returns-in_ok-charge_block-clause-held : goal.returns-in_ok-charge_block-clause-held
-returns-in_ok-charge_block-clause-held c =
+pub returns-clause-held : goal.returns-clause-held
+returns-clause-held c =
     let shard = c.args.shard.now in
     let search = c.args.search.now in
     let n = before_root search shard.rows c.args.phase c.args.first in
@@ -66,8 +66,8 @@ returns-in_ok-charge_block-clause-held c =
     subst (λ (h : ℕ). HoldsTask shard search h c.charge_block.new.pass.view)
     (ap (λ (k : ℕ). 4096 + cost (built search shard.rows (n + k))) many ∙ ap (λ (b : ℕ). 4096 + b) (sym (grown-bytes shard search (n + length c.args.rows.now) c.collect.new.self grown))) c.in_ok-charge_block.ensures.held
 
-pub returns-in_ok-charge_block-clause-paid : goal.returns-in_ok-charge_block-clause-paid
-returns-in_ok-charge_block-clause-paid c =
+pub returns-clause-paid : goal.returns-clause-paid
+returns-clause-paid c =
     let shard = c.args.shard.now in
     let search = c.args.search.now in
     let n = before_root search shard.rows c.args.phase c.args.first in

@@ -44,8 +44,8 @@ collect_block-requires-clause-within c =
     let few = global-within c.args.search.now c.args.shard.now.rows c.requires.global c.args.end c.requires.within in
     omega (arith, many, same, few)
 
-pub returns-in_ok-collect_block-clause-grown : goal.returns-in_ok-collect_block-clause-grown
-returns-in_ok-collect_block-clause-grown c =
+pub returns-clause-grown : goal.returns-clause-grown
+returns-clause-grown c =
     let shard = c.args.shard.now in
     let search = c.args.search.now in
     let many = on-ok c.list_roots.result (sym c.is_err.ensures.value ∙ c.if-is_err.false) c.list_roots.ensures.many in
@@ -53,8 +53,8 @@ returns-in_ok-collect_block-clause-grown c =
     let end : collected_before search shard.rows Global c.args.start + length c.as_slice.result.now ≡ collected_before search shard.rows Global c.args.end = omega (arith, is, many) in
     subst (λ (n : ℕ). HasGrown shard search n c.collect_block.new.growth) end c.in_ok-collect_block.ensures.grown
 
-pub returns-in_ok-collect_block-clause-paid : goal.returns-in_ok-collect_block-clause-paid
-returns-in_ok-collect_block-clause-paid c =
+pub returns-clause-paid : goal.returns-clause-paid
+returns-clause-paid c =
     let shard = c.args.shard.now in
     let search = c.args.search.now in
     let many = on-ok c.list_roots.result (sym c.is_err.ensures.value ∙ c.if-is_err.false) c.list_roots.ensures.many in

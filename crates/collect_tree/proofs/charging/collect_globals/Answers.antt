@@ -12,9 +12,9 @@ use Rattle.collect_tree.specs.declared.phase.Phase.TheVariants.{Global}
 use Rattle.collect_tree.proofs.Listing.{all-global}
 use Rattle.collect_tree.proofs.charging.collect_globals.Goals as goal
 
-pub blocks-preserved : goal.blocks-preserved
-blocks-preserved c =
-    let come = c.blocks.invariant.come in
+pub loop-start-preserved : goal.loop-start-preserved
+loop-start-preserved c =
+    let come = c.loop-start.invariant.come in
     let block = c.in_ok-collect_global_block.ensures in
     record {
       come = record {
@@ -31,7 +31,7 @@ blocks-preserved c =
 pub returns-in_err-collect_global_block-clause-stopped : goal.returns-in_err-collect_global_block-clause-stopped
 returns-in_err-collect_global_block-clause-stopped c =
     let p = err_from_is_err_and c.from_residual.result c.from_residual.ensures.1 in
-    rw (p.1, p.2) (λ v paid. c.in_err-collect_global_block.ensures.stopped v (c.blocks.invariant.come.paid v paid))
+    rw (p.1, p.2) (λ v paid. c.in_err-collect_global_block.ensures.stopped v (c.loop-start.invariant.come.paid v paid))
 
 pub returns-clause-grown : goal.returns-clause-grown
 returns-clause-grown c =
@@ -39,8 +39,8 @@ returns-clause-grown c =
     let all = c.args.shard.now.rows in
     let global : list_any (λ a. is_global (out-Agg a).kind) search.aggs ≡ true = sym c.has_global.ensures ∙ c.if-not-has_global.false in
     let many = ap (λ (rs : List PlacedRow). length rs) (all-global search all global) in
-    let end : collected_before search all Global c.blocks.start ≡ row_count search all = omega (arith, many, c.blocks-test.false, c.roots-count.ensures, c.blocks.invariant.within) in
-    subst (λ (n : ℕ). HasGrown c.args.shard.now search n c.blocks.growth) end c.blocks.invariant.come.grown
+    let end : collected_before search all Global c.loop-start.start ≡ row_count search all = omega (arith, many, c.loop-start-test.false, c.roots-count.ensures, c.loop-start.invariant.within) in
+    subst (λ (n : ℕ). HasGrown c.args.shard.now search n c.loop-start.growth) end c.loop-start.invariant.come.grown
 
 pub returns-clause-paid : goal.returns-clause-paid
 returns-clause-paid c =
@@ -48,5 +48,5 @@ returns-clause-paid c =
     let all = c.args.shard.now.rows in
     let global : list_any (λ a. is_global (out-Agg a).kind) search.aggs ≡ true = sym c.has_global.ensures ∙ c.if-not-has_global.false in
     let many = ap (λ (rs : List PlacedRow). length rs) (all-global search all global) in
-    let end : collected_before search all Global c.blocks.start ≡ row_count search all = omega (arith, many, c.blocks-test.false, c.roots-count.ensures, c.blocks.invariant.within) in
-    subst (λ (n : ℕ). PaysOn c.args.words.now.limits (amounts search all) (length (matched search all)) n c.args.pass.now.view c.blocks.pass.view) end c.blocks.invariant.come.paid
+    let end : collected_before search all Global c.loop-start.start ≡ row_count search all = omega (arith, many, c.loop-start-test.false, c.roots-count.ensures, c.loop-start.invariant.within) in
+    subst (λ (n : ℕ). PaysOn c.args.words.now.limits (amounts search all) (length (matched search all)) n c.args.pass.now.view c.loop-start.pass.view) end c.loop-start.invariant.come.paid

@@ -6,11 +6,11 @@ use Rattle.collect_tree.specs.declared.phase.Phase.TheVariants.{Global}
 use Rattle.collect_tree.proofs.Loops.{HasCome}
 use Rattle.collect_tree.proofs.charging.collect_globals.Given as goal
 
-abbrev pub invariant-blocks : goal.invariant-blocks
-invariant-blocks l = record {
+abbrev pub invariant-loop-start : goal.invariant-loop-start
+invariant-loop-start l = record {
   come : HasCome l.shard l.search l.words l.fn.pass.view (length (matched l.search l.shard.rows)) (collected_before l.search l.shard.rows Global l.start) l.pass l.growth;
   within : l.start ≤ length (roots l.shard.rows);
 }
 
-abbrev pub decreases-blocks : goal.decreases-blocks
-decreases-blocks l = l.count - l.start
+abbrev pub decreases-loop-start : goal.decreases-loop-start
+decreases-loop-start l = l.count - l.start

@@ -5,11 +5,11 @@ use Rattle.collect_tree.specs.declared.phase.Phase.TheVariants.{Matched}
 use Rattle.collect_tree.proofs.Loops.{HasCounted}
 use Rattle.collect_tree.proofs.charging.collect_matched.Given as goal
 
-abbrev pub invariant-blocks : goal.invariant-blocks
-invariant-blocks l = record {
+abbrev pub invariant-loop-start : goal.invariant-loop-start
+invariant-loop-start l = record {
   counted : HasCounted l.shard l.search l.words l.fn.pass.view (collected_before l.search l.shard.rows Matched l.start) l.pass l.growth l.hits;
   within : l.start ≤ length (roots l.shard.rows);
 }
 
-abbrev pub decreases-blocks : goal.decreases-blocks
-decreases-blocks l = l.count - l.start
+abbrev pub decreases-loop-start : goal.decreases-loop-start
+decreases-loop-start l = l.count - l.start

@@ -53,18 +53,18 @@ overflow_add-more c =
     let few = count-few (matches c.args.shard.now.rows c.args.search.now.query) (roots c.args.shard.now.rows) c.args.end in
     omega (arith, many, few, c.requires.hits, c.len.ensures, c.list_matched.new.rows.ok)
 
-pub returns-in_ok-collect_block-clause-hits : goal.returns-in_ok-collect_block-clause-hits
-returns-in_ok-collect_block-clause-hits c =
+pub returns-clause-hits : goal.returns-clause-hits
+returns-clause-hits c =
     let many = on-ok c.list_matched.result (sym c.is_err.ensures.value ∙ c.if-is_err.false) c.list_matched.ensures.many in
     omega (arith, many, c.requires.hits, c.len.ensures, c.list_matched.new.rows.ok)
 
-pub returns-in_ok-collect_block-clause-grown : goal.returns-in_ok-collect_block-clause-grown
-returns-in_ok-collect_block-clause-grown c =
+pub returns-clause-grown : goal.returns-clause-grown
+returns-clause-grown c =
     let same : length c.as_slice.result.now ≡ c.len.result = (let is = ap (λ (xs : List ℕ). length xs) c.as_slice.ensures.value in omega (arith, is, c.len.ensures, c.list_matched.new.rows.ok)) in
     subst (λ (n : ℕ). HasGrown c.args.shard.now c.args.search.now (c.args.hits + n) c.collect_block.new.growth) same c.in_ok-collect_block.ensures.grown
 
-pub returns-in_ok-collect_block-clause-paid : goal.returns-in_ok-collect_block-clause-paid
-returns-in_ok-collect_block-clause-paid c =
+pub returns-clause-paid : goal.returns-clause-paid
+returns-clause-paid c =
     let same : length c.as_slice.result.now ≡ c.len.result = (let is = ap (λ (xs : List ℕ). length xs) c.as_slice.ensures.value in omega (arith, is, c.len.ensures, c.list_matched.new.rows.ok)) in
     subst (λ (n : ℕ). PaysOn c.args.words.now.limits (amounts c.args.search.now c.args.shard.now.rows) c.args.hits (c.args.hits + n) c.args.pass.now.view c.collect_block.new.pass.view) same c.in_ok-collect_block.ensures.paid
 

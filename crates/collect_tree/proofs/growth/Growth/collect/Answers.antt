@@ -1,5 +1,5 @@
 use Rattle.std.proofs.Common.{◌≡◌, ◌+◌, ◌<◌, ℕ, List, sym, ◌∙◌, ap, arith, length, get_or}
-use Rattle.std.proofs.lemmas.List.{length-replicate}
+use Rattle.std.proofs.lemmas.List.{get_or-replicate, length-replicate}
 use Rattle.agg_evaluation.specs.Cost.{cost}
 use Rattle.agg_evaluation.specs.Rows.{row_of}
 use Rattle.agg_evaluation.specs.Trace.{built}
@@ -7,7 +7,6 @@ use Rattle.growth_laws.specs.Steps.{tree_after}
 use Rattle.collect_tree.specs.Blocks.{before_root}
 use Rattle.collect_tree.specs.Tops.{AreNodes}
 use Rattle.collect_tree.proofs.Blocks.{block-cost, whole-block}
-use Rattle.collect_tree.proofs.Changes.{zero-at}
 use Rattle.collect_tree.proofs.Composites.{few-keys}
 use Rattle.collect_tree.proofs.Made.{is-apart, is-shard}
 use Rattle.collect_tree.proofs.Tops.{grown-bytes, sum-tops}
@@ -43,17 +42,19 @@ returns c =
     let all = c.in_ok-collect_in_all.ensures in
     let changes = all.changes (λ a. tree_after search shard.rows a n) grown.nodes in
     let zeros = ap (λ (xs : List ℕ). length xs) c.in_ok-costs.ensures in
-    let size = length-replicate (length rows) 0 in
+    let size = length-replicate {A = ℕ} (length rows) 0 in
     let many_added = changes.many_added in
     let many : length c.collect_in_all.new.added.items ≡ length rows = omega (arith, many_added, zeros, size) in
     let start : c.args.self.now.bytes ≡ cost_at 0 = grown-bytes shard search n c.args.self.now grown ∙ ap (λ (k : ℕ). cost (built search shard.rows k)) (let e : n ≡ n + 0 = omega arith in e) in
-    let steps : (k : ℕ) → k < length c.collect_in_all.new.added.items → cost_at k + get_or c.collect_in_all.new.added.items k 0 ≡ get_or c.collect_in_all.new.removed.items k 0 + cost_at (k + 1) = λ k below.
-    (let here = block-cost shard search made phase first rows block k (omega (arith, below, many)) in
+    let steps : (k : ℕ) → k < length c.collect_in_all.new.added.items → cost_at k + get_or c.collect_in_all.new.added.items k 0 ≡ get_or c.as_slice.result.now k 0 + cost_at (k + 1) = λ k below.
+    (let there : k < length rows = omega (arith, below, many) in
+    let here = block-cost shard search made phase first rows block k (omega (arith, below, many)) in
     let next = block-cost shard search made phase first rows block (k + 1) (omega (arith, below, many)) in
     let change = changes.each k (omega (arith, below, many)) in
-    let none = ap (λ (xs : List ℕ). get_or xs k 0) c.in_ok-costs.ensures ∙ zero-at (length rows) k in
-    let none_taken = ap (λ (xs : List ℕ). get_or xs k 0) c.in_ok-removed.ensures ∙ zero-at (length rows) k in
-    omega (arith, here, next, change, none, none_taken)) in
+    let none = ap (λ (xs : List ℕ). get_or xs k 0) c.in_ok-costs.ensures ∙ get_or-replicate {A = ℕ} (length rows) k 0 0 there in
+    let taken = ap (λ (xs : List ℕ). get_or xs k 0) c.as_slice.ensures.value in
+    let none_taken = ap (λ (xs : List ℕ). get_or xs k 0) c.in_ok-removed.ensures ∙ get_or-replicate {A = ℕ} (length rows) k 0 0 there in
+    omega (arith, here, next, change, none, none_taken, taken)) in
     let last = c.in_ok-self.ensures.last cost_at start steps in
     let nodes : AreNodes shard search.aggs (λ place a. tree_after search shard.rows a (n + length rows)) c.collect_in_all.new.trees.items = λ i a top at there. all.nodes (λ a. tree_after search shard.rows a n) grown.nodes i a top at there ∙ whole-block shard search made phase first rows block i a at in
     record {
@@ -77,6 +78,6 @@ add_up-requires c =
     let many_removed = changes.many_removed in
     let zeros = ap (λ (xs : List ℕ). length xs) c.in_ok-costs.ensures in
     let zeros_removed = ap (λ (xs : List ℕ). length xs) c.in_ok-removed.ensures in
-    let size = length-replicate (length c.args.rows.now) 0 in
+    let size = length-replicate {A = ℕ} (length c.args.rows.now) 0 in
     let slice = ap (λ (xs : List ℕ). length xs) c.as_slice.ensures.value in
     record { many = omega (arith, many_added, many_removed, zeros, zeros_removed, size, slice) }
