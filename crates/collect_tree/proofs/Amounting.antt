@@ -15,6 +15,8 @@ use Rattle.growth_laws.proofs.Sums.{amount-first, amount-last, amount-row, amoun
 use Rattle.growth_laws.specs.Amounts.{amounts, row_count}
 use Rattle.task_charges.specs.Charged.{HasPaid}
 use Rattle.task_charges.specs.Ended.{IsRefused}
+use Rattle.collect_tree.specs.Stops.{IsStopped}
+use Rattle.collect_tree.specs.declared.ending.Stop.{Stop}
 use Rattle.collect_tree.proofs.Counting.{take-drop, take-next}
 
 -- one more amount is charged or given back: from `held` to `wanted`
@@ -29,6 +31,14 @@ module _ (l : Limits) (u w : View) (ns : List ℤ) (k held wanted : ℕ) (here :
   refused-next t step sum v paid =
       let split = take-drop ns k _ here in
       subst (λ all. IsRefused l v w all t) (sym split.1) (step v (take k ns) split.0 paid sum)
+
+  -- the same where the task may have stopped for want of memory too
+  pub stopped-next : (stop : Stop)
+      → ((v : View) (some more : List ℤ) → HasPaid l v u some → pos held ≡ int_sum some → IsStopped l v w (some ++ (pos wanted -ℤ pos held) ∷ more) stop)
+      → pos held ≡ int_sum (take k ns) → (v : View) → HasPaid l v u (take k ns) → IsStopped l v w ns stop
+  stopped-next stop step sum v paid =
+      let split = take-drop ns k _ here in
+      subst (λ all. IsStopped l v w all stop) (sym split.1) (step v (take k ns) split.0 paid sum)
 
 module _ (search : Search) (all : List PlacedRow) where
   -- what a task holds with the trees of n roots

@@ -6,3 +6,6 @@ pub mod Rooms
 pub mod Tops
 pub mod Trees
 pub mod Composites
+pub mod Changes
+pub mod Blocks
+pub mod Listing

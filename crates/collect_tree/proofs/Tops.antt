@@ -63,13 +63,6 @@ drop-here {A = A} xs n x e = here xs n e ∙ ap (λ m. x ∷ drop m xs) (sym (ad
     here (y ∷ xs) zero e = ap (λ z. z ∷ xs) (some_same y x e)
     here (y ∷ xs) (suc n) e = here xs n e
 
--- one of them costs no more than all
-pub cost-within : (shard : Columns) (tops : List TopTree) (n : ℕ) (t : TopTree) → slice_get tops n ≡ Some t → top_cost shard t ≤ sum_by (top_cost shard) tops
-cost-within shard [] zero t e = none_some t e
-cost-within shard [] (suc n) t e = none_some t e
-cost-within shard (u ∷ tops) zero t e = let all = sum_by-cons (top_cost shard) u tops in let same = ap (top_cost shard) (some_same u t e) in omega arith
-cost-within shard (u ∷ tops) (suc n) t e = let all = sum_by-cons (top_cost shard) u tops in let rest = cost-within shard tops n t e in omega arith
-
 -- one more tree is finished
 pub cut-more : (shard : Columns) (nodes : List Node) (aggs : List Agg) (place : ℕ) (a : Agg) (top : TopTree) (left : List TopTree) → slice_get aggs place ≡ Some a
     → (nodes ++ cut_tree a (top_node shard top) ∷ []) ++ cut_tops shard (drop (place + 1) aggs) left ≡ nodes ++ cut_tops shard (drop place aggs) (top ∷ left)
@@ -127,6 +120,9 @@ so-later k n x y other = ap (λ b. if b then x else y) (let e : nat_lt n (k + 1)
 so-here : {A : Type 0} (k : ℕ) (x y : A) → so_far (k + 1) k x y ≡ x
 so-here k x y = ap (λ b. if b then x else y) (let e : nat_lt k (k + 1) ≡ true = grind (arith, nat_tests) in e)
 
+pub so-none : {A : Type 0} (n : ℕ) (x y : A) → so_far 0 n x y ≡ y
+so-none n x y = ap (λ b. if b then x else y) (let e : nat_lt n 0 ≡ false = grind (arith, nat_tests) in e)
+
 so-before : {A : Type 0} (k : ℕ) (x y : A) → so_far k k x y ≡ y
 so-before k x y = ap (λ b. if b then x else y) (let e : nat_lt k k ≡ false = grind (arith, nat_tests) in e)
 
@@ -150,12 +146,6 @@ module _ (shard : Columns) (aggs : List Agg) (tops : List TopTree) (place : ℕ)
   -- the tree at the place before
   pub node-before : (f before : Agg → Node) → AreNodes shard aggs (λ n b. so_far place n (f b) (before b)) tops → top_node shard old ≡ before a
   node-before f before nodes = nodes place a old at there ∙ so-before place (f a) (before a)
-
-  pub set-bytes : (bytes after : ℕ) → bytes ≡ sum_by (top_cost shard) tops → after + top_cost shard old ≡ bytes + top_cost shard new → after ≡ sum_by (top_cost shard) (set tops place new)
-  set-bytes bytes after is h =
-      let total = sum_by-set (top_cost shard) tops place new old within in
-      let here = ap (top_cost shard) (get_or_from_slice_get tops place old old there) in
-      omega arith
 
 -- what holds of a result that is no error
 pub on-ok : {A E : Type 0} {P : Type 0} (r : Result A E) → is_err r ≡ false → OnOk r P → P

@@ -4,12 +4,10 @@ use Rattle.std.specs.List.{list_any}
 use Rattle.std.proofs.Common.{sym, ◌∙◌, ap, subst, arith}
 use Rattle.std.proofs.lemmas.Bool.{false≢true}
 use Rattle.std.proofs.lemmas.List.{take_all}
-use Rattle.std.proofs.lemmas.Option.{slice_get_within}
 use Rattle.agg_model.specs.declared.aggregation.Agg.{Agg, Agg', out-Agg}
 use Rattle.agg_model.specs.declared.aggregation.Search.{Search}
 use Rattle.agg_evaluation.proofs.BeginLaws.{collected-begins}
 use Rattle.agg_evaluation.proofs.Computing.{computing}
-use Rattle.agg_evaluation.specs.Matching.{matches}
 use Rattle.agg_evaluation.specs.Placement.{is_placed}
 use Rattle.agg_evaluation.specs.Rows.{PlacedRow, roots}
 use Rattle.agg_evaluation.specs.Shard.{collected_node, shard_node}
@@ -25,9 +23,9 @@ use Rattle.list_laws.proofs.Booleans.{and_right, both, holds}
 use Rattle.list_laws.proofs.Options.{none_some, some_same}
 use Rattle.shard_columns.specs.Columns.{Columns}
 use Rattle.shard_columns.specs.Made.{IsSearchFor}
-use Rattle.collect_tree.proofs.Counting.{filter-at}
 use Rattle.collect_tree.proofs.Made.{agg-placed, by-documents, given, one-tree}
-use Rattle.collect_tree.specs.Phases.{collected_before, is_collected, with_one}
+use Rattle.collect_tree.specs.Blocks.{before_root, phase_roots}
+use Rattle.collect_tree.specs.Phases.{with_one}
 use Rattle.collect_tree.specs.declared.phase.Phase.{Phase}
 use Rattle.collect_tree.specs.declared.phase.Phase.TheVariants.{Matched, Global}
 
@@ -63,17 +61,11 @@ module _ (shard : Columns) (search : Search) (made : IsSearchFor shard search) w
         subst (λ rows. slice_get (global_roots search rows) n ≡ Some root → tree_after search rows a (length (matched search rows) + n + 1) ≡ with_root rows a root (tree_after search rows a (length (matched search rows) + n))) (sym is)
         (global-step search (given documents) a (holds _ (agg-placed shard search made i a there)) n root) e)
 
-    -- one more root that is collected
-    pub next-tree : (phase : Phase) (place : ℕ) (root : PlacedRow) → slice_get (roots all) place ≡ Some root → is_collected search all phase root ≡ true
-        → tree_after search all a (collected_before search all phase place + 1) ≡ with_one phase all a root (tree_after search all a (collected_before search all phase place))
-    next-tree Matched place root e h = matched-next _ root (filter-at (matches all search.query) (roots all) place root e h)
-    next-tree Global place root e h = global-next place root (ap (λ b. slice_get (if b then roots all else []) place) h ∙ e)
-
-  -- it is one of those that are collected
-  pub before-within : (phase : Phase) (place : ℕ) (root : PlacedRow) → slice_get (roots all) place ≡ Some root → is_collected search all phase root ≡ true
-      → collected_before search all phase place < row_count search all
-  before-within Matched place root e h = let few = slice_get_within (matched search all) _ root (filter-at (matches all search.query) (roots all) place root e h) in omega arith
-  before-within Global place root e h = let few = slice_get_within (global_roots search all) place root (ap (λ b. slice_get (if b then roots all else []) place) h ∙ e) in omega arith
+    -- one more root of a phase
+    pub next-root : (phase : Phase) (first : ℕ) (root : PlacedRow) → slice_get (phase_roots search all phase) first ≡ Some root
+        → tree_after search all a (before_root search all phase first + 1) ≡ with_one phase all a root (tree_after search all a (before_root search all phase first))
+    next-root Matched first root e = matched-next first root e
+    next-root Global first root e = global-next first root e
 
   -- no root yet
   pub first-tree : (a : Agg) → tree_after search all a 0 ≡ empty_node a

@@ -1,6 +1,5 @@
 -- The two phases in which a task collects roots (Elasticsearch Reference 8, 'Global aggregation').
-use Rattle.std.specs.Prelude.{◌≡◌, ℕ, ◌+◌, ◌≤◌, Bool, true, List, filter, length, take}
-use Rattle.std.specs.List.{list_any}
+use Rattle.std.specs.Prelude.{◌≡◌, ℕ, ◌+◌, ◌≤◌, true, List, filter, length, take}
 use Rattle.agg_model.specs.declared.aggregation.Agg.{Agg, out-Agg}
 use Rattle.agg_model.specs.declared.aggregation.Search.{Search}
 use Rattle.agg_model.specs.declared.partial.Node.{Node}
@@ -8,7 +7,7 @@ use Rattle.agg_evaluation.specs.Ceiling.{greatest_combinations}
 use Rattle.agg_evaluation.specs.Keys.{keys}
 use Rattle.agg_evaluation.specs.Matching.{matches}
 use Rattle.agg_evaluation.specs.Rows.{PlacedRow, roots}
-use Rattle.agg_evaluation.specs.Trace.{is_global, matched}
+use Rattle.agg_evaluation.specs.Trace.{matched}
 use Rattle.composite_agg.specs.FirstPages.{is_composite}
 use Rattle.growth_laws.specs.Steps.{with_matched, with_root}
 use Rattle.collect_tree.specs.declared.phase.Phase.{Phase}
@@ -18,11 +17,6 @@ use Rattle.collect_tree.specs.declared.phase.Phase.TheVariants.{Matched, Global}
 abbrev pub with_one : Phase → List PlacedRow → Agg → PlacedRow → Node → Node
 with_one Matched all a root n = with_matched all a root n
 with_one Global all a root n = with_root all a root n
-
--- whether a root is collected in a phase
-abbrev pub is_collected : Search → List PlacedRow → Phase → PlacedRow → Bool
-is_collected search all Matched root = matches all search.query root
-is_collected search all Global root = list_any (λ a. is_global (out-Agg a).kind) search.aggs
 
 -- how many roots are collected before the one at this place
 abbrev pub collected_before : Search → List PlacedRow → Phase → ℕ → ℕ

@@ -1,16 +1,18 @@
-//! The trees of a task, which grow root by root.
-ghost use Rattle.std.specs.Prelude.{◌≡◌, ◌+◌, ◌<◌, ◌^◌, ◌∷◌, [], All, IfOk, OnOk, Some, length, map, slice_get, sum_by, true, ℕ};
+//! The trees of a task, which grow root by root, in blocks of roots.
+ghost use Rattle.std.specs.Prelude.{◌≡◌, ◌+◌, ◌<◌, ◌^◌, All, IfOk, OnOk, Some, length, map, replicate, slice_get, slice_index, sum_by, ℕ};
 ghost use Rattle.agg_evaluation.specs.Cost.{node_cost};
 ghost use Rattle.agg_evaluation.specs.Counted.{IsApart};
-ghost use Rattle.agg_evaluation.specs.Rows.{PlacedRow, roots, row_of};
+ghost use Rattle.agg_evaluation.specs.Rows.{row_of};
 ghost use Rattle.agg_evaluation.specs.Shard.{shard_answer};
 ghost use Rattle.agg_evaluation.specs.Whole.{empty_node};
 ghost use Rattle.agg_model.specs.declared.aggregation.Agg.{Agg as AnyAgg};
 ghost use Rattle.agg_model.specs.declared.partial.Node.{Node as AnyNode};
+ghost use Rattle.collect_tree.specs.Blocks.{AreChanges, AreCosts, IsBlock, before_root};
 ghost use Rattle.collect_tree.specs.Grown.{HasGrown};
-ghost use Rattle.collect_tree.specs.Phases.{HasFewKeys, collected_before, is_collected, with_one};
+ghost use Rattle.collect_tree.specs.Phases.{HasFewKeys, with_one};
 ghost use Rattle.collect_tree.specs.Room.{HasCeiling};
 ghost use Rattle.collect_tree.specs.Tops.{AreNodes, AreTopsFor, cut_tops, top_cost};
+ghost use Rattle.growing_tree.specs.GatheredEach.{after_each, cost_after};
 ghost use Rattle.growth_laws.specs.Amounts.{row_count};
 ghost use Rattle.shard_columns.specs.Built.{IsShard};
 ghost use Rattle.shard_columns.specs.Made.{IsAggFor, IsSearchFor};
@@ -21,18 +23,15 @@ use agg_model::{Agg, List, Node, Partial, Search};
 use partial_result::{cost, empty_nodes};
 use shard_columns::Shard;
 use std::alloc::{AllocError, Global};
-use std::mem;
 
 /// The trees of a task so far.
 #[derive(Drop)]
 pub(crate) struct Growth {
-    alloc: Global,
+    pub(crate) alloc: Global,
     /// One for each aggregation at the top.
     trees: Vec<TopTree>,
     /// What the trees cost together.
     pub(crate) bytes: u64,
-    /// The one row that is handed on, in memory that is used again.
-    row: List<u32>,
     /// Memory for lists of codes that is used again.
     spare: Vec<Vec<i64>>,
 }
@@ -62,46 +61,39 @@ fn empty_bytes(alloc: Global, aggs: &List<Agg>) -> Result<u64, AllocError>
     Ok(cost(&empty))
 }
 
-/// The list with this row in the place of its one row, in the same memory.
-fn with_row(rows: List<u32>, row: u32) -> List<u32>
-    requires { length rows ≡ 1 }
-    ensures { result ≡ row ∷ [] }
-{
-    let mut rows = rows.into_vec();
-    rows[0] = row;
-    List::from_vec(rows)
-}
-
-/// One more root in each of the trees that collect it. `bytes` is what all of them cost, and the answer is what they cost then.
+/// The roots of a block in each of the trees that collect them. What they add to the cost of all trees, and what they take from
+/// it, is added to the numbers of each root.
 fn collect_in_all(
     alloc: Global,
     phase: Phase,
     aggs: &List<Agg>,
     shard: &Shard,
-    rows: &List<u32>,
+    rows: &[u32],
     spare: &mut Vec<Vec<i64>>,
     trees: &mut Vec<TopTree>,
-    bytes: u64,
-) -> Result<u64, AllocError>
+    added: &mut Vec<u64>,
+    removed: &mut Vec<u64>,
+) -> Result<(), AllocError>
     requires built { IsShard shard.now }
     requires apart { IsApart shard.now.rows }
-    requires alone { length rows.now ≡ 1 }
     requires in_range { All (λ n. n < length shard.now.rows) rows.now }
-    requires few { (place : ℕ) (agg : AnyAgg) (root : PlacedRow) → slice_get aggs.now place ≡ Some agg →
-        map (row_of shard.now.rows) rows.now ≡ root ∷ [] → HasFewKeys phase shard.now.rows agg root }
+    requires few { (place : ℕ) (agg : AnyAgg) → slice_get aggs.now place ≡ Some agg → (n : ℕ) → n < length rows.now →
+        HasFewKeys phase shard.now.rows agg (row_of shard.now.rows (slice_index rows.now n)) }
     requires ready { AreTopsFor shard.now aggs.now trees.old.items }
-    requires bytes { bytes ≡ sum_by (top_cost shard.now) trees.old.items }
     ensures ready { OnOk result (AreTopsFor shard.now aggs.now trees.new.items) }
-    ensures nodes { OnOk result ((root : PlacedRow) (before : AnyAgg → AnyNode) →
-        map (row_of shard.now.rows) rows.now ≡ root ∷ [] →
+    ensures nodes { OnOk result ((before : AnyAgg → AnyNode) →
         AreNodes shard.now aggs.now (λ place a. before a) trees.old.items →
-        AreNodes shard.now aggs.now (λ place a. with_one phase shard.now.rows a root (before a)) trees.new.items) }
-    ensures bytes { IfOk result (λ after. after ≡ sum_by (top_cost shard.now) trees.new.items) }
+        AreNodes shard.now aggs.now
+        (λ place a. after_each (with_one phase shard.now.rows a) (map (row_of shard.now.rows) rows.now) (before a)) trees.new.items) }
+    ensures changes { OnOk result ((before : AnyAgg → AnyNode) →
+        AreNodes shard.now aggs.now (λ place a. before a) trees.old.items →
+        AreChanges (λ n. sum_by
+        (λ a. cost_after (with_one phase shard.now.rows a) (map (row_of shard.now.rows) rows.now) (before a) n) aggs.now)
+        (length rows.now) added.old.items removed.old.items added.new.items removed.new.items) }
 {
-    let mut bytes = bytes;
     for place in 0..aggs.len() {
         let agg = &aggs.as_slice()[place];
-        bytes = collect(
+        collect(
             alloc,
             phase,
             agg,
@@ -109,10 +101,50 @@ fn collect_in_all(
             rows,
             spare,
             &mut trees[place],
-            bytes,
+            added,
+            removed,
         )?;
     }
-    Ok(bytes)
+    Ok(())
+}
+
+fn zeros(alloc: Global, count: usize) -> Result<Vec<u64>, AllocError>
+    ensures { IfOk result (λ list. list.items ≡ replicate count 0) }
+{
+    let list = vec![in alloc; 0; count]?;
+    Ok(list)
+}
+
+/// Puts the costs after each root in the place of what it adds. `cost` is the one before them, and the answer is the last one.
+fn add_up(cost: u64, added: &mut Vec<u64>, removed: &[u64]) -> Result<u64, AllocError>
+    requires many { length removed.now ≡ length added.old.items }
+    ensures many { OnOk result (length added.new.items ≡ length added.old.items) }
+    ensures costs { OnOk result ((cost_at : ℕ → ℕ) → cost ≡ cost_at 0 →
+        ((n : ℕ) → n < length added.old.items →
+        cost_at n + slice_index added.old.items n ≡ slice_index removed.now n + cost_at (n + 1)) →
+        (n : ℕ) → n < length added.old.items → slice_index added.new.items n ≡ cost_at (n + 1)) }
+    ensures last { IfOk result (λ last. (cost_at : ℕ → ℕ) → cost ≡ cost_at 0 →
+        ((n : ℕ) → n < length added.old.items →
+        cost_at n + slice_index added.old.items n ≡ slice_index removed.now n + cost_at (n + 1)) →
+        last ≡ cost_at (length added.old.items)) }
+{
+    let mut cost = cost;
+    for place in 0..added.len() {
+        let more = changed(cost, added[place], removed[place])?;
+        added[place] = more;
+        cost = more;
+    }
+    Ok(cost)
+}
+
+/// A cost to which is added, and from which is taken; one that is below 0 then, or above 64 bits before, counts as want of
+/// memory.
+fn changed(cost: u64, added: u64, removed: u64) -> Result<u64, AllocError>
+    ensures { IfOk result (λ after. removed + after ≡ cost + added) }
+{
+    let more = cost.checked_add(added).ok_or(AllocError)?;
+    let after = more.checked_sub(removed).ok_or(AllocError)?;
+    Ok(after)
 }
 
 /// What the shard answers to the aggregations, all of whose roots are in the trees.
@@ -147,49 +179,48 @@ impl Growth {
     {
         let trees = begin_trees(alloc, shard, &search.aggs)?;
         let bytes = empty_bytes(alloc, &search.aggs)?;
-        let mut row = List::new(alloc);
-        row.push(0)?;
         Ok(Growth {
             alloc,
             trees,
             bytes,
-            row,
             spare: Vec::new(alloc),
         })
     }
 
-    /// The trees with one more root: the one at this place among those of the shard, which is collected in this phase. After
-    /// want of memory they are spent.
+    /// The trees with the roots of a block, which are those of a phase from the `first` on. The answer is what they cost after
+    /// each. After want of memory they are spent.
     pub(crate) fn collect(
         &mut self,
         shard: &Shard,
         search: &Search,
         phase: Phase,
-        place: u32,
-    ) -> Result<(), AllocError>
+        first: u64,
+        rows: &[u32],
+    ) -> Result<Vec<u64>, AllocError>
         requires made { IsSearchFor shard.now search.now }
         requires ceiling { HasCeiling shard.now search.now }
-        requires place { place < length (roots shard.now.rows) }
-        requires collected { (root : PlacedRow) → slice_get (roots shard.now.rows) place ≡ Some root →
-            is_collected search.now shard.now.rows phase root ≡ true }
-        requires grown { HasGrown shard.now search.now (collected_before search.now shard.now.rows phase place) self.old }
-        ensures { OnOk result
-            (HasGrown shard.now search.now (collected_before search.now shard.now.rows phase place + 1) self.new) }
+        requires block { IsBlock shard.now search.now phase first rows.now }
+        requires grown { HasGrown shard.now search.now (before_root search.now shard.now.rows phase first) self.old }
+        ensures grown { OnOk result
+            (HasGrown shard.now search.now (before_root search.now shard.now.rows phase first + length rows.now) self.new) }
+        ensures costs { IfOk result (λ costs. AreCosts search.now shard.now.rows (before_root search.now shard.now.rows phase first)
+            (length rows.now) costs.items) }
     {
-        let number = shard.root(place);
-        let row = with_row(mem::replace(&mut self.row, List::new(self.alloc)), number);
-        self.bytes = collect_in_all(
+        let mut costs = zeros(self.alloc, rows.len())?;
+        let mut removed = zeros(self.alloc, rows.len())?;
+        collect_in_all(
             self.alloc,
             phase,
             &search.aggs,
             shard,
-            &row,
+            rows,
             &mut self.spare,
             &mut self.trees,
-            self.bytes,
+            &mut costs,
+            &mut removed,
         )?;
-        self.row = row;
-        Ok(())
+        self.bytes = add_up(self.bytes, &mut costs, removed.as_slice())?;
+        Ok(costs)
     }
 
     /// What the shard answers to the aggregations of the search, all of whose roots are collected.
@@ -202,7 +233,6 @@ impl Growth {
             alloc,
             trees,
             bytes: _,
-            row: _,
             spare: _,
         } = self;
         finish_trees(alloc, &search.aggs, shard, trees)

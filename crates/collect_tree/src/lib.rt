@@ -1,5 +1,5 @@
 //! One search on one shard (Elasticsearch Reference 8, 'Aggregations'; 'Circuit breaker settings': the request circuit
-//! breaker): trees that grow root by root, and after each root the charge of what it added.
+//! breaker): trees that grow by blocks of roots, and after each block the charges of what each of its roots added.
 #![tactic(auto)]
 
 mod charging;

@@ -46,7 +46,7 @@ fn prepare(alloc: Global, shard: &Shard, search: &Search) -> Result<(Growth, Bit
 }
 
 /// What the shard answers to the search. The task holds what its trees cost at request and at the parent: it charges the empty
-/// trees with an overhead, and after each root what the root added; at the end it gives back the overhead and what the trees
+/// trees with an overhead, and for each root, in order, what the root added; at the end it gives back the overhead and what the trees
 /// cost above the answer.
 ///
 /// The search is made for the mapping of the shard, and the pass has room for the task's ceiling. After a refusal, and after

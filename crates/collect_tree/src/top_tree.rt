@@ -1,15 +1,17 @@
 //! The tree of one aggregation at the top of a search.
-ghost use Rattle.std.specs.Prelude.{◌≡◌, ◌+◌, ◌<◌, ◌≤◌, ◌∷◌, [], All, IfOk, IsTrue, OnOk, length, map};
-ghost use Rattle.agg_evaluation.specs.Cost.{node_cost};
+ghost use Rattle.std.specs.Prelude.{◌≡◌, ◌+◌, ◌<◌, ℕ, All, IfOk, IsTrue, List as AnyList, OnOk, length, map, slice_index};
 ghost use Rattle.agg_evaluation.specs.Counted.{IsApart};
-ghost use Rattle.agg_evaluation.specs.Rows.{PlacedRow, row_of};
+ghost use Rattle.agg_evaluation.specs.Rows.{row_of};
 ghost use Rattle.agg_evaluation.specs.Whole.{empty_node};
 ghost use Rattle.agg_model.specs.declared.aggregation.Agg.{out-Agg};
+ghost use Rattle.collect_tree.specs.Blocks.{AreChanges};
 ghost use Rattle.collect_tree.specs.Phases.{HasFewKeys, with_one};
+ghost use Rattle.collect_tree.specs.declared.phase.Phase.TheVariants.{Matched};
 ghost use Rattle.collect_tree.specs.Tops.{IsPageFor, IsTopFor, top_node};
 ghost use Rattle.composite_agg.specs.FirstPages.{is_composite as is_composite_kind};
 ghost use Rattle.growing_page.specs.GrowingPages.{decoders, page_node};
 ghost use Rattle.growing_tree.specs.Decoded.{decoded};
+ghost use Rattle.growing_tree.specs.GatheredEach.{after_each, cost_after};
 ghost use Rattle.growing_tree.specs.Readiness.{IsReadyFor};
 ghost use Rattle.growth_laws.specs.Cutting.{cut_tree};
 ghost use Rattle.shard_columns.specs.Built.{IsShard};
@@ -18,7 +20,7 @@ ghost use Rattle.shard_columns.specs.Made.{IsAggFor};
 use crate::phase::{Phase, is_composite, is_global};
 use agg_model::{Agg, List, Node};
 use growing_page::{Page, finish_page, gather_root};
-use growing_tree::{Ready, Tree};
+use growing_tree::{Ready, Tree, count_each, gather_each};
 use shard_columns::Shard;
 use std::alloc::{AllocError, Global};
 
@@ -60,123 +62,171 @@ pub(crate) fn begin(alloc: Global, shard: &Shard, agg: &Agg) -> Result<TopTree, 
     Ok(TopTree::Tree { ready, tree })
 }
 
-/// The tree with one more root, if the aggregation collects roots in this phase. `bytes` is what all trees of the task cost; the
-/// answer is what they cost then.
+/// The tree with more roots, one after another, if the aggregation collects roots in this phase. What each adds to its cost is
+/// added to the root's number.
 fn collect_in_tree(
     alloc: Global,
     phase: Phase,
     agg: &Agg,
     shard: &Shard,
-    rows: &List<u32>,
+    rows: &[u32],
     spare: &mut Vec<Vec<i64>>,
     ready: &Ready,
     tree: &mut Tree,
-    bytes: u64,
-) -> Result<u64, AllocError>
+    added: &mut Vec<u64>,
+) -> Result<(), AllocError>
     requires ready { IsReadyFor shard.now agg.now ready.now }
     requires built { IsShard shard.now }
     requires apart { IsApart shard.now.rows }
     requires in_range { All (λ n. n < length shard.now.rows) rows.now }
-    ensures node { OnOk result ((root : PlacedRow) → map (row_of shard.now.rows) rows.now ≡ root ∷ [] →
-        decoded shard.now ready.now tree.new
-        ≡ with_one phase shard.now.rows agg.now root (decoded shard.now ready.now tree.old)) }
-    ensures bytes { IfOk result (λ after. after + node_cost (decoded shard.now ready.now tree.old)
-        ≡ bytes + node_cost (decoded shard.now ready.now tree.new)) }
+    ensures node { OnOk result (decoded shard.now ready.now tree.new
+        ≡ after_each (with_one phase shard.now.rows agg.now) (map (row_of shard.now.rows) rows.now)
+        (decoded shard.now ready.now tree.old)) }
+    ensures changes { OnOk result ((removed : AnyList ℕ) → AreChanges
+        (cost_after (with_one phase shard.now.rows agg.now) (map (row_of shard.now.rows) rows.now)
+        (decoded shard.now ready.now tree.old))
+        (length rows.now) added.old.items removed added.new.items removed) }
 {
     let global = is_global(&agg.kind);
     match phase {
         Phase::Matched => {
             if global {
-                return Ok(bytes);
+                return Ok(());
             }
-            let added = growing_tree::gather(alloc, agg, ready, shard, rows, spare, tree)?;
-            let after = sum(bytes, added)?;
-            Ok(after)
+            gather_each(alloc, agg, ready, shard, rows, spare, tree, added)?;
+            Ok(())
         }
         Phase::Global => {
             if !global {
-                return Ok(bytes);
+                return Ok(());
             }
-            let added = growing_tree::count(alloc, agg, ready, shard, rows, spare, tree)?;
-            let after = sum(bytes, added)?;
-            Ok(after)
+            count_each(alloc, agg, ready, shard, rows, spare, tree, added)?;
+            Ok(())
         }
     }
 }
 
-/// The page with one more root, if it is a matched one, and what all trees of the task cost then: they cost at least as much as
-/// the page.
+/// The page with more roots, one after another. What each adds to its cost is added to the root's one number, and what it takes
+/// from it to the other.
+fn gather_in_page(
+    alloc: Global,
+    agg: &Agg,
+    shard: &Shard,
+    rows: &[u32],
+    spare: &mut Vec<Vec<i64>>,
+    children: &List<Ready>,
+    page: &mut Page,
+    added: &mut Vec<u64>,
+    removed: &mut Vec<u64>,
+) -> Result<(), AllocError>
+    requires page { IsPageFor shard.now agg.now children.now page.old }
+    requires built { IsShard shard.now }
+    requires apart { IsApart shard.now.rows }
+    requires in_range { All (λ n. n < length shard.now.rows) rows.now }
+    requires few { (n : ℕ) → n < length rows.now →
+        HasFewKeys Matched shard.now.rows agg.now (row_of shard.now.rows (slice_index rows.now n)) }
+    requires many_added { length added.old.items ≡ length rows.now }
+    requires many_removed { length removed.old.items ≡ length rows.now }
+    ensures page { OnOk result (IsPageFor shard.now agg.now children.now page.new) }
+    ensures node { OnOk result (page_node (decoders shard.now children.now) page.new
+        ≡ after_each (with_one Matched shard.now.rows agg.now) (map (row_of shard.now.rows) rows.now)
+        (page_node (decoders shard.now children.now) page.old)) }
+    ensures changes { OnOk result (AreChanges
+        (cost_after (with_one Matched shard.now.rows agg.now) (map (row_of shard.now.rows) rows.now)
+        (page_node (decoders shard.now children.now) page.old))
+        (length rows.now) added.old.items removed.old.items added.new.items removed.new.items) }
+{
+    for place in 0..rows.len() {
+        let change = gather_root(alloc, agg, children, shard, rows[place], spare, page)?;
+        let more_added = sum(added[place], change.added)?;
+        added[place] = more_added;
+        let more_removed = sum(removed[place], change.removed)?;
+        removed[place] = more_removed;
+    }
+    Ok(())
+}
+
+/// The page with more roots, one after another, if they are matched ones.
 fn collect_in_page(
     alloc: Global,
     phase: Phase,
     agg: &Agg,
     shard: &Shard,
-    row: u32,
+    rows: &[u32],
     spare: &mut Vec<Vec<i64>>,
     children: &List<Ready>,
     page: &mut Page,
-    bytes: u64,
-) -> Result<u64, AllocError>
+    added: &mut Vec<u64>,
+    removed: &mut Vec<u64>,
+) -> Result<(), AllocError>
     requires page { IsPageFor shard.now agg.now children.now page.old }
     requires built { IsShard shard.now }
     requires apart { IsApart shard.now.rows }
-    requires in_range { row < length shard.now.rows }
-    requires few { HasFewKeys phase shard.now.rows agg.now (row_of shard.now.rows row) }
-    requires bytes { node_cost (page_node (decoders shard.now children.now) page.old) ≤ bytes }
+    requires in_range { All (λ n. n < length shard.now.rows) rows.now }
+    requires few { (n : ℕ) → n < length rows.now →
+        HasFewKeys phase shard.now.rows agg.now (row_of shard.now.rows (slice_index rows.now n)) }
     ensures page { OnOk result (IsPageFor shard.now agg.now children.now page.new) }
     ensures node { OnOk result (page_node (decoders shard.now children.now) page.new
-        ≡ with_one phase shard.now.rows agg.now (row_of shard.now.rows row)
+        ≡ after_each (with_one phase shard.now.rows agg.now) (map (row_of shard.now.rows) rows.now)
         (page_node (decoders shard.now children.now) page.old)) }
-    ensures bytes { IfOk result (λ after. after + node_cost (page_node (decoders shard.now children.now) page.old)
-        ≡ bytes + node_cost (page_node (decoders shard.now children.now) page.new)) }
+    ensures changes { OnOk result (AreChanges
+        (cost_after (with_one phase shard.now.rows agg.now) (map (row_of shard.now.rows) rows.now)
+        (page_node (decoders shard.now children.now) page.old))
+        (length rows.now) added.old.items removed.old.items added.new.items removed.new.items) }
 {
+    if added.len() != rows.len() {
+        return Err(AllocError);
+    }
+    if removed.len() != rows.len() {
+        return Err(AllocError);
+    }
     match phase {
         Phase::Matched => {
-            let change = gather_root(alloc, agg, children, shard, row, spare, page)?;
-            let after = sum(bytes, change.added)?;
-            Ok(after - change.removed)
+            gather_in_page(
+                alloc, agg, shard, rows, spare, children, page, added, removed,
+            )?;
+            Ok(())
         }
-        Phase::Global => Ok(bytes),
+        Phase::Global => Ok(()),
     }
 }
 
-/// The tree with one more root, which stands alone in the list, if the aggregation collects roots in this phase, and what all
-/// trees of the task cost then: they cost at least as much as the one.
+/// The tree with more roots, one after another, if the aggregation collects roots in this phase. What each adds to its cost is
+/// added to the root's one number, and what it takes from it to the other.
 pub(crate) fn collect(
     alloc: Global,
     phase: Phase,
     agg: &Agg,
     shard: &Shard,
-    rows: &List<u32>,
+    rows: &[u32],
     spare: &mut Vec<Vec<i64>>,
     top: &mut TopTree,
-    bytes: u64,
-) -> Result<u64, AllocError>
+    added: &mut Vec<u64>,
+    removed: &mut Vec<u64>,
+) -> Result<(), AllocError>
     requires ready { IsTopFor shard.now agg.now top.old }
     requires built { IsShard shard.now }
     requires apart { IsApart shard.now.rows }
-    requires alone { length rows.now ≡ 1 }
     requires in_range { All (λ n. n < length shard.now.rows) rows.now }
-    requires few { (root : PlacedRow) → map (row_of shard.now.rows) rows.now ≡ root ∷ [] →
-        HasFewKeys phase shard.now.rows agg.now root }
-    requires bytes { node_cost (top_node shard.now top.old) ≤ bytes }
+    requires few { (n : ℕ) → n < length rows.now →
+        HasFewKeys phase shard.now.rows agg.now (row_of shard.now.rows (slice_index rows.now n)) }
     ensures ready { OnOk result (IsTopFor shard.now agg.now top.new) }
-    ensures node { OnOk result ((root : PlacedRow) → map (row_of shard.now.rows) rows.now ≡ root ∷ [] →
-        top_node shard.now top.new ≡ with_one phase shard.now.rows agg.now root (top_node shard.now top.old)) }
-    ensures bytes { IfOk result (λ after. after + node_cost (top_node shard.now top.old)
-        ≡ bytes + node_cost (top_node shard.now top.new)) }
+    ensures node { OnOk result (top_node shard.now top.new
+        ≡ after_each (with_one phase shard.now.rows agg.now) (map (row_of shard.now.rows) rows.now) (top_node shard.now top.old)) }
+    ensures changes { OnOk result (AreChanges
+        (cost_after (with_one phase shard.now.rows agg.now) (map (row_of shard.now.rows) rows.now) (top_node shard.now top.old))
+        (length rows.now) added.old.items removed.old.items added.new.items removed.new.items) }
 {
     match top {
         TopTree::Tree { ready, tree } => {
-            let after = collect_in_tree(alloc, phase, agg, shard, rows, spare, ready, tree, bytes)?;
-            Ok(after)
+            collect_in_tree(alloc, phase, agg, shard, rows, spare, ready, tree, added)?;
+            Ok(())
         }
         TopTree::Page { children, page } => {
-            let row = rows.as_slice()[0];
-            let after = collect_in_page(
-                alloc, phase, agg, shard, row, spare, children, page, bytes,
+            collect_in_page(
+                alloc, phase, agg, shard, rows, spare, children, page, added, removed,
             )?;
-            Ok(after)
+            Ok(())
         }
     }
 }

@@ -86,14 +86,6 @@ handed-values all (kind.ReverseNested context) rows h = absurd (false≢true h)
 handed-values all kind.Global rows h = absurd (false≢true h)
 handed-values all _ rows h = refl
 
--- the first row of a list that has one
-pub first-row : (f : ℕ → PlacedRow) (given rows : List ℕ) (row : PlacedRow) → given ≡ rows → map f rows ≡ row ∷ [] → f (get_or given 0 0) ≡ row
-first-row f given rows row same is = ap (λ (rs : List ℕ). f (get_or rs 0 0)) same ∙ at rows is
-  where
-    at : (rows : List ℕ) → map f rows ≡ row ∷ [] → f (get_or rows 0 0) ≡ row
-    at [] is = absurd (cc is)
-    at (first ∷ rows) is = cc is
-
 -- the values of one more row
 pub metric-more : (k : Kind) (rows : List PlacedRow) (row : PlacedRow) (m : Metric) → gathered_metric k (rows ++ row ∷ []) m ≡ metric_with k row (gathered_metric k rows m)
 metric-more k [] row m = refl

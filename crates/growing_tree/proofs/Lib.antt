@@ -17,3 +17,6 @@ pub mod ReadyLaws
 pub mod EmptyCosts
 pub mod Reordered
 pub mod Turns
+pub mod Rises
+pub mod Each
+pub mod AllMetrics

@@ -9,6 +9,7 @@ pub mod Readiness
 pub mod Shown
 pub mod Grouped
 pub mod Gathered
+pub mod GatheredEach
 pub mod Finished
 pub mod Starting
 pub mod CodedBuckets

@@ -1,7 +1,6 @@
 //! More rows in a tree: those that an aggregation counts go into the buckets of their keys, and in each bucket into the trees
 //! of the aggregations below.
 ghost use Rattle.std.specs.Prelude.{◌≡◌, ◌<◌, ◌+◌, ◌∷◌, [], All, IfOk, IsTrue, List as AnyList, OnOk, length, map, sum_by};
-ghost use Rattle.std.specs.List.{list_all};
 ghost use Rattle.agg_model.specs.declared.key.Key.{Key};
 ghost use Rattle.agg_model.specs.declared.aggregation.Agg.{out-Agg};
 ghost use Rattle.agg_evaluation.specs.Cost.{node_cost};
@@ -24,8 +23,8 @@ use crate::groups::{Groups, group_rows};
 use crate::kinds::{
     are_metrics, ascend, has_buckets, has_fixed_keys, lone_code, place_of, row_codes, take_rows,
 };
+use crate::lone_rows::put_in_turn;
 use crate::ready::{Ready, ReadyKind};
-use crate::single::{one_row, with_row};
 use crate::sums::sum;
 use crate::tree::{Growing, Level, Tree};
 use agg_model::{Agg, Kind, List};
@@ -442,43 +441,6 @@ fn put_groups(
     Ok(added)
 }
 
-// The same row by row, which needs no groups: metrics take the rows of a bucket one after another as they take them at once. A
-// reverse nested aggregation would not, since one row may lie around several of them.
-#[cycle(gather)]
-fn put_in_turn(
-    alloc: Global,
-    agg: &Agg,
-    ready: &Ready,
-    shard: &Shard,
-    rows: &List<u32>,
-    spare: &mut Vec<Vec<i64>>,
-    level: &mut Level,
-) -> Result<u64, AllocError>
-    requires ready { IsReadyFor shard.now agg.now ready.now }
-    requires keyed { IsTrue (is_keyed (out-Ready ready.now).kind) }
-    requires metrics { IsTrue (list_all (λ a. is_metric (out-Agg a).kind) (out-Agg agg.now).children) }
-    requires built { IsShard shard.now }
-    requires apart { IsApart shard.now.rows }
-    requires in_range { All (λ n. n < length shard.now.rows) rows.now }
-    requires aligned { IsAligned level.old }
-    ensures buckets { OnOk result (shown_level shard.now ready.now level.new
-        ≡ gathered_buckets shard.now.rows (gatherers shard.now (out-Agg agg.now).children) (out-Agg agg.now).kind
-        (rows_at shard.now rows.now) (shown_level shard.now ready.now level.old)) }
-    ensures cost { IfOk result (λ added. sum_by bytes (shown_level shard.now ready.now level.new)
-        ≡ sum_by bytes (shown_level shard.now ready.now level.old) + added) }
-    ensures form { OnOk result (IsAlike level.old level.new) }
-    ensures aligned { IsAligned level.new }
-{
-    let mut single = one_row(alloc, 0)?;
-    let mut added = 0;
-    for row in rows.as_slice() {
-        single = with_row(single, *row);
-        let more = put_row(alloc, agg, ready, shard, &single, spare, level)?;
-        added = sum(added, more)?;
-    }
-    Ok(added)
-}
-
 // More rows that the aggregation counts, in the buckets of their keys.
 #[cycle(gather)]
 fn count_keyed(
@@ -504,13 +466,13 @@ fn count_keyed(
     ensures form { OnOk result (IsAlike level.old level.new) }
     ensures aligned { IsAligned level.new }
 {
-    if rows.len() == 1 {
-        let added = put_row(alloc, agg, ready, shard, rows, spare, level)?;
-        return Ok(added);
-    }
     if are_metrics(&agg.children) {
         let more = put_in_turn(alloc, agg, ready, shard, rows, spare, level)?;
         return Ok(more);
+    }
+    if rows.len() == 1 {
+        let added = put_row(alloc, agg, ready, shard, rows, spare, level)?;
+        return Ok(added);
     }
     let groups = group_rows(alloc, shard, &agg.kind, &ready.kind, ready.width, rows)?;
     let added = put_groups(alloc, agg, ready, shard, &groups, spare, level)?;
@@ -573,7 +535,7 @@ pub fn gather(
 /// Puts more rows that the aggregation counts into its tree, as those of the whole shard into that of a global aggregation. The
 /// answer is by how many bytes its cost rose. Lists of codes, errors and time as in `gather`.
 #[cycle(gather)]
-pub fn count(
+pub(crate) fn count(
     alloc: Global,
     agg: &Agg,
     ready: &Ready,

@@ -1,5 +1,5 @@
 //! What the kinds of aggregations make of codes and rows.
-ghost use Rattle.std.specs.Prelude.{◌≡◌, ◌<◌, All, IfOk, IfSome, IsTrue, OnOk, length, map, option_to_list, pos};
+ghost use Rattle.std.specs.Prelude.{◌≡◌, ◌<◌, ◌∷◌, [], All, IfOk, IfSome, IsTrue, OnOk, length, map, option_to_list, pos};
 ghost use Rattle.std.specs.List.{list_all};
 ghost use Rattle.std.specs.List.Sorted.{IsStrictlyIncreasing};
 ghost use Rattle.agg_model.specs.declared.aggregation.Agg.{out-Agg};
@@ -7,7 +7,7 @@ ghost use Rattle.agg_evaluation.specs.Cost.{key_bytes};
 ghost use Rattle.agg_evaluation.specs.Rows.{row_of};
 ghost use Rattle.shard_columns.specs.Columns.{Columns};
 ghost use Rattle.growing_tree.specs.Codes.{code_key, HasFixedKeys};
-ghost use Rattle.growing_tree.specs.Readiness.{IsKindReady, is_metric};
+ghost use Rattle.growing_tree.specs.Readiness.{IsKindReady, is_keyed as is_keyed_kind, is_metric};
 ghost use Rattle.agg_evaluation.specs.Keys.{keys};
 ghost use Rattle.shard_columns.specs.Built.{IsShard};
 ghost use Rattle.growth_laws.specs.Growth.{metric_with};
@@ -37,6 +37,16 @@ pub(crate) fn has_fixed_keys(kind: &ReadyKind) -> bool
         ReadyKind::Single | ReadyKind::Metric | ReadyKind::Filters(_) | ReadyKind::Composite =>
             true,
         ReadyKind::Terms(_) | ReadyKind::Histogram(_) => false,
+    }
+}
+
+/// Whether rows have their own keys.
+pub(crate) fn is_keyed(kind: &ReadyKind) -> bool
+    ensures { result ≡ is_keyed_kind kind.now }
+{
+    match kind {
+        ReadyKind::Terms(_) | ReadyKind::Filters(_) | ReadyKind::Histogram(_) => true,
+        ReadyKind::Single | ReadyKind::Metric | ReadyKind::Composite => false,
     }
 }
 
@@ -153,6 +163,27 @@ pub(crate) fn take_rows(
             for row in rows.as_slice() {
                 take_row(kind, shard, *row, taken)?;
             }
+            Ok(())
+        }
+        Level::Keyed(_) | Level::Fixed(_) => Err(AllocError),
+    }
+}
+
+/// The values of one more row, in a metric.
+pub(crate) fn take_one(
+    kind: &Kind,
+    shard: &Shard,
+    row: u32,
+    level: &mut Level,
+) -> Result<(), AllocError>
+    requires metric { IsTrue (is_metric kind.now) }
+    requires in_range { row < length shard.now.rows }
+    ensures values { OnOk result (TakesRows kind.now (row_of shard.now.rows row ∷ []) level.old level.new) }
+    ensures aligned { IsAligned level.old → IsAligned level.new }
+{
+    match level {
+        Level::Number(taken) => {
+            take_row(kind, shard, row, taken)?;
             Ok(())
         }
         Level::Keyed(_) | Level::Fixed(_) => Err(AllocError),

@@ -1,6 +1,7 @@
 //! The tree of an aggregation over the rows of a shard, in the form in which it grows (Elasticsearch Reference 8,
 //! 'Aggregations'): the tree over no row, what a bucket costs before its first row, the codes that stand for the keys of a row,
-//! the metric of the values taken so far, more rows in a tree, and a tree that has all its rows as what the shard answers.
+//! the metric of the values taken so far, more rows in a tree, at once or one after another, and a tree that has all its rows as
+//! what the shard answers.
 #![tactic(auto)]
 
 mod beginning;
@@ -8,7 +9,9 @@ mod coded;
 mod finishing;
 mod gathering;
 mod groups;
+mod in_turn;
 mod kinds;
+mod lone_rows;
 mod number;
 mod preparing;
 mod ready;
@@ -18,7 +21,8 @@ mod tree;
 
 pub use beginning::{begin, begin_trees, bucket_bytes};
 pub use finishing::{finish, finish_children};
-pub use gathering::{count, gather, gather_children};
+pub use gathering::{gather, gather_children};
+pub use in_turn::{count_each, gather_each};
 pub use kinds::{code_bytes, row_codes};
 pub use number::Taken;
 pub use preparing::{prepare, prepare_all};

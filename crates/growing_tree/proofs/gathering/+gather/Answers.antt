@@ -272,38 +272,6 @@ put_groups-returns-clause-buckets t c = λ rows_of h.
     c.loop-place.invariant.buckets rows_of h
     ∙ ap (λ ks. put_all rows_of (gatherers shard (out-Agg c.args.agg.now).children) ks (shown_level shard r c.args.level.now)) (take-full (map key_of codes) c.loop-place.place all)
 
-pub put_in_turn-loop-row-preserved : goal.put_in_turn-loop-row-preserved
-put_in_turn-loop-row-preserved t c =
-    let shard = c.args.shard.now in
-    let a = c.args.agg.now in
-    let k = (out-Agg a).kind in
-    let r = c.args.ready.now in
-    let key_of = key_at shard r in
-    let ds = decoders shard (out-Ready r).children in
-    let gs = gatherers shard (out-Agg a).children in
-    let row_at = row_of shard.rows in
-    let items = c.as_slice-row-items.result.now in
-    let i = c.loop-row.row-index in
-    let row = get_or items i 0 in
-    let l : i < length items = omega (arith, c.loop-row-test.true) in
-    let buckets = shown_level shard r c.args.level.now in
-    let ready = (level-ready shard a r c.requires.ready).kind in
-    let own = codes-own shard k (out-Ready r).kind ready in
-    let more = c.in_ok-more.ensures.cost in
-    let before = c.loop-row.invariant.cost in
-    let added : c.in_ok-added.added ≡ c.loop-row.added + c.in_ok-more.more = c.in_ok-added.ensures in
-    (record {
-      buckets = c.in_ok-more.ensures.buckets (row_at row) (ap (map row_at) c.with_row-single.ensures)
-          ∙ ap (put_all (λ q. row_at row ∷ []) gs (keys shard.rows k (row_at row))) c.loop-row.invariant.buckets
-          ∙ one-more gs (metrics-steps shard.rows (out-Agg a).children c.requires.metrics) shard.rows k (map row_at (take i items)) (row_at row) buckets
-          (keyed-keeps shard k (out-Ready r).kind ready c.requires.keyed) (level-up ds key_of own c.args.level.now c.requires.aligned)
-          ∙ ap (λ rs. gathered_buckets shard.rows gs k rs buckets) (sym (ap (map row_at) (take-more items i row (slice_get-get_or items i 0 l)) ∙ map-append row_at (take i items) (row ∷ [])));
-      cost = omega arith;
-      form = λ bs. c.in_ok-more.ensures.form bs ∙ c.loop-row.invariant.form bs;
-      aligned = λ h. c.in_ok-more.ensures.aligned (c.loop-row.invariant.aligned h);
-      single = ap (λ (rs : List ℕ). length rs) c.with_row-single.ensures;
-    })
-
 pub count_keyed-group_rows-requires-clause-ready : goal.count_keyed-group_rows-requires-clause-ready
 count_keyed-group_rows-requires-clause-ready t c = (level-ready c.args.shard.now c.args.agg.now c.args.ready.now c.requires.ready).kind
 

@@ -5,7 +5,7 @@ use Rattle.agg_model.specs.declared.key.Key.{Key}
 use Rattle.agg_evaluation.specs.Cost.{node_cost}
 use Rattle.agg_evaluation.specs.Rows.{PlacedRow}
 use Rattle.evaluation_laws.proofs.CostLaws.{bytes}
-use Rattle.growth_laws.specs.Gathering.{gathered_buckets, gathered_children}
+use Rattle.growth_laws.specs.Gathering.{gathered_children}
 use Rattle.growing_tree.specs.Gathered.{gatherers, key_at, rows_at, shown_children, shown_level}
 use Rattle.growing_tree.specs.Shown.{IsAlike, put_all}
 use Rattle.growing_tree.specs.Trees.{IsAligned}
@@ -36,16 +36,6 @@ invariant-put_groups-loop-place l = record {
   aligned : IsAligned l.fn.level → IsAligned l.level;
 }
 
-abbrev pub invariant-put_in_turn-loop-row : goal.invariant-put_in_turn-loop-row
-invariant-put_in_turn-loop-row l = record {
-  buckets : shown_level l.shard l.ready l.level
-      ≡ gathered_buckets l.shard.rows (gatherers l.shard (out-Agg l.agg).children) (out-Agg l.agg).kind (rows_at l.shard (take l.row-index l.row-items)) (shown_level l.shard l.ready l.fn.level);
-  cost : sum_by bytes (shown_level l.shard l.ready l.level) ≡ sum_by bytes (shown_level l.shard l.ready l.fn.level) + l.added;
-  form : IsAlike l.fn.level l.level;
-  aligned : IsAligned l.fn.level → IsAligned l.level;
-  single : length l.single ≡ 1;
-}
-
 -- the depth of the aggregation falls at its children; within one level a caller stands above what it calls
 abbrev pub decreases-gather_children : goal.decreases-gather_children
 decreases-gather_children l = 11 * most size-Agg l.aggs.now + 9
@@ -73,9 +63,6 @@ decreases-put_row l = 11 * size-Agg l.agg.now + 3
 
 abbrev pub decreases-put_groups : goal.decreases-put_groups
 decreases-put_groups l = 11 * size-Agg l.agg.now + 2
-
-abbrev pub decreases-put_in_turn : goal.decreases-put_in_turn
-decreases-put_in_turn l = 11 * size-Agg l.agg.now + 4
 
 abbrev pub decreases-count_keyed : goal.decreases-count_keyed
 decreases-count_keyed l = 11 * size-Agg l.agg.now + 5

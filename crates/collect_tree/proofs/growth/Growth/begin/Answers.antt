@@ -1,4 +1,4 @@
-use Rattle.std.proofs.Common.{ℕ, ◌∷◌, [], ◌++◌, List, length, sym, ◌∙◌, ap}
+use Rattle.std.proofs.Common.{sym, ◌∙◌}
 use Rattle.std.proofs.lemmas.Option.{slice_get-get_or}
 use Rattle.agg_evaluation.specs.Whole.{empty_node}
 use Rattle.collect_tree.proofs.Made.{agg-made, is-shard}
@@ -26,5 +26,4 @@ returns c =
       ready = ready;
       nodes = λ n a top at there. nodes n a top at there ∙ sym (first-tree shard search c.requires.made a);
       bytes_are = c.in_ok-bytes.ensures ∙ sym (sum-tops shard empty_node search.aggs c.in_ok-trees.trees.items ready.count nodes);
-      one = ap (λ (xs : List ℕ). length xs) (c.in_ok-push.ensures.ok ∙ ap (λ (xs : List ℕ). xs ++ 0 ∷ []) c.new-row.ensures);
     }

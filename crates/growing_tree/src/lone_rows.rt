@@ -1,0 +1,333 @@
+//! Single rows in the buckets of an aggregation below which there are metrics, or nothing: they need no list of rows, and no
+//! call on the way down calls itself.
+ghost use Rattle.std.specs.Prelude.{◌≡◌, ◌<◌, ◌+◌, ◌∷◌, [], All, IfOk, IsTrue, OnOk, length, map, sum_by};
+ghost use Rattle.std.specs.List.{list_all};
+ghost use Rattle.agg_model.specs.declared.aggregation.Agg.{out-Agg};
+ghost use Rattle.agg_evaluation.specs.Cost.{node_cost};
+ghost use Rattle.agg_evaluation.specs.Keys.{keys};
+ghost use Rattle.agg_evaluation.specs.Rows.{row_of};
+ghost use Rattle.evaluation_laws.proofs.CostLaws.{bytes};
+ghost use Rattle.shard_columns.specs.Built.{IsShard};
+ghost use Rattle.growth_laws.specs.Gathering.{gathered, gathered_buckets, gathered_children, put_rows};
+ghost use Rattle.growing_tree.specs.Codes.{HasFixedKeys};
+ghost use Rattle.growing_tree.specs.Decoded.{decoded};
+ghost use Rattle.growing_tree.specs.Gathered.{decoders, gatherers, key_at, rows_at, shown_children, shown_fixed, shown_keyed, shown_level};
+ghost use Rattle.growing_tree.specs.Readiness.{IsReadyFor, is_keyed, is_metric};
+ghost use Rattle.growing_tree.specs.Shown.{HasGathered, IsAlike, put_all};
+ghost use Rattle.growing_tree.specs.Trees.{IsAligned, IsIndexed};
+ghost use Rattle.growing_tree.specs.declared.ready.Ready.{out-Ready};
+
+use crate::beginning::{begin_bucket, bucket_bytes};
+use crate::kinds::{has_fixed_keys, lone_code, place_of, row_codes, take_one};
+use crate::ready::Ready;
+use crate::sums::sum;
+use crate::tree::{Growing, Level, Tree};
+use agg_model::{Agg, List};
+use bucket_places::{Place, Places};
+use shard_columns::Shard;
+use std::alloc::{AllocError, Global};
+
+/// The values of one more row in the tree of a metric, which costs what it did.
+pub(crate) fn take_in_tree(
+    agg: &Agg,
+    ready: &Ready,
+    shard: &Shard,
+    row: u32,
+    tree: &mut Tree,
+) -> Result<(), AllocError>
+    requires metric { IsTrue (is_metric (out-Agg agg.now).kind) }
+    requires in_range { row < length shard.now.rows }
+    ensures tree { OnOk result (decoded shard.now ready.now tree.new
+        ≡ gathered shard.now.rows agg.now (row_of shard.now.rows row ∷ []) (decoded shard.now ready.now tree.old)) }
+    ensures cost { OnOk result (node_cost (decoded shard.now ready.now tree.new)
+        ≡ node_cost (decoded shard.now ready.now tree.old)) }
+{
+    take_one(&agg.kind, shard, row, &mut tree.level)?;
+    Ok(())
+}
+
+// The values of one more row in the metrics of a bucket.
+fn take_in_children(
+    aggs: &List<Agg>,
+    ready: &List<Ready>,
+    shard: &Shard,
+    row: u32,
+    children: &mut Vec<Tree>,
+) -> Result<(), AllocError>
+    requires metrics { IsTrue (list_all (λ a. is_metric (out-Agg a).kind) aggs.now) }
+    requires in_range { row < length shard.now.rows }
+    ensures trees { OnOk result (shown_children shard.now ready.now children.new.items
+        ≡ gathered_children (gatherers shard.now aggs.now) (row_of shard.now.rows row ∷ [])
+        (shown_children shard.now ready.now children.old.items)) }
+    ensures cost { OnOk result (sum_by node_cost (shown_children shard.now ready.now children.new.items)
+        ≡ sum_by node_cost (shown_children shard.now ready.now children.old.items)) }
+{
+    for place in 0..aggs.len() {
+        if place >= ready.len() {
+            return Err(AllocError);
+        }
+        if place >= children.len() {
+            return Err(AllocError);
+        }
+        take_in_tree(
+            &aggs.as_slice()[place],
+            &ready.as_slice()[place],
+            shard,
+            row,
+            &mut children[place],
+        )?;
+    }
+    Ok(())
+}
+
+// One more row in a bucket.
+fn take_in_bucket(
+    aggs: &List<Agg>,
+    ready: &List<Ready>,
+    shard: &Shard,
+    row: u32,
+    bucket: &mut Growing,
+) -> Result<(), AllocError>
+    requires metrics { IsTrue (list_all (λ a. is_metric (out-Agg a).kind) aggs.now) }
+    requires in_range { row < length shard.now.rows }
+    ensures bucket { OnOk result (HasGathered (gatherers shard.now aggs.now) (row_of shard.now.rows row ∷ [])
+        (decoders shard.now ready.now) bucket.old bucket.new) }
+    ensures cost { OnOk result (sum_by node_cost (shown_children shard.now ready.now bucket.new.children.items)
+        ≡ sum_by node_cost (shown_children shard.now ready.now bucket.old.children.items)) }
+{
+    bucket.count = sum(bucket.count, 1)?;
+    take_in_children(aggs, ready, shard, row, &mut bucket.children)?;
+    Ok(())
+}
+
+// One more row in the bucket of a code, among the buckets of codes.
+fn put_one_coded(
+    alloc: Global,
+    agg: &Agg,
+    ready: &Ready,
+    shard: &Shard,
+    row: u32,
+    code: i64,
+    places: &mut Places,
+    buckets: &mut Vec<Growing>,
+) -> Result<u64, AllocError>
+    requires ready { IsReadyFor shard.now agg.now ready.now }
+    requires metrics { IsTrue (list_all (λ a. is_metric (out-Agg a).kind) (out-Agg agg.now).children) }
+    requires in_range { row < length shard.now.rows }
+    ensures buckets { OnOk result (shown_keyed shard.now ready.now places.new buckets.new.items
+        ≡ put_rows (gatherers shard.now (out-Agg agg.now).children) (row_of shard.now.rows row ∷ [])
+        (key_at shard.now ready.now code)
+        (shown_keyed shard.now ready.now places.old buckets.old.items)) }
+    ensures cost { IfOk result (λ added. sum_by bytes (shown_keyed shard.now ready.now places.new buckets.new.items)
+        ≡ sum_by bytes (shown_keyed shard.now ready.now places.old buckets.old.items) + added) }
+    ensures aligned { IsIndexed places.old buckets.old.items → IsIndexed places.new buckets.new.items }
+{
+    let found = places.find_or_add(code)?;
+    match found {
+        Place::Found(place) => {
+            if place >= buckets.len() {
+                return Err(AllocError);
+            }
+            take_in_bucket(
+                &agg.children,
+                &ready.children,
+                shard,
+                row,
+                &mut buckets[place],
+            )?;
+            Ok(0)
+        }
+        Place::Added(place) => {
+            if place != buckets.len() {
+                return Err(AllocError);
+            }
+            let begun = bucket_bytes(shard, &agg.kind, ready, code)?;
+            let mut bucket = begin_bucket(alloc, &agg.children, &ready.children)?;
+            take_in_bucket(&agg.children, &ready.children, shard, row, &mut bucket)?;
+            buckets.push(bucket)?;
+            Ok(begun)
+        }
+    }
+}
+
+// One more row in the bucket that exists from the start under this number, whose cost stays.
+fn put_one_fixed(
+    agg: &Agg,
+    ready: &Ready,
+    shard: &Shard,
+    row: u32,
+    code: i64,
+    buckets: &mut Vec<Growing>,
+) -> Result<(), AllocError>
+    requires metrics { IsTrue (list_all (λ a. is_metric (out-Agg a).kind) (out-Agg agg.now).children) }
+    requires fixed { HasFixedKeys shard.now (out-Ready ready.now).kind }
+    requires in_range { row < length shard.now.rows }
+    ensures buckets { OnOk result (shown_fixed shard.now ready.now buckets.new.items
+        ≡ put_rows (gatherers shard.now (out-Agg agg.now).children) (row_of shard.now.rows row ∷ [])
+        (key_at shard.now ready.now code)
+        (shown_fixed shard.now ready.now buckets.old.items)) }
+    ensures cost { OnOk result (sum_by bytes (shown_fixed shard.now ready.now buckets.new.items)
+        ≡ sum_by bytes (shown_fixed shard.now ready.now buckets.old.items)) }
+{
+    let place = place_of(code)?;
+    if place >= buckets.len() {
+        return Err(AllocError);
+    }
+    take_in_bucket(
+        &agg.children,
+        &ready.children,
+        shard,
+        row,
+        &mut buckets[place],
+    )?;
+    Ok(())
+}
+
+// One more row in the bucket of a code.
+fn put_one(
+    alloc: Global,
+    agg: &Agg,
+    ready: &Ready,
+    shard: &Shard,
+    row: u32,
+    code: i64,
+    level: &mut Level,
+) -> Result<u64, AllocError>
+    requires ready { IsReadyFor shard.now agg.now ready.now }
+    requires metrics { IsTrue (list_all (λ a. is_metric (out-Agg a).kind) (out-Agg agg.now).children) }
+    requires in_range { row < length shard.now.rows }
+    ensures buckets { OnOk result (shown_level shard.now ready.now level.new
+        ≡ put_rows (gatherers shard.now (out-Agg agg.now).children) (row_of shard.now.rows row ∷ [])
+        (key_at shard.now ready.now code)
+        (shown_level shard.now ready.now level.old)) }
+    ensures cost { IfOk result (λ added. sum_by bytes (shown_level shard.now ready.now level.new)
+        ≡ sum_by bytes (shown_level shard.now ready.now level.old) + added) }
+    ensures form { OnOk result (IsAlike level.old level.new) }
+    ensures aligned { IsAligned level.old → IsAligned level.new }
+{
+    match level {
+        Level::Keyed(keyed) => {
+            let more = put_one_coded(
+                alloc,
+                agg,
+                ready,
+                shard,
+                row,
+                code,
+                &mut keyed.places,
+                &mut keyed.buckets,
+            )?;
+            Ok(more)
+        }
+        Level::Fixed(buckets) => {
+            if !has_fixed_keys(&ready.kind) {
+                return Err(AllocError);
+            }
+            put_one_fixed(agg, ready, shard, row, code, buckets)?;
+            Ok(0)
+        }
+        Level::Number(_) => Err(AllocError),
+    }
+}
+
+// One more row in the buckets of its codes, one after another.
+fn put_one_at(
+    alloc: Global,
+    agg: &Agg,
+    ready: &Ready,
+    shard: &Shard,
+    row: u32,
+    codes: &[i64],
+    level: &mut Level,
+) -> Result<u64, AllocError>
+    requires ready { IsReadyFor shard.now agg.now ready.now }
+    requires metrics { IsTrue (list_all (λ a. is_metric (out-Agg a).kind) (out-Agg agg.now).children) }
+    requires in_range { row < length shard.now.rows }
+    ensures buckets { OnOk result (shown_level shard.now ready.now level.new
+        ≡ put_all (λ k. row_of shard.now.rows row ∷ []) (gatherers shard.now (out-Agg agg.now).children)
+        (map (key_at shard.now ready.now) codes.now)
+        (shown_level shard.now ready.now level.old)) }
+    ensures cost { IfOk result (λ added. sum_by bytes (shown_level shard.now ready.now level.new)
+        ≡ sum_by bytes (shown_level shard.now ready.now level.old) + added) }
+    ensures form { OnOk result (IsAlike level.old level.new) }
+    ensures aligned { IsAligned level.old → IsAligned level.new }
+{
+    let mut added = 0;
+    for place in 0..codes.len() {
+        let more = put_one(alloc, agg, ready, shard, row, codes[place], level)?;
+        added = sum(added, more)?;
+    }
+    Ok(added)
+}
+
+/// One more row in the buckets of its keys. The answer is by how many bytes their cost rose.
+pub(crate) fn put_alone(
+    alloc: Global,
+    agg: &Agg,
+    ready: &Ready,
+    shard: &Shard,
+    row: u32,
+    spare: &mut Vec<Vec<i64>>,
+    level: &mut Level,
+) -> Result<u64, AllocError>
+    requires ready { IsReadyFor shard.now agg.now ready.now }
+    requires metrics { IsTrue (list_all (λ a. is_metric (out-Agg a).kind) (out-Agg agg.now).children) }
+    requires built { IsShard shard.now }
+    requires in_range { row < length shard.now.rows }
+    ensures buckets { OnOk result (shown_level shard.now ready.now level.new
+        ≡ put_all (λ k. row_of shard.now.rows row ∷ []) (gatherers shard.now (out-Agg agg.now).children)
+        (keys shard.now.rows (out-Agg agg.now).kind (row_of shard.now.rows row))
+        (shown_level shard.now ready.now level.old)) }
+    ensures cost { IfOk result (λ added. sum_by bytes (shown_level shard.now ready.now level.new)
+        ≡ sum_by bytes (shown_level shard.now ready.now level.old) + added) }
+    ensures form { OnOk result (IsAlike level.old level.new) }
+    ensures aligned { IsAligned level.old → IsAligned level.new }
+{
+    match lone_code(shard, &agg.kind, &ready.kind, row) {
+        Some(Some(code)) => {
+            let more = put_one(alloc, agg, ready, shard, row, code, level)?;
+            Ok(more)
+        }
+        Some(None) => Ok(0),
+        None => {
+            let mut codes = spare.pop().unwrap_or(Vec::new(alloc));
+            row_codes(shard, &agg.kind, &ready.kind, row, &mut codes)?;
+            let more = put_one_at(alloc, agg, ready, shard, row, codes.as_slice(), level)?;
+            spare.push(codes)?;
+            Ok(more)
+        }
+    }
+}
+
+/// More rows in the buckets of their keys, row by row, which needs no groups: metrics take the rows of a bucket one after another
+/// as they take them at once. A reverse nested aggregation would not, since one row may lie around several of them.
+pub(crate) fn put_in_turn(
+    alloc: Global,
+    agg: &Agg,
+    ready: &Ready,
+    shard: &Shard,
+    rows: &List<u32>,
+    spare: &mut Vec<Vec<i64>>,
+    level: &mut Level,
+) -> Result<u64, AllocError>
+    requires ready { IsReadyFor shard.now agg.now ready.now }
+    requires keyed { IsTrue (is_keyed (out-Ready ready.now).kind) }
+    requires metrics { IsTrue (list_all (λ a. is_metric (out-Agg a).kind) (out-Agg agg.now).children) }
+    requires built { IsShard shard.now }
+    requires in_range { All (λ n. n < length shard.now.rows) rows.now }
+    requires aligned { IsAligned level.old }
+    ensures buckets { OnOk result (shown_level shard.now ready.now level.new
+        ≡ gathered_buckets shard.now.rows (gatherers shard.now (out-Agg agg.now).children) (out-Agg agg.now).kind
+        (rows_at shard.now rows.now) (shown_level shard.now ready.now level.old)) }
+    ensures cost { IfOk result (λ added. sum_by bytes (shown_level shard.now ready.now level.new)
+        ≡ sum_by bytes (shown_level shard.now ready.now level.old) + added) }
+    ensures form { OnOk result (IsAlike level.old level.new) }
+    ensures aligned { IsAligned level.new }
+{
+    let mut added = 0;
+    for row in rows.as_slice() {
+        let more = put_alone(alloc, agg, ready, shard, *row, spare, level)?;
+        added = sum(added, more)?;
+    }
+    Ok(added)
+}
