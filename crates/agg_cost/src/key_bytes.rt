@@ -46,8 +46,7 @@ fn bytes_of_parts(shard: &Shard, sources: &List<CompositeSource>) -> u64
     bytes
 }
 
-/// A bound on the bytes of an aggregation's keys in this shard, or the greatest number of 64 bits where it is above that. It
-/// takes time by the words of the fields.
+/// A bound on the bytes of an aggregation's keys in this shard, or the greatest number of 64 bits where it is above that.
 pub fn key_bytes(shard: &Shard, kind: &Kind) -> u64
     requires { HasFields shard.now kind.now }
     ensures { result ≡ capped (key_bound shard.now.kinds shard.now.rows kind.now) }

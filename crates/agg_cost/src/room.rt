@@ -83,9 +83,9 @@ fn rooms_by_ceilings<R: Threads + Sync>(
 /// 2^50 for all together. None where the search is too wide, which is so where it has no ceiling by `search_ceiling`. The search is
 /// made for the mapping of the index.
 ///
-/// Where a bound on the ceilings settles it, the rooms are the bounds: each aggregation's fields of keys are counted once row by row,
-/// twice at a composite, with no memory but 8 bytes a shard. Else the rooms are the ceilings themselves, which take the time and memory
-/// of `ceilings` beside that. It fails only where memory is wanting.
+/// Where a bound on the ceilings settles it, the rooms are the bounds, which take time by the aggregations and shards alone, and 8 bytes
+/// a shard. Else the rooms are the ceilings themselves, which take the time and memory of `ceilings` beside that. It fails only where
+/// memory is wanting.
 pub fn rooms<R: Threads + Sync>(
     rt: &R,
     alloc: Global,

@@ -1,11 +1,11 @@
-//! What tasks can hold at most, by bounds that follow no path to a row. They count each aggregation's fields of keys in one pass
-//! over all rows, at a composite in two. Whether a search is too wide, by these bounds where they settle it.
+//! What tasks can hold at most, by bounds that read no row: the values that a row has at most of each aggregation's fields of keys.
+//! Whether a search is too wide, by these bounds where they settle it.
 ghost use Rattle.std.specs.Prelude.{◌≡◌, ◌+◌, ◌*◌, ◌^◌, ◌<◌, IfOk, IfSome, IsTrue, is_none, length, true};
 ghost use Rattle.agg_cost.specs.Fields.{HasFields};
 ghost use Rattle.agg_cost.specs.Searches.{AreApart, kinds_of};
 ghost use Rattle.agg_cost.specs.Staying.{stays};
 ghost use Rattle.agg_cost.specs.Widths.{HandsOnAtMost, HasCeilingAtMost, HasCombinationsAtMost, HasKeysAtMost};
-ghost use Rattle.agg_cost.specs.Widths.{HasSumAtMost, HasValuesAtMost, HoldsAtMost, IsNarrow};
+ghost use Rattle.agg_cost.specs.Widths.{HasSumAtMost, HoldsAtMost, IsNarrow};
 ghost use Rattle.agg_evaluation.specs.Ceiling.{key_bound, search_ceiling as ceiling_of_search};
 ghost use Rattle.agg_evaluation.specs.SearchFits.{search_fits};
 ghost use Rattle.agg_model.specs.declared.costs.TheConstants.{BUCKET_BYTES, NODE_BYTES};
@@ -22,24 +22,13 @@ use agg_model::{Agg, CompositeSource, Kind, List, Search};
 use shard_columns::{Index, Shard};
 use std::alloc::{AllocError, Global};
 
-// The greatest number of values that a row has of the field.
-fn most_values(shard: &Shard, field: u32) -> u32
-    ensures { HasValuesAtMost result field shard.now.rows }
-{
-    let mut most = 0;
-    for row in 0..shard.len() {
-        most = most.max(shard.value_count(row, field));
-    }
-    most
-}
-
 // How many combinations of keys a row has at most; none where 64 bits do not tell them.
 fn most_combinations(shard: &Shard, sources: &List<CompositeSource>) -> Option<u64>
     ensures { IfSome result (λ most. HasCombinationsAtMost most sources.now shard.now.rows) }
 {
     let mut most = 1_u64;
     for source in sources.as_slice() {
-        let keys = u64::from(most_values(shard, source.field)).max(1);
+        let keys = u64::from(shard.most_values(source.field)).max(1);
         most = most.checked_mul(keys)?;
     }
     Some(most)
@@ -50,8 +39,8 @@ fn most_keys(shard: &Shard, kind: &Kind) -> Option<u64>
     ensures { IfSome result (λ most. HasKeysAtMost most kind.now shard.now.rows) }
 {
     match kind {
-        Kind::Terms { field, .. } => Some(u64::from(most_values(shard, *field)).max(1)),
-        Kind::Histogram { field, .. } => Some(u64::from(most_values(shard, *field)).max(1)),
+        Kind::Terms { field, .. } => Some(u64::from(shard.most_values(*field)).max(1)),
+        Kind::Histogram { field, .. } => Some(u64::from(shard.most_values(*field)).max(1)),
         Kind::Filters { filters, .. } => (filters.len() as u64).checked_add(1),
         Kind::Composite { sources, .. } => most_combinations(shard, sources),
         Kind::Filter { .. }
@@ -177,9 +166,8 @@ fn search_most(index: &Index, search: &Search) -> Option<u64>
 }
 
 /// Whether a search over all shards of an index is too wide, which is so where it has no ceiling by `search_ceiling`. The search is
-/// made for the mapping of the index. Where a bound on the ceiling settles it, each field of keys is counted once row by row for
-/// each aggregation, twice at a composite, without memory; else it takes as much as `search_ceiling`. It fails only where memory
-/// is wanting.
+/// made for the mapping of the index. Where a bound on the ceiling settles it, it takes time by the aggregations and shards alone, and
+/// no memory; else as much as `search_ceiling`. It fails only where memory is wanting.
 pub fn is_too_wide(alloc: Global, index: &Index, search: &Search) -> Result<bool, AllocError>
     requires apart { AreApart index.now.shards }
     requires made { IsTrue (search_fits index.now.mapping search.now) }

@@ -9,6 +9,7 @@ pub mod Finishing
 pub mod Filling
 pub mod Growing
 pub mod Presenting
+pub mod Counting
 pub mod Ascending
 pub mod Noting
 pub mod Ranking

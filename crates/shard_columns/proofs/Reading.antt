@@ -27,6 +27,7 @@ use Rattle.agg_model.specs.FieldKinds.{is_of_kind, is_whole_kind}
 use Rattle.agg_model.specs.declared.row.Scalar.{Scalar}
 use Rattle.agg_model.specs.declared.row.FieldValues.{FieldValues}
 use Rattle.shard_columns.specs.Columns.{Columns}
+use Rattle.shard_columns.specs.Counts.{most_values}
 use Rattle.shard_columns.specs.Layout.{context_of, numbers_at}
 use Rattle.shard_columns.specs.Values.{Words, by_words, row_values, held_values, found_values, present_from, column_values, scalars, span_of, typed_len, is_taken, words_in}
 use Rattle.shard_columns.specs.Columnar.{IsColumn, wholes_part, ordinals_part, flags_part}
@@ -88,6 +89,9 @@ module _ (s : Inside) (v : Columns) (view : columns_of s ≡ v) (sound : IsSound
 
   pub context-is : (n : ℕ) (e : Entry) → n < length v.rows → e ≡ get_or s.rows.items n e → (row_of v.rows n).context ≡ context_of e.origin
   context-is n e below is = ap (λ (rs : List PlacedRow). (row_of rs n).context) (sym rows-are) ∙ context-at s.ids s.rows.items (vals s) n e (aligned s) (in-range n below) is
+
+  pub most-is : (field : ℕ) → get_or s.most.items field 0 ≡ most_values field v.rows
+  most-is field = sound.most field ∙ ap (most_values field) rows-are
 
   pub rows-few : length v.rows < 2 ^ 32
   rows-few = omega (arith, rows-light v.rows, ap rows_weight rows-are, sound.light)

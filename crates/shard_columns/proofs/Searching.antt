@@ -34,6 +34,12 @@ cut-filter p (x ∷ xs) (suc s) (suc e) le within front middle back =
     ap (λ (n : ℕ). take n (drop s xs)) (let down : suc e - suc s ≡ e - s = omega arith in down) ∙ cut-filter p xs s e (omega arith) (omega arith) (λ k b. front (suc k) (omega arith)) (λ k a b. middle (suc k) (omega arith) (omega arith)) (λ k a b. back (suc k) (omega arith) (omega arith))
     ∙ ap (λ (b : Bool). cond b (x ∷ filter p xs) (filter p xs)) (sym (front 0 (omega arith)))
 
+-- within a list no default is read
+get_or-within : (xs : List ℕ) (k d : ℕ) → k < length xs → get_or xs k d ≡ get_or xs k 0
+get_or-within [] k d low = absurd (omega (arith, low))
+get_or-within (x ∷ xs) zero d low = refl
+get_or-within (x ∷ xs) (suc k) d low = get_or-within xs k d (omega (arith, low))
+
 -- rising numbers rise over any distance
 pub rises-far : (xs : List ℕ) → IsStrictlyIncreasing xs → (i j : ℕ) → i < j → j < length xs → get_or xs i 0 < get_or xs j 0
 rises-far xs rise i zero before within = absurd (omega arith)
@@ -57,6 +63,36 @@ IsNonDecreasingBy-rising n xs rise i j d le within =
       | inl far ↦ (let up = rises-by n xs rise i j d far within in omega (arith, up))
       | inr near ↦ subst (λ (k : ℕ). n (get_or xs i d) ≤ n (get_or xs k d)) (let e : i ≡ j = omega arith in e) (omega arith)
     ]
+
+-- numbers up to one that is below a bound are below it
+pub front-below-bound : (xs : List ℕ) (bound count : ℕ) → IsStrictlyIncreasing xs → count ≤ length xs → get_or xs (count - 1) 0 < bound → (k d : ℕ) → k < count → nat_lt (get_or xs k d) bound ≡ true
+front-below-bound xs bound count rise within last k d low =
+    let same = get_or-within xs k d (omega (arith, low, within)) in
+    let less : get_or xs k d < bound = elim (cases_lt k (count - 1)) [
+      | inl before ↦ (let far = rises-far xs rise k (count - 1) before (omega (arith, low, within)) in omega (arith, far, last, same))
+      | inr at ↦ (let here : get_or xs k 0 ≡ get_or xs (count - 1) 0 = ap (λ (n : ℕ). get_or xs n 0) (let e : k ≡ count - 1 = omega (arith, at, low) in e) in omega (arith, here, last, same))
+    ] in
+    lt-true (get_or xs k d) bound less
+  where
+    lt-true : (m n : ℕ) → m < n → nat_lt m n ≡ true
+    lt-true m n less = grind (arith, nat_tests)
+
+-- numbers from one on that is not below a bound are not below it
+pub rest-not-below : (xs : List ℕ) (bound count : ℕ) → IsStrictlyIncreasing xs → nat_le bound (get_or xs count 0) ≡ true → (k d : ℕ) → count ≤ k → k < length xs → nat_lt (get_or xs k d) bound ≡ false
+rest-not-below xs bound count rise test k d up low =
+    let first = le-true bound (get_or xs count 0) test in
+    let same = get_or-within xs k d low in
+    let more : bound ≤ get_or xs k d = elim (cases_lt count k) [
+      | inl past ↦ (let far = rises-far xs rise count k past low in omega (arith, far, first, same))
+      | inr at ↦ (let here : get_or xs k 0 ≡ get_or xs count 0 = ap (λ (n : ℕ). get_or xs n 0) (let e : k ≡ count = omega (arith, at, up) in e) in omega (arith, here, first, same))
+    ] in
+    lt-false (get_or xs k d) bound more
+  where
+    le-true : (m n : ℕ) → nat_le m n ≡ true → m ≤ n
+    le-true m n test = grind (arith, nat_tests)
+
+    lt-false : (m n : ℕ) → n ≤ m → nat_lt m n ≡ false
+    lt-false m n more = grind (arith, nat_tests)
 
 pub map-same : (xs : List ℕ) → map (λ (n : ℕ). n) xs ≡ xs
 map-same [] = refl

@@ -23,7 +23,7 @@ use Rattle.shard_columns.specs.Values.{Words, word_in, words_in}
 use Rattle.agg_evaluation.specs.RowsWeight.{row_weight, rows_weight}
 use Rattle.agg_model.specs.Weight.{scalar_weight, field_weight}
 use Rattle.shard_columns.proofs.Dictionaries.{found_values, sum-cons, dictionary_bytes-words}
-use Rattle.shard_columns.proofs.Laying.{take-next}
+use Rattle.shard_columns.proofs.Counting.{more}
 
 abbrev one_more : List ℕ → ℕ
 one_more w = 1 + length w
@@ -111,9 +111,6 @@ bytes-words (w ∷ ws) = omega (arith, bytes-words ws, sum_by-cons one_more w ws
 
 -- the longest of distinct words is the longest of all
 
-abbrev more : ℕ → ℕ → ℕ
-more n rest = cond (nat_lt n rest) rest n
-
 more-swap : (a b r : ℕ) → more a (more b r) ≡ more b (more a r)
 more-swap a b r = grind (arith, nat_tests)
 
@@ -136,26 +133,6 @@ ascending-longest (w ∷ ws) = insert-longest w (ascending (slice_cmp nat_cmp) w
 
 pub longest-words : (f : ℕ) (rows : List PlacedRow) → greatest_of (map length (words_of f rows)) ≡ longest_word f rows
 longest-words f rows = ascending-longest (all_words f rows)
-
-greatest-push : (ns : List ℕ) (n : ℕ) → greatest_of (ns ++ n ∷ []) ≡ more (greatest_of ns) n
-greatest-push [] n = only n
-  where
-    only : (n : ℕ) → more n 0 ≡ more 0 n
-    only n = grind (arith, nat_tests)
-greatest-push (m ∷ ms) n = ap (more m) (greatest-push ms n) ∙ regroup m (greatest_of ms) n
-  where
-    regroup : (a b c : ℕ) → more a (more b c) ≡ more (more a b) c
-    regroup a b c = grind (arith, nat_tests)
-
-max-more : (a b : ℕ) → ord_max nat_cmp a b ≡ more a b
-max-more a b = grind (arith, nat_tests)
-
--- the longest of one more word
-pub longest-more : (words : Words) (i : ℕ) (word : List ℕ) (longest bytes new : ℕ) → i < length words → word ≡ get_or words i word → bytes ≡ length word → longest ≡ greatest_of (map length (take i words)) →
-    new ≡ ord_max nat_cmp longest bytes → new ≡ greatest_of (map length (take (i + 1) words))
-longest-more words i word longest bytes new below is bytes_are before max =
-    let next : map length (take (i + 1) words) ≡ map length (take i words) ++ length word ∷ [] = ap (map length) (take-next words i word below is) ∙ map-append length (take i words) (word ∷ []) in
-    max ∙ (max-more longest bytes ∙ ((λ j. more (before j) (bytes_are j)) ∙ sym (ap greatest_of next ∙ greatest-push (map length (take i words)) (length word))))
 
 -- the bytes of all dictionaries, by the fields
 by-place : (g : ℕ → Words) (xs : List Words) (a : ℕ) → ((k : ℕ) → k < length xs → get_or xs k [] ≡ g (a + k)) → sum_by (λ ws. sum_by length ws) xs ≡ sum_by (λ f. sum_by length (g f)) (range_with_len a (length xs))

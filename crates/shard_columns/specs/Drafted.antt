@@ -1,10 +1,11 @@
 -- A shard that grows document by document: what it holds of the documents so far.
-use Rattle.std.specs.Prelude.{◌≡◌, ℕ, ◌+◌, ◌<◌, ◌≤◌, List, [], ◌∷◌, ◌++◌, map, flat_map, length, IsTrue}
+use Rattle.std.specs.Prelude.{◌≡◌, ℕ, ◌+◌, ◌<◌, ◌≤◌, List, [], ◌∷◌, ◌++◌, map, flat_map, length, slice_index_or, IsTrue}
 use Rattle.agg_model.specs.declared.limits.TheConstants.{MAX_PATHS, WEIGHT_LIMIT}
 use Rattle.agg_model.specs.declared.mapping.FieldKind.{FieldKind}
 use Rattle.agg_model.specs.declared.mapping.Mapping.{Mapping}
 use Rattle.agg_model.specs.declared.row.Document.{Document}
 use Rattle.agg_model.specs.Contexts.{parents_before}
+use Rattle.agg_evaluation.specs.Ceiling.{greatest_of}
 use Rattle.agg_evaluation.specs.DocumentFits.{all_fit}
 use Rattle.agg_evaluation.specs.Rows.{rows_of_documents}
 use Rattle.agg_evaluation.specs.RowsWeight.{rows_weight}
@@ -18,7 +19,7 @@ use Rattle.shard_columns.specs.Columns.{Columns}
 use Rattle.shard_columns.specs.Ends.{each, root_ends}
 use Rattle.shard_columns.specs.Layout.{flat_rows, entries_of_laid, ids_of}
 use Rattle.shard_columns.specs.Stored.{AreStorable, AreDrafts, AreStored, AreColumns}
-use Rattle.shard_columns.specs.Values.{Words}
+use Rattle.shard_columns.specs.Values.{Words, found_values}
 use Rattle.shard_columns.specs.Words.{HasNone, Notes, row_words, AreDictionaries}
 
 -- The rows of these documents one after another, with their ends. They stay when further documents come behind them.
@@ -60,6 +61,11 @@ pub record IsStoredFrom (numbers : WordNumbers) (drafts : Drafts) (words : List 
   pub words_are : (kinds : List FieldKind) (rows : List Laid) → Holds kinds rows numbers drafts → AreDictionaries (length kinds) rows words
   pub rows_are : (kinds : List FieldKind) (rows : List Laid) → Holds kinds rows numbers drafts → AreStorable kinds rows → AreStored rows words columns
   pub columns_are : (kinds : List FieldKind) (rows : List Laid) → Holds kinds rows numbers drafts → AreColumns kinds columns
+
+-- for each field the greatest number of values that one of the rows has that are held
+abbrev pub AreMostFrom : WordNumbers → Drafts → List ℕ → Type 0
+AreMostFrom numbers drafts most =
+    (kinds : List FieldKind) (rows : List Laid) → Holds kinds rows numbers drafts → AreStorable kinds rows → (f : ℕ) → slice_index_or most f 0 ≡ greatest_of (map (λ l. length (found_values f l.values.now)) rows)
 
 -- The draft holds exactly these documents, in their order: they fit the mapping, which has at most MAX_PATHS fields and nested
 -- paths, each path behind the one around it, and their rows, values and bytes of words are fewer than WEIGHT_LIMIT together.

@@ -17,6 +17,8 @@ pub mod Index
 pub mod Dictionary
 pub mod Kinds
 pub mod Beneath
+pub mod Bounds
 pub mod Rising
 pub mod Contexts
+pub mod Counts
 pub mod Made

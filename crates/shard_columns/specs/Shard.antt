@@ -7,7 +7,8 @@ use Rattle.shard_columns.specs.declared.shard.Shard.TheInside.{Inside}
 use Rattle.shard_columns.specs.Built.{IsShard}
 use Rattle.shard_columns.specs.Columns.{Columns}
 use Rattle.shard_columns.specs.Contexts.{AreNumbered, AreEnclosed}
-use Rattle.shard_columns.specs.Dictionary.{words_of}
+use Rattle.shard_columns.specs.Counts.{most_values}
+use Rattle.shard_columns.specs.Dictionary.{words_of, longest_word}
 use Rattle.agg_evaluation.specs.ColumnBytes.{value_count}
 use Rattle.shard_columns.specs.Given.{KindsHold}
 use Rattle.shard_columns.specs.Layout.{placed}
@@ -34,6 +35,8 @@ pub record IsSound (s : Inside) : Type 0 where
   pub odd : (n : ℕ) → n < length (placed_rows s) → length (row_of (placed_rows s) n).place % 2 ≡ 1
   pub dictionaries : (field : ℕ) → slice_index_or s.words.items field [] ≡ words_of field (placed_rows s)
   pub sizes : length s.words.items ≡ length s.kinds.items
+  pub longest : (field : ℕ) → slice_index_or s.longest.items field 0 ≡ longest_word field (placed_rows s)
+  pub most : (field : ℕ) → slice_index_or s.most.items field 0 ≡ most_values field (placed_rows s)
   pub few_fields : length s.kinds.items ≤ MAX_PATHS
   pub kinds : KindsHold s.kinds.items (placed_rows s)
   pub counted : s.values ≡ sum (map value_count (placed_rows s))

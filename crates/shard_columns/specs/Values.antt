@@ -1,5 +1,5 @@
 -- Values in flat arrays, one for each field, with the spans of the rows that have any.
-use Rattle.std.specs.Prelude.{◌≡◌, ℕ, zero, suc, ◌+◌, pos, ◌<◌, ◌≤◌, Bool, true, false, List, [], ◌∷◌, ◌++◌, map, length, slice_index_or, slice_range, Contains, find, flat_map, if◌then◌else◌, ◌==◌, slice_get, sum_by, nat_le}
+use Rattle.std.specs.Prelude.{◌≡◌, ℕ, zero, suc, ◌+◌, ◌-◌, pos, ◌<◌, ◌≤◌, Bool, true, false, List, [], ◌∷◌, ◌++◌, map, length, slice_index_or, slice_range, Contains, find, flat_map, if◌then◌else◌, ◌==◌, slice_get, sum_by, nat_le}
 use Rattle.std.specs.Option.{option_map_or}
 use Rattle.std.specs.List.{range_with_len}
 use Rattle.std.specs.List.Sorted.{IsStrictlyIncreasing}
@@ -8,6 +8,7 @@ use Rattle.agg_model.specs.declared.mapping.FieldKind.TheVariants.{Keyword, Bool
 use Rattle.agg_model.specs.declared.row.Scalar.{Scalar}
 use Rattle.agg_model.specs.declared.row.Scalar.TheVariants as scalar
 use Rattle.agg_model.specs.declared.row.FieldValues.{FieldValues}
+use Rattle.agg_evaluation.specs.Ceiling.{greatest_of}
 use Rattle.shard_columns.specs.declared.values.Typed.{Typed}
 use Rattle.shard_columns.specs.declared.values.Typed.TheVariants as typed
 use Rattle.shard_columns.specs.declared.values.Span.{Span}
@@ -72,6 +73,14 @@ span_in held row = option_map_or (λ h. h.span) (find (λ h. h.row == row) held)
 abbrev pub span_of : Spans → ℕ → Span
 span_of (spans.OfEach each) row = slice_index_or each.items row no_span
 span_of (spans.OfSome held) row = span_in held.items row
+
+-- how many values a row has
+abbrev pub held_count : Held → ℕ
+held_count h = h.span.end - h.span.start
+
+-- the most that one row has
+abbrev pub most_held : Draft → ℕ
+most_held d = greatest_of (map held_count d.held.items)
 
 -- the values of a row
 abbrev pub draft_values : (ℕ → Scalar) → Draft → ℕ → List Scalar

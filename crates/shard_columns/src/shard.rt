@@ -1,6 +1,7 @@
 ghost use Rattle.std.specs.Prelude.{◌≡◌, ◌↔◌, ◌<◌, ◌+◌, ◌≤◌, ◌^◌, ℕ, IsTrue, slice_index, IfOk, IfSome, IfNone, IsNone, length, map, [], Some, slice_get, slice_index_or};
 ghost use Rattle.shard_columns.specs.Values.{shown, words_in};
-ghost use Rattle.shard_columns.specs.Drafted.{HoldsSome, IsStoredFrom, IsDraftFor, IsFinishedFrom};
+ghost use Rattle.shard_columns.specs.Drafted.{AreMostFrom, HoldsSome, IsStoredFrom, IsDraftFor, IsFinishedFrom};
+ghost use Rattle.shard_columns.specs.Counts.{most_values};
 ghost use Rattle.shard_columns.specs.Lent.{wholes_in, flags_in, word_at, holds_numbers};
 ghost use Rattle.agg_model.specs.declared.row.Scalar.TheVariants.{Whole, Word, Flag};
 ghost use Rattle.agg_model.specs.declared.limits.TheConstants.{MAX_PATHS, WEIGHT_LIMIT};
@@ -9,6 +10,7 @@ ghost use Rattle.agg_evaluation.specs.DocumentFits.{all_fit};
 ghost use Rattle.agg_evaluation.specs.Rows.{row_of, roots, rows_of_documents, values_of, beneath};
 ghost use Rattle.agg_evaluation.specs.RowsWeight.{rows_weight};
 ghost use Rattle.shard_columns.specs.Dictionary.{words_of, as_values, NoRowHas, longest_word};
+ghost use Rattle.agg_evaluation.specs.Ceiling.{greatest_of};
 ghost use Rattle.agg_evaluation.specs.ColumnBytes.{shard_bytes};
 ghost use Rattle.shard_columns.specs.Kinds.{AreOfKind};
 ghost use Rattle.shard_columns.specs.Beneath.{IsDirectlyBeneath, IsEnclosedBy};
@@ -20,9 +22,9 @@ use crate::contexts::{context, numbers_by_context, numbers_of};
 use crate::draft::ShardDraft;
 use crate::ids::Ids;
 use crate::layout::{Entry, Origin};
-use crate::search::{find_word, numbers_between};
-use crate::values::{Drafts, Typed};
-use crate::words::{WordNumbers, all_bytes, dictionaries, longest_of};
+use crate::search::{Part, find_word, numbers_between};
+use crate::values::{Drafts, Typed, most_of_each};
+use crate::words::{WordNumbers, all_bytes, dictionaries, longest_of_each};
 use agg_model::{Document, Field, FieldKind, List, Mapping, NestedPath, Text};
 use std::alloc::{AllocError, Global};
 use std::marker::Model;
@@ -40,6 +42,9 @@ pub struct Shard {
     ends: Vec<u32>,
     numbers: Vec<List<u32>>,
     words: Vec<List<Text>>,
+    // By field: the length of its longest word, and how many values a row has of it at most.
+    longest: Vec<usize>,
+    most: Vec<u32>,
     columns: Vec<Column>,
     values: usize,
 }
@@ -60,6 +65,8 @@ impl Model for Shard {
 #[derive(Drop)]
 struct Stored {
     words: Vec<List<Text>>,
+    longest: Vec<usize>,
+    most: Vec<u32>,
     columns: Vec<Column>,
     count: usize,
 }
@@ -73,16 +80,22 @@ fn store(
 ) -> Result<Stored, AllocError>
     requires { HoldsSome rows numbers drafts }
     ensures stored { IfOk result (λ s. IsStoredFrom numbers drafts s.words.items s.columns.items) }
+    ensures longest { IfOk result (λ s. s.longest.items ≡ map (λ ws. greatest_of (map length ws)) s.words.items) }
+    ensures most { IfOk result (λ s. AreMostFrom numbers drafts s.most.items) }
     ensures counted { IfOk result (λ s. s.count ≡ drafts.count) }
 {
     let (words, ranks) = dictionaries(alloc, numbers)?;
+    let longest = longest_of_each(alloc, words.as_slice())?;
     let Drafts {
         columns: drafts,
         count,
     } = drafts;
+    let most = most_of_each(alloc, drafts.as_slice())?;
     let columns = columns(alloc, drafts, ranks.as_slice(), rows)?;
     Ok(Stored {
         words,
+        longest,
+        most,
         columns,
         count,
     })
@@ -153,6 +166,8 @@ impl ShardDraft {
         let parents = parents(alloc, nested)?;
         let Stored {
             words,
+            longest,
+            most,
             columns,
             count: values,
         } = stored;
@@ -165,6 +180,8 @@ impl ShardDraft {
             ends,
             numbers,
             words,
+            longest,
+            most,
             columns,
             values,
         })
@@ -259,7 +276,24 @@ impl Shard {
         ensures few { length self.now.rows < 2 ^ 32 }
     {
         let numbers = numbers_of(self.numbers.as_slice(), path as usize + 1);
-        numbers_between(numbers, row, self.ends[row as usize])
+        let end = self.ends[row as usize];
+        let guess = Part {
+            start: self.nested_before(row),
+            end: self.nested_before(end),
+        };
+        numbers_between(numbers, row, end, guess)
+    }
+
+    // How many rows before this one are no roots. Where the mapping has one nested path, so many of its rows are before this one.
+    fn nested_before(&self, row: u32) -> usize {
+        let roots = match self.rows.get(row as usize) {
+            Some(entry) => match entry.origin {
+                Origin::Root => entry.document as usize,
+                Origin::Nested { .. } => entry.document as usize + 1,
+            },
+            None => numbers_of(self.numbers.as_slice(), 0).len(),
+        };
+        (row as usize).saturating_sub(roots)
     }
 
     /// The number of rows at a nested path within a row, on all levels; a row at that path counts within itself.
@@ -411,7 +445,21 @@ impl Shard {
     pub fn longest(&self, field: u32) -> u64
         ensures { result ≡ longest_word field self.now.rows }
     {
-        longest_of(words_at(self.words.as_slice(), field)) as u64
+        match self.longest.get(field as usize) {
+            Some(longest) => *longest as u64,
+            None => 0,
+        }
+    }
+
+    /// The greatest number of values that a row has of a field, 0 where none has any.
+    pub fn most_values(&self, field: u32) -> u32
+        ensures greatest { result ≡ most_values field self.now.rows }
+        ensures each { (n : ℕ) → length (values_of field (row_of self.now.rows n)) ≤ result }
+    {
+        match self.most.get(field as usize) {
+            Some(most) => *most,
+            None => 0,
+        }
     }
 
     /// What the columns weigh in bytes: eight for each value, and the bytes of the distinct words of each field

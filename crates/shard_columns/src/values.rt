@@ -4,7 +4,8 @@ ghost use Rattle.std.specs.List.{list_all};
 ghost use Rattle.std.specs.List.Sorted.{IsStrictlyIncreasing};
 ghost use Rattle.agg_model.specs.declared.row.Scalar.TheVariants.{Word};
 ghost use Rattle.shard_columns.specs.Lent.{wholes_in, flags_in};
-ghost use Rattle.shard_columns.specs.Values.{Reader, words_in, words_for, FieldsBelow, total_count, typed_len, is_typed, is_taken, ranked, AreRankedAll};
+ghost use Rattle.agg_evaluation.specs.Ceiling.{greatest_of};
+ghost use Rattle.shard_columns.specs.Values.{Reader, words_in, words_for, FieldsBelow, total_count, typed_len, is_typed, is_taken, ranked, AreRankedAll, held_count, most_held};
 ghost use Rattle.shard_columns.specs.Words.{of_field, IsNumbered, Notes, Shows};
 ghost use Rattle.shard_columns.specs.Storing.{HasKinds, IsEmpty, AddsTyped, AddsHeld, AreTaken, AreBounded, AreShaped, AddsRowValues};
 
@@ -205,6 +206,28 @@ impl Drafts {
         }
         Ok(())
     }
+}
+
+// The greatest number of values of one of these rows, 0 where there is none.
+fn most_of(held: &[Held]) -> u32
+    ensures { result ≡ greatest_of (map held_count held.now) }
+{
+    let mut most = 0;
+    for one in held {
+        most = most.max(one.span.end.saturating_sub(one.span.start));
+    }
+    most
+}
+
+/// For each field the greatest number of values that one row has.
+pub fn most_of_each(alloc: Global, drafts: &[Draft]) -> Result<Vec<u32>, AllocError>
+    ensures { IfOk result (λ all. all.items ≡ map most_held drafts.now) }
+{
+    let mut all = Vec::with_capacity(alloc, drafts.len())?;
+    for draft in drafts {
+        all.push(most_of(draft.held.as_slice()))?;
+    }
+    Ok(all)
 }
 
 // A place past all that a dictionary has stands for 0.

@@ -115,8 +115,8 @@ pub fn dictionaries(
     Ok((words, ranks))
 }
 
-/// The length of the longest of these words in bytes, 0 where there is none.
-pub fn longest_of(words: &[Text]) -> usize
+// The length of the longest of these words in bytes, 0 where there is none.
+fn longest_of(words: &[Text]) -> usize
     ensures { result ≡ greatest_of (map length words.now) }
 {
     let mut longest = 0;
@@ -124,6 +124,17 @@ pub fn longest_of(words: &[Text]) -> usize
         longest = longest.max(word.len());
     }
     longest
+}
+
+/// The length of the longest word of each field in bytes, 0 where it has none.
+pub fn longest_of_each(alloc: Global, words: &[List<Text>]) -> Result<Vec<usize>, AllocError>
+    ensures { IfOk result (λ all. all.items ≡ map (λ ws. greatest_of (map length ws)) words.now) }
+{
+    let mut all = Vec::with_capacity(alloc, words.len())?;
+    for list in words {
+        all.push(longest_of(list.as_slice()))?;
+    }
+    Ok(all)
 }
 
 fn bytes_of(words: &[Text]) -> u64

@@ -13,7 +13,7 @@ returns-in-Terms c =
     let k = c.in-Terms in
     let most : max c.most_values.result 1 ≡ c.max.result = sym (c.max.ensures ∙ ap (λ (n : ℕ). max n 1) c.from.ensures) in
     subst (λ (n : ℕ). HasKeysAtMost n c.args.kind.now rows) most (subst (λ (kind : Kind). HasKeysAtMost (max c.most_values.result 1) kind rows) (sym k.is)
-    (few-terms rows k.field k.size k.shard_size k.min_doc_count k.order k.include k.exclude k.missing k.show_error c.most_values.result c.most_values.ensures))
+    (few-terms rows k.field k.size k.shard_size k.min_doc_count k.order k.include k.exclude k.missing k.show_error c.most_values.result (λ i low. c.most_values.ensures.each i)))
 
 pub returns-in-Histogram : goal.returns-in-Histogram
 returns-in-Histogram c =
@@ -22,7 +22,7 @@ returns-in-Histogram c =
     let values = c.most_values-in-Histogram in
     let most : max values.result 1 ≡ c.max-in-Histogram.result = sym (c.max-in-Histogram.ensures ∙ ap (λ (n : ℕ). max n 1) c.from-in-Histogram.ensures) in
     subst (λ (n : ℕ). HasKeysAtMost n c.args.kind.now rows) most (subst (λ (kind : Kind). HasKeysAtMost (max values.result 1) kind rows) (sym k.is)
-    (few-starts rows k.field k.interval k.offset k.min_doc_count k.extended k.hard k.keyed k.order k.missing values.result values.ensures))
+    (few-starts rows k.field k.interval k.offset k.min_doc_count k.extended k.hard k.keyed k.order k.missing values.result (λ i low. values.ensures.each i)))
 
 pub returns-in-Filters : goal.returns-in-Filters
 returns-in-Filters c =

@@ -1,28 +1,31 @@
-use Rattle.std.proofs.Common.{◌≡◌, ◌<◌, ◌≤◌, ◌+◌, ◌^◌, T, [], List, ℕ, map, length, sym, ◌∙◌, ap, subst, arith}
+use Rattle.std.proofs.Common.{◌≡◌, ◌<◌, ◌≤◌, ◌+◌, ◌^◌, T, [], List, ℕ, map, length, get_or, sym, ◌∙◌, ap, subst, arith}
 use Rattle.std.specs.Prelude.{◌%◌, sum, sum_by}
 use Rattle.std.specs.List.{zip}
 use Rattle.std.proofs.lemmas.List.{length-map}
 use Rattle.agg_model.specs.declared.mapping.FieldKind.{FieldKind}
 use Rattle.agg_model.specs.declared.mapping.Field.{Field}
 use Rattle.agg_model.specs.declared.mapping.NestedPath.{NestedPath}
+use Rattle.agg_evaluation.specs.Ceiling.{greatest_of}
 use Rattle.agg_evaluation.specs.Rows.{PlacedRow, row_of, rows_of_documents}
 use Rattle.agg_evaluation.specs.ColumnBytes.{value_count}
 use Rattle.agg_evaluation.specs.RowsWeight.{rows_weight}
 use Rattle.shard_columns.specs.declared.layout.Entry.{Entry}
 use Rattle.shard_columns.specs.Layout.{ids_of, placed}
 use Rattle.shard_columns.specs.Words.{AllFieldsBelow, AreDictionaries}
-use Rattle.shard_columns.specs.Values.{row_values, by_words, total_count}
+use Rattle.shard_columns.specs.Values.{Words, row_values, by_words, total_count}
 use Rattle.shard_columns.specs.Given.{RowsBelow, KindsHold}
 use Rattle.shard_columns.specs.Contexts.{ContextsBelow, AreNumbered, AreEnclosed}
-use Rattle.shard_columns.specs.Dictionary.{words_of}
+use Rattle.shard_columns.specs.Counts.{most_values}
+use Rattle.shard_columns.specs.Dictionary.{words_of, longest_word}
 use Rattle.shard_columns.specs.Ends.{each, root_ends}
 use Rattle.shard_columns.specs.Built.{columns_from}
 use Rattle.shard_columns.proofs.Building.{AllFieldsBelow-given, total-values, sizes-stored}
 use Rattle.shard_columns.proofs.Enclosing.{all-rows-laid}
 use Rattle.shard_columns.proofs.Givens.{documents_given}
+use Rattle.shard_columns.proofs.Counting.{counts-placed, longest-at}
 use Rattle.shard_columns.proofs.Making.{values-laid, contexts-below, AreEnclosed-laid, dictionaries-are}
-use Rattle.shard_columns.proofs.Pushing.{flat-draft, count-laid, rows-draft}
-use Rattle.shard_columns.proofs.Weighing.{rows-light}
+use Rattle.shard_columns.proofs.Pushing.{flat-draft, count-laid, rows-draft, storable-draft}
+use Rattle.shard_columns.proofs.Weighing.{rows-light, longest-words}
 use Rattle.shard_columns.proofs.draft.ShardDraft.finish.Goals as goal
 
 pub store-requires : goal.store-requires
@@ -69,6 +72,8 @@ invariant_of-result c =
     let flat = flat-draft m documents draft held in
     let below : AllFieldsBelow (length draft.kinds.items) laid = AllFieldsBelow-given (length draft.kinds.items) ids laid all flat (subst (λ (n : ℕ). RowsBelow n all) (sym kinds_size) given.fields) in
     let dictionaries : AreDictionaries (length draft.kinds.items) laid words = stored.words_are draft.kinds.items laid held.holds in
+    let words_are : (f : ℕ) → get_or words f [] ≡ words_of f all = dictionaries-are (length draft.kinds.items) ids laid all words flat given.rising below dictionaries in
+    let storable = storable-draft m documents draft held in
     let rows_laid = all-rows-laid documents (subst T (sym given.paths) tt) in
     let enclosed : AreEnclosed all draft.ends.items =
     subst (AreEnclosed all) (sym held.roots.ends_are) (AreEnclosed-laid [] (λ q. 0 ≤ q) all (each (map root_ends documents) 0) rows_laid) in
@@ -87,8 +92,10 @@ invariant_of-result c =
       contexts = λ n. omega (arith, ap (λ (rs : List PlacedRow). (row_of rs n).context) rows_are, given.contexts n, parents_size);
       enclosed = subst (λ (rs : List PlacedRow). AreEnclosed rs draft.ends.items) (sym rows_are) enclosed;
       odd = subst (λ (rs : List PlacedRow). (n : ℕ) → n < length rs → length (row_of rs n).place % 2 ≡ 1) (sym rows_are) rows_laid.odd;
-      dictionaries = λ f. dictionaries-are (length draft.kinds.items) ids laid all words flat given.rising below dictionaries f ∙ ap (words_of f) (sym rows_are);
+      dictionaries = λ f. words_are f ∙ ap (words_of f) (sym rows_are);
       sizes = dictionaries.sizes;
+      longest = λ f. ap (λ (xs : List ℕ). get_or xs f 0) c.in_ok-stored.ensures.longest ∙ (longest-at words f ∙ (ap (λ (ws : Words). greatest_of (map length ws)) (words_are f) ∙ (longest-words f all ∙ ap (longest_word f) (sym rows_are))));
+      most = λ f. c.in_ok-stored.ensures.most draft.kinds.items laid held.holds storable f ∙ (ap greatest_of (sym (counts-placed f all laid (values-laid ids laid all flat))) ∙ ap (most_values f) (sym rows_are));
       few_fields = omega (arith, kinds_size, given.few_fields);
       kinds = subst (KindsHold draft.kinds.items) (sym rows_are) kinds_hold;
       counted = c.in_ok-stored.ensures.counted ∙ (held.holds.values.counted ∙ (ap (sum_by total_count) (sym (values-laid ids laid all flat)) ∙ (total-values all ∙ ap (λ (rs : List PlacedRow). sum (map value_count rs)) (sym rows_are))));
