@@ -5,6 +5,7 @@ use Rattle.std.specs.Ordering.{is_le}
 use Rattle.std.proofs.Common.{sym, ◌∙◌, ap, arith, add-one, append_assoc, length-append}
 use Rattle.list_laws.proofs.Lists.{map-map, sum_by-map}
 use Rattle.list_laws.proofs.Options.{none_some, some_same}
+use Rattle.list_laws.proofs.Sums.{sum_by-sorted}
 use Rattle.list_laws.specs.Sorting.{sorted, insert_sorted}
 use Rattle.agg_model.specs.Options.{Options, options_of}
 use Rattle.agg_model.specs.declared.aggregation.Agg.{Agg, out-Agg}
@@ -26,7 +27,7 @@ use Rattle.agg_evaluation.proofs.NodeForms.{out-Keyed, out-Fixed, out-Number}
 use Rattle.bucket_order.specs.Kinds.{child_kinds}
 use Rattle.growth_laws.specs.Cutting.{Cutter, cut_at, cut_bucket, cut_tree, cutter_at}
 use Rattle.shard_columns.specs.Columns.{Columns}
-use Rattle.terms_agg.specs.Trim.{trimmed, trimmed_at, trimmed_terms}
+use Rattle.terms_agg.specs.Trim.{trimmed_some}
 use Rattle.growing_tree.specs.Codes.{code_key}
 use Rattle.growing_tree.specs.Decoded.{decoded, decoded_bucket}
 use Rattle.growing_tree.specs.Finished.{finished_bucket, finished_children, finished_with}
@@ -54,23 +55,8 @@ cutter-kinds [] = refl
 cutter-kinds (a ∷ aggs) = λ i. ap (λ (c : Cutter). c.kind) (fold_agg-level cutter_at a) i ∷ cutter-kinds aggs i
 
 -- what is cut of a level, by the options of its aggregation
-abbrev cut_options : List Kind → ℕ → List Bucket → Options → Node
+abbrev pub cut_options : List Kind → ℕ → List Bucket → Options → Node
 cut_options kinds n bs o = elim o [ Options.Terms t ↦ trimmed_node kinds t.shard_size t.order n bs | _ ↦ Keyed bs 0 0 0 ]
-
-abbrev trimmed_options : List Kind → List Bucket → Options → Node
-trimmed_options kinds bs o = elim o [ Options.Terms t ↦ trimmed_terms kinds t (Node-F.Keyed bs 0 0 0) (Keyed bs 0 0 0) | _ ↦ Keyed bs 0 0 0 ]
-
-cut-options : (kinds : List Kind) (o : Options) (n : ℕ) (bs : List Bucket) → n ≡ sum_by bucket_count bs → cut_options kinds n bs o ≡ trimmed_options kinds bs o
-cut-options kinds (Options.Terms t) n bs e = ap (λ m. trimmed_node kinds t.shard_size t.order m bs) e
-cut-options kinds (Options.Histogram h) n bs e = refl
-cut-options kinds (Options.Filters names filters other) n bs e = refl
-cut-options kinds (Options.Filter query) n bs e = refl
-cut-options kinds (Options.Missing field) n bs e = refl
-cut-options kinds Options.Global n bs e = refl
-cut-options kinds (Options.Nested context) n bs e = refl
-cut-options kinds (Options.ReverseNested context) n bs e = refl
-cut-options kinds (Options.Composite sources size after) n bs e = refl
-cut-options kinds (Options.Metric m) n bs e = refl
 
 -- the items from one on
 pub drop-at : {A : Type 0} (xs : List A) (i : ℕ) (x : A) → slice_get xs i ≡ Some x → drop i xs ≡ x ∷ drop (i + 1) xs
@@ -110,18 +96,17 @@ module _ (shard : Columns) (a : Agg) (r : Ready) where
   finished-all bs = map-map (cut_bucket cutters) (decoded_bucket decoders key_of) bs
 
   -- buckets of codes
-  pub keyed-finished : (bs : List Bucket) → cut_tree a (decoded shard r (Keyed bs 0 0 0)) ≡ trimmed a (Keyed (sorted_by_key (map (finished_bucket shard a r) bs)) 0 0 0)
+  pub keyed-finished : (bs : List Bucket) → cut_tree a (decoded shard r (Keyed bs 0 0 0)) ≡ trimmed_some a (sum_by bucket_count bs) (sorted_by_key (map (finished_bucket shard a r) bs))
   keyed-finished bs =
+      let by = λ (a b : Bucket). key_cmp (bucket_key a) (bucket_key b) in
       let up = sorted_by_key (map (decoded_bucket decoders key_of) bs) in
       let done = map (cut_bucket cutters) up in
       let done_is : done ≡ sorted_by_key (map (finished_bucket shard a r) bs) =
-      sorted-map (cut_bucket cutters) (λ a b. key_cmp (bucket_key a) (bucket_key b)) (map (decoded_bucket decoders key_of) bs) ∙ ap sorted_by_key (finished-all bs) in
+      sorted-map (cut_bucket cutters) by (map (decoded_bucket decoders key_of) bs) ∙ ap sorted_by_key (finished-all bs) in
+      let total_is : sum_by bucket_count up ≡ sum_by bucket_count bs = sum_by-sorted bucket_count by (map (decoded_bucket decoders key_of) bs) ∙ sum_by-map bucket_count (decoded_bucket decoders key_of) bs in
       ap (cut_tree a) (decoded-out shard r _ _ (out-Keyed bs 0 0 0))
       ∙ cut-level (Keyed up 0 0 0) _ (out-Keyed up 0 0 0)
-      ∙ ap (λ ks. cut_options ks (sum_by bucket_count up) done (options_of (out-Agg a).kind)) (cutter-kinds (out-Agg a).children)
-      ∙ cut-options (child_kinds (out-Agg a).children) (options_of (out-Agg a).kind) (sum_by bucket_count up) done (sym (sum_by-map bucket_count (cut_bucket cutters) up))
-      ∙ ap (λ m. trimmed_at (child_kinds (out-Agg a).children) (out-Agg a).kind m (Keyed done 0 0 0)) (sym (out-Keyed done 0 0 0))
-      ∙ ap (λ xs. trimmed a (Keyed xs 0 0 0)) done_is
+      ∙ ap (λ ks. cut_options ks (sum_by bucket_count up) done (options_of (out-Agg a).kind)) (cutter-kinds (out-Agg a).children) ∙ (λ i. trimmed_some a (total_is i) (done_is i))
 
   -- buckets that exist from the start
   pub fixed-finished : (bs : List Bucket) → cut_tree a (decoded shard r (Fixed bs)) ≡ Fixed (map (finished_bucket shard a r) bs)

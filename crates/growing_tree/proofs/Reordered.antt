@@ -107,24 +107,24 @@ module _ {A : Type 0} (f : A → Bucket) (by : A → A → Ordering) where
   has-sorted q [] = refl
   has-sorted q (x ∷ xs) = has-insert q x (sorted by xs) ∙ ap (λ b. key_eq q (bucket_key (f x)) || b) (has-sorted q xs)
 
-  by-key-insert : (x : A) (ys : List A) → has_key (bucket_key (f x)) (keys_of ys) ≡ false
-      → sorted_by_key (map f (insert_sorted by x ys)) ≡ insert_sorted (λ a b. key_cmp (bucket_key a) (bucket_key b)) (f x) (sorted_by_key (map f ys))
-  by-key-insert x [] h = refl
-  by-key-insert x (y ∷ ys) h =
-      let parts = or_parts (key_eq (bucket_key (f x)) (bucket_key (f y))) (has_key (bucket_key (f x)) (keys_of ys)) h in
-      elim (is_le (by x y)) as (λ b.
-      sorted_by_key (map f (cond b (x ∷ y ∷ ys) (y ∷ insert_sorted by x ys))) ≡ insert_sorted (λ a b. key_cmp (bucket_key a) (bucket_key b)) (f x) (sorted_by_key (map f (y ∷ ys)))) [
-        | true ↦ refl
-        | false ↦ ap (insert_sorted (λ a b. key_cmp (bucket_key a) (bucket_key b)) (f y)) (by-key-insert x ys parts.1)
-            ∙ sym (insert-swap (λ a b. key_cmp (bucket_key a) (bucket_key b)) (on_total bucket_key key_cmp_total) (f x) (f y) parts.0 (sorted_by_key (map f ys)))
-      ]
+  -- an order in which buckets of different keys do not compare alike
+  module _ (cmp : Bucket → Bucket → Ordering) (total : IsTotalOrder cmp) (differ : (a b : Bucket) → key_eq (bucket_key a) (bucket_key b) ≡ false → is_eq (cmp a b) ≡ false) where
+    insert-any : (x : A) (ys : List A) → has_key (bucket_key (f x)) (keys_of ys) ≡ false → sorted cmp (map f (insert_sorted by x ys)) ≡ insert_sorted cmp (f x) (sorted cmp (map f ys))
+    insert-any x [] h = refl
+    insert-any x (y ∷ ys) h =
+        let parts = or_parts (key_eq (bucket_key (f x)) (bucket_key (f y))) (has_key (bucket_key (f x)) (keys_of ys)) h in
+        elim (is_le (by x y)) as (λ b. sorted cmp (map f (cond b (x ∷ y ∷ ys) (y ∷ insert_sorted by x ys))) ≡ insert_sorted cmp (f x) (sorted cmp (map f (y ∷ ys)))) [
+          | true ↦ refl
+          | false ↦ ap (insert_sorted cmp (f y)) (insert-any x ys parts.1) ∙ sym (insert-swap cmp total (f x) (f y) (differ (f x) (f y) parts.0) (sorted cmp (map f ys)))
+        ]
 
-  -- where no key stands twice, an order before that by key is no matter
+    -- where no key stands twice, an order before that one is no matter
+    pub sorted-any : (xs : List A) → AreApart (keys_of xs) → sorted cmp (map f (sorted by xs)) ≡ sorted cmp (map f xs)
+    sorted-any [] apart = refl
+    sorted-any (x ∷ xs) apart = insert-any x (sorted by xs) (has-sorted (bucket_key (f x)) xs ∙ apart.0) ∙ ap (insert_sorted cmp (f x)) (sorted-any xs apart.1)
+
   pub sorted-before : (xs : List A) → AreApart (keys_of xs) → sorted_by_key (map f (sorted by xs)) ≡ sorted_by_key (map f xs)
-  sorted-before [] apart = refl
-  sorted-before (x ∷ xs) apart =
-      by-key-insert x (sorted by xs) (has-sorted (bucket_key (f x)) xs ∙ apart.0)
-      ∙ ap (insert_sorted (λ a b. key_cmp (bucket_key a) (bucket_key b)) (f x)) (sorted-before xs apart.1)
+  sorted-before = sorted-any (λ a b. key_cmp (bucket_key a) (bucket_key b)) (on_total bucket_key key_cmp_total) (λ a b e. e)
 
 -- one more bucket with its code, and those that are left
 pub coded-pushed : (done : List Coded) (codes : List ℤ) (i : ℕ) (code here : ℤ) (g : Growing) (gs : List Growing) → here ≡ code → slice_get codes i ≡ Some code
@@ -146,7 +146,7 @@ module _ (shard : Columns) (a : Agg) (r : Ready) where
   key-is code g = ap bucket_key (coded-with shard a r code g)
 
   -- the keys of different codes
-  keys-apart : HasOwnKeys key_of → (cs : List ℤ) (gs : List Growing) → IsDistinct int_eq cs → AreApart (map bucket_key (map finish (coded_buckets cs gs)))
+  pub keys-apart : HasOwnKeys key_of → (cs : List ℤ) (gs : List Growing) → IsDistinct int_eq cs → AreApart (map bucket_key (map finish (coded_buckets cs gs)))
   keys-apart own [] gs h = tt
   keys-apart own (c ∷ cs) [] h = tt
   keys-apart own (c ∷ cs) (g ∷ gs) h = (ap (λ k. has_key k (map bucket_key (map finish (coded_buckets cs gs)))) (key-is c g) ∙ none cs gs (first-absent c cs h), keys-apart own cs gs (rest-distinct c cs h))
@@ -157,15 +157,6 @@ module _ (shard : Columns) (a : Agg) (r : Ready) where
       none (d ∷ ds) (g ∷ gs) e =
           let parts = or_parts (int_eq c d) (list_any (int_eq c) ds) e in
           ap (λ k. key_eq (key_of c) k || has_key (key_of c) (map bucket_key (map finish (coded_buckets ds gs)))) (key-is d g) ∙ (λ i. apart-keys key_of own c d parts.0 i || none ds gs parts.1 i)
-
-  -- the buckets may be sorted by code before their keys are made
-  pub by-code-first : HasOwnKeys key_of → (cs : List ℤ) (gs : List Growing) (coded : List Coded) → IsDistinct int_eq cs → map coded_bucket coded ≡ coded_buckets cs gs
-      → sorted_by_key (map finish (map coded_bucket (sorted by_code coded))) ≡ sorted_by_key (map finish (coded_buckets cs gs))
-  by-code-first own cs gs coded distinct is =
-      let keys = ap (map bucket_key) (sym (map-map finish coded_bucket coded) ∙ ap (map finish) is) in
-      ap sorted_by_key (map-map finish coded_bucket (sorted by_code coded))
-      ∙ sorted-before (λ (c : Coded). finish (coded_bucket c)) by_code coded (subst AreApart (sym keys) (keys-apart own cs gs distinct))
-      ∙ ap sorted_by_key (sym (map-map finish coded_bucket coded) ∙ ap (map finish) is)
 
   -- one more finished bucket, and those that are left
   pub finished-more : (done : List Bucket) (code : ℤ) (g : Growing) (left : List Coded)

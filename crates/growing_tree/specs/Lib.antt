@@ -11,5 +11,6 @@ pub mod Grouped
 pub mod Gathered
 pub mod GatheredEach
 pub mod Finished
+pub mod Frequent
 pub mod Starting
 pub mod CodedBuckets

@@ -1,13 +1,12 @@
 //! Trees that have all their rows, as what a shard answers.
-ghost use Rattle.std.specs.Prelude.{◌≡◌, ◌<◌, ◌^◌, IfOk, OnOk, map, sum_by};
+ghost use Rattle.std.specs.Prelude.{◌≡◌, ◌≤◌, IfOk, OnOk, map, sum_by};
 ghost use Rattle.agg_model.specs.declared.aggregation.Agg.{out-Agg};
 ghost use Rattle.agg_model.specs.declared.key.Key.TheVariants.{Fixed as FixedKey};
-ghost use Rattle.agg_model.specs.declared.partial.Node.TheVariants.{Keyed as KeyedNode};
 ghost use Rattle.agg_evaluation.specs.Folds.{fold_agg};
 ghost use Rattle.agg_evaluation.specs.Orders.{bucket_count};
 ghost use Rattle.agg_evaluation.specs.Shard.{sorted_by_key};
 ghost use Rattle.shard_columns.specs.Built.{IsShard};
-ghost use Rattle.terms_agg.specs.Trim.{trimmed};
+ghost use Rattle.terms_agg.specs.Trim.{trimmed_some};
 ghost use Rattle.growth_laws.specs.Cutting.{cut_children, cut_tree, cutter_at};
 ghost use Rattle.growing_tree.specs.Codes.{code_key, fixed_key as fixed_key_of};
 ghost use Rattle.growing_tree.specs.Decoded.{decoded, decoded_children};
@@ -18,6 +17,7 @@ ghost use Rattle.growing_tree.specs.Trees.{numbered_buckets};
 ghost use Rattle.growing_tree.specs.declared.ready.Ready.{out-Ready};
 
 use crate::coded::{Coded, sort_by_code, with_codes};
+use crate::frequent::keep_frequent;
 use crate::kinds::place_of;
 use crate::ready::{Ready, ReadyKind};
 use crate::sums::sum;
@@ -27,7 +27,7 @@ use bucket_order::sort_by_key;
 use histogram_agg::key as key_of_interval;
 use shard_columns::Shard;
 use std::alloc::{AllocError, Global};
-use terms_agg::{has_key, key as key_of_term, trim};
+use terms_agg::{has_key, key as key_of_term, trim_some};
 
 // The key of the bucket at a place among those that exist from the start.
 fn key_at(place: usize) -> Result<Key, AllocError>
@@ -71,30 +71,29 @@ fn key_of_code(
 }
 
 // Counts that together have more than 64 bits are answered as want of memory.
-fn total_count(buckets: &[Bucket]) -> Result<u64, AllocError>
-    ensures { IfOk result (λ n. n ≡ sum_by bucket_count buckets.now) }
+fn total_count(buckets: &[Coded]) -> Result<u64, AllocError>
+    ensures { IfOk result (λ n. n ≡ sum_by (λ c. c.bucket.count) buckets.now) }
 {
     let mut total = 0;
-    for bucket in buckets {
-        total = sum(total, bucket.count)?;
+    for coded in buckets {
+        total = sum(total, coded.bucket.count)?;
     }
     Ok(total)
 }
 
-// The buckets of a level, as what a shard answers.
-fn finish_level(alloc: Global, agg: &Agg, buckets: Vec<Bucket>) -> Result<Node, AllocError>
-    ensures { IfOk result (λ node. node ≡ trimmed agg.now (KeyedNode (sorted_by_key buckets.items) 0 0 0)) }
+// Buckets of a level, as what a shard answers, where all the level's buckets have `total` rows together.
+fn finish_level(
+    alloc: Global,
+    agg: &Agg,
+    total: u64,
+    buckets: Vec<Bucket>,
+) -> Result<Node, AllocError>
+    requires { sum_by bucket_count buckets.items ≤ total }
+    ensures { IfOk result (λ node. node ≡ trimmed_some agg.now total (sorted_by_key buckets.items)) }
 {
     let mut ascending = buckets;
     sort_by_key(&mut ascending)?;
-    total_count(ascending.as_slice())?;
-    let whole = Node::Keyed {
-        buckets: List::from_vec(ascending),
-        error: 0,
-        full: 0,
-        cut: 0,
-    };
-    trim(alloc, agg, whole)
+    trim_some(alloc, agg, total, ascending)
 }
 
 /// The same of trees side by side, the children of one bucket.
@@ -220,10 +219,12 @@ pub fn finish(
         Level::Keyed(keyed) => {
             // Codes ascend as their keys do, but for that of a word for missing values, and are compared at once: the sort by
             // key finds next to nothing to do.
-            let mut coded = with_codes(alloc, keyed)?;
+            let all = with_codes(alloc, keyed)?;
+            let total = total_count(all.as_slice())?;
+            let mut coded = keep_frequent(&agg.kind, all);
             sort_by_code(&mut coded)?;
             let buckets = finish_coded(alloc, agg, ready, shard, coded)?;
-            finish_level(alloc, agg, buckets)
+            finish_level(alloc, agg, total, buckets)
         }
         Level::Fixed(buckets) => Ok(Node::Fixed {
             buckets: finish_fixed(alloc, agg, ready, shard, buckets)?,

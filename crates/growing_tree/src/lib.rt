@@ -7,6 +7,7 @@
 mod beginning;
 mod coded;
 mod finishing;
+mod frequent;
 mod gathering;
 mod groups;
 mod in_turn;

@@ -4,6 +4,7 @@ use Rattle.std.specs.List.{last_or}
 use Rattle.agg_model.specs.declared.partial.Bucket.{Bucket}
 use Rattle.agg_model.specs.declared.partial.Node.{Node, out-Node}
 use Rattle.agg_model.specs.declared.partial.Node.TheOpen.{Node-F}
+use Rattle.agg_model.specs.declared.partial.Node.TheVariants.{Keyed}
 use Rattle.agg_model.specs.declared.aggregation.Kind.{Kind}
 use Rattle.agg_model.specs.Options.{Options, TermsOptions, options_of}
 use Rattle.agg_model.specs.declared.aggregation.Agg.{Agg, out-Agg}
@@ -31,3 +32,10 @@ trimmed_at kinds k level n = elim (options_of k) [ Options.Terms t ↦ trimmed_t
 -- a shard's answer of the terms of all its documents
 abbrev pub trimmed : Agg → Node → Node
 trimmed agg n = trimmed_at (child_kinds (out-Agg agg).children) (out-Agg agg).kind (out-Node n) n
+
+-- some buckets of an aggregation, cut where they are terms, where all buckets of the shard have so many documents together
+abbrev pub trimmed_some_at : List Kind → Kind → ℕ → List Bucket → Node
+trimmed_some_at kinds k total buckets = elim (options_of k) [ Options.Terms t ↦ trimmed_node kinds t.shard_size t.order total buckets | _ ↦ Keyed buckets 0 0 0 ]
+
+abbrev pub trimmed_some : Agg → ℕ → List Bucket → Node
+trimmed_some agg = trimmed_some_at (child_kinds (out-Agg agg).children) (out-Agg agg).kind

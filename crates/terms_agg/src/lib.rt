@@ -18,4 +18,4 @@ pub use prepared::{
 pub use preparing::{made_terms_can_be_prepared, prepare};
 pub use row_codes::{codes, count, lone_code};
 pub use row_keys::{key_count, keys};
-pub use trimming::trim;
+pub use trimming::{trim, trim_some};

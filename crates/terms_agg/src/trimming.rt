@@ -1,8 +1,8 @@
-ghost use Rattle.std.specs.Prelude.{◌≡◌, ◌<◌, ◌^◌, IfOk, OnOk, length, map, sum_by, unwrap_or, if◌then◌else◌, ◌==◌};
+ghost use Rattle.std.specs.Prelude.{◌≡◌, ◌<◌, ◌≤◌, ◌^◌, IfOk, OnOk, length, map, sum_by, unwrap_or, if◌then◌else◌, ◌==◌};
 ghost use Rattle.agg_evaluation.specs.Orders.{bucket_count};
 ghost use Rattle.agg_evaluation.specs.Shard.{trimmed_node, with_covered};
 ghost use Rattle.bucket_order.specs.Kinds.{child_kinds};
-ghost use Rattle.terms_agg.specs.Trim.{trimmed, last_count, node_buckets};
+ghost use Rattle.terms_agg.specs.Trim.{trimmed, trimmed_some, last_count, node_buckets};
 
 use agg_model::{Agg, Bucket, Kind, List, Node, Order};
 use bucket_order::{first_buckets, sort_by_key};
@@ -46,14 +46,13 @@ fn trim_buckets(
     children: &List<Agg>,
     shard_size: u32,
     order: &List<Order>,
-    buckets: List<Bucket>,
+    total: u64,
+    buckets: Vec<Bucket>,
 ) -> Result<Node, AllocError>
-    requires { sum_by bucket_count buckets < 2 ^ 64 }
-    ensures { IfOk result (λ n. n ≡ trimmed_node (child_kinds children.now) shard_size order.now (sum_by bucket_count buckets) buckets) }
+    requires { sum_by bucket_count buckets.items ≤ total }
+    ensures { IfOk result (λ n. n ≡ trimmed_node (child_kinds children.now) shard_size order.now total buckets.items) }
 {
-    let all = buckets.into_vec();
-    let total = total_count(all.as_slice());
-    let mut kept = first_buckets(alloc, children, order, shard_size as usize, all)?;
+    let mut kept = first_buckets(alloc, children, order, shard_size as usize, buckets)?;
     let is_full = kept.len() == shard_size as usize;
     let error = error_of(kept.as_slice(), is_full);
     let cut = total - total_count(kept.as_slice());
@@ -82,11 +81,39 @@ pub fn trim(alloc: Global, agg: &Agg, node: Node) -> Result<Node, AllocError>
             ..
         } => match node {
             Node::Keyed { buckets, .. } => {
-                trim_buckets(alloc, &agg.children, *shard_size, order, buckets)
+                let all = buckets.into_vec();
+                let total = total_count(all.as_slice());
+                trim_buckets(alloc, &agg.children, *shard_size, order, total, all)
             }
             Node::Fixed { buckets } => Ok(Node::Fixed { buckets }),
             Node::Number(metric) => Ok(Node::Number(metric)),
         },
         _ => Ok(node),
+    }
+}
+
+/// The same of some terms of the shard, where all its terms have `total` documents together: the first `shard_size` of these,
+/// and what is left out of the total. A kind other than terms keeps all buckets.
+pub fn trim_some(
+    alloc: Global,
+    agg: &Agg,
+    total: u64,
+    buckets: Vec<Bucket>,
+) -> Result<Node, AllocError>
+    requires { sum_by bucket_count buckets.items ≤ total }
+    ensures { IfOk result (λ n. n ≡ trimmed_some agg.now total buckets.items) }
+{
+    match &agg.kind {
+        Kind::Terms {
+            shard_size,
+            order,
+            ..
+        } => trim_buckets(alloc, &agg.children, *shard_size, order, total, buckets),
+        _ => Ok(Node::Keyed {
+            buckets: List::from_vec(buckets),
+            error: 0,
+            full: 0,
+            cut: 0,
+        }),
     }
 }

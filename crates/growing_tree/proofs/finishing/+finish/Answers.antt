@@ -1,7 +1,12 @@
 use Rattle.std.proofs.Common.{◌≡◌, ◌<◌, ◌≤◌, ◌+◌, ◌∙◌, ◌∷◌, [], ◌++◌, List, sym, ap, subst, arith, rules, length, map, drop, get_or, IfOk, w64, to_z, of_z}
 use Rattle.std.specs.Vec.Iter.{into_iter_items}
 use Rattle.std.proofs.lemmas.Int.{to_z-of_z}
-use Rattle.list_laws.proofs.Lists.{append-nil}
+use Rattle.std.specs.Prelude.{sum_by}
+use Rattle.list_laws.proofs.Lists.{append-nil, map-map, sum_by-map}
+use Rattle.list_laws.proofs.Sums.{sum_by-sorted}
+use Rattle.list_laws.specs.Sorting.{sorted}
+use Rattle.agg_evaluation.specs.Orders.{bucket_count, bucket_key}
+use Rattle.growing_tree.specs.declared.coded.Coded.{Coded}
 use Rattle.std.specs.List.{IsDistinct}
 use Rattle.std.specs.Ordering.{int_eq}
 use Rattle.agg_model.specs.declared.aggregation.Agg.{out-Agg}
@@ -11,18 +16,20 @@ use Rattle.agg_model.specs.declared.partial.Node.{Node}
 use Rattle.agg_model.specs.declared.partial.Node.TheVariants.{Keyed, Fixed, Number}
 use Rattle.agg_evaluation.specs.Shard.{sorted_by_key}
 use Rattle.growth_laws.specs.Cutting.{cut_tree}
-use Rattle.terms_agg.specs.Trim.{trimmed}
+use Rattle.terms_agg.specs.Trim.{trimmed_some}
 use Rattle.growing_tree.specs.Codes.{code_key}
 use Rattle.growing_tree.specs.Decoded.{decoded}
 use Rattle.growing_tree.specs.Finished.{finished_bucket, finished_children, finished_with}
-use Rattle.growing_tree.specs.CodedBuckets.{coded_bucket}
+use Rattle.growing_tree.specs.CodedBuckets.{by_code, coded_bucket}
 use Rattle.growing_tree.specs.Trees.{IsAligned, coded_buckets, level_node, numbered_buckets}
 use Rattle.growing_tree.specs.declared.ready.Ready.{out-Ready}
 use Rattle.growing_tree.proofs.AggSizes.{children_less, item-most}
 use Rattle.growing_tree.proofs.Codes.{codes-own}
 use Rattle.growing_tree.proofs.Cuts.{child-finished, drop-full, fixed-finished, keyed-finished, number-finished, numbered-more}
 use Rattle.growing_tree.proofs.Levels.{children-ready, level-ready}
-use Rattle.growing_tree.proofs.Reordered.{by-code-first, finished-more}
+use Rattle.growing_tree.proofs.Frequents.{finished-rows, suffices-cut, suffices-few}
+use Rattle.growing_tree.proofs.Orderings.{AreApart}
+use Rattle.growing_tree.proofs.Reordered.{finished-more, keys-apart}
 use Rattle.growing_tree.proofs.Steps.{item-at}
 use Rattle.growing_tree.proofs.finishing.+finish.Goals as goal
 
@@ -125,6 +132,19 @@ finish_bucket-finish_children-requires t c =
 pub finish_coded-key_of_code-requires : goal.finish_coded-key_of_code-requires
 finish_coded-key_of_code-requires t c = let h = (level-ready c.args.shard.now c.args.agg.now c.args.ready.now c.requires.ready).kind in record { ready = h }
 
+pub finish-finish_level-requires : goal.finish-finish_level-requires
+finish-finish_level-requires t c =
+    let a = c.args.agg.now in
+    let r = c.args.ready.now in
+    let shard = c.args.shard.now in
+    let all = c.in_ok-all-in-Keyed.all.items in
+    let kept = c.keep_frequent-coded.result.items in
+    let few = suffices-few (out-Agg a).kind all kept c.keep_frequent-coded.ensures in
+    let made = finished-rows shard a r (sorted by_code kept) in
+    let same = sum_by-sorted (λ (x : Coded). x.bucket.count) by_code kept in
+    let total = c.in_ok-total-in-Keyed.ensures in
+    omega (arith, few, made, same, total, ap (sum_by bucket_count) (c.in_ok-buckets-in-Keyed.ensures ∙ ap (λ cs. map (finished_bucket shard a r) (map coded_bucket cs)) c.in_ok-sort_by_code-in-Keyed.ensures), ap (sum_by (λ (x : Coded). x.bucket.count)) c.as_slice.ensures.value)
+
 pub finish-returns-in_ok-buckets-in-Keyed : goal.finish-returns-in_ok-buckets-in-Keyed
 finish-returns-in_ok-buckets-in-Keyed t c =
     let a = c.args.agg.now in
@@ -132,15 +152,21 @@ finish-returns-in_ok-buckets-in-Keyed t c =
     let shard = c.args.shard.now in
     let keyed = c.in-Keyed.keyed in
     let bs = coded_buckets keyed.places keyed.buckets.items in
+    let all = c.in_ok-all-in-Keyed.all.items in
     let finish = finished_bucket shard a r in
     let own = codes-own shard (out-Agg a).kind (out-Ready r).kind (level-ready shard a r c.requires.ready).kind in
     let distinct : IsDistinct int_eq keyed.places = (subst IsAligned c.in-Keyed.is c.tree.invariant).distinct in
     let tree_is : Keyed bs 0 0 0 ≡ c.args.tree = sym (ap level_node c.in-Keyed.is) ∙ c.tree.view_is in
-    let sorted_is : sorted_by_key c.in_ok-buckets-in-Keyed.buckets.items ≡ sorted_by_key (map finish bs) =
-    ap sorted_by_key (c.in_ok-buckets-in-Keyed.ensures ∙ ap (λ cs. map finish (map coded_bucket cs)) c.in_ok-sort_by_code-in-Keyed.ensures)
-    ∙ by-code-first shard a r own keyed.places keyed.buckets.items c.in_ok-coded-in-Keyed.coded.items distinct c.in_ok-coded-in-Keyed.ensures in
-    let is : trimmed a (Keyed (sorted_by_key c.in_ok-buckets-in-Keyed.buckets.items) 0 0 0) ≡ cut_tree a (decoded shard r c.args.tree) =
-    ap (λ xs. trimmed a (Keyed xs 0 0 0)) sorted_is ∙ sym (keyed-finished shard a r bs) ∙ ap (λ n. cut_tree a (decoded shard r n)) tree_is in
+    let all_is : map coded_bucket all ≡ bs = c.in_ok-all-in-Keyed.ensures in
+    let apart : AreApart (map bucket_key (map (λ x. finish (coded_bucket x)) all)) =
+    subst (λ xs. AreApart (map bucket_key xs)) (ap (map finish) (sym all_is) ∙ map-map finish coded_bucket all) (keys-apart shard a r own keyed.places keyed.buckets.items distinct) in
+    let total_is : c.in_ok-total-in-Keyed.total ≡ sum_by bucket_count bs =
+    c.in_ok-total-in-Keyed.ensures ∙ ap (sum_by (λ (x : Coded). x.bucket.count)) c.as_slice.ensures.value ∙ sym (sum_by-map bucket_count coded_bucket all) ∙ ap (sum_by bucket_count) all_is in
+    let buckets_are : sorted_by_key c.in_ok-buckets-in-Keyed.buckets.items ≡ sorted_by_key (map finish (map coded_bucket (sorted by_code c.keep_frequent-coded.result.items))) =
+    ap sorted_by_key (c.in_ok-buckets-in-Keyed.ensures ∙ ap (λ cs. map finish (map coded_bucket cs)) c.in_ok-sort_by_code-in-Keyed.ensures) in
+    let is : trimmed_some a c.in_ok-total-in-Keyed.total (sorted_by_key c.in_ok-buckets-in-Keyed.buckets.items) ≡ cut_tree a (decoded shard r c.args.tree) =
+    ap (trimmed_some a c.in_ok-total-in-Keyed.total) buckets_are ∙ suffices-cut shard a r c.in_ok-total-in-Keyed.total all c.keep_frequent-coded.result.items apart c.keep_frequent-coded.ensures
+    ∙ (λ i. trimmed_some a (total_is i) (sorted_by_key (map finish (all_is i)))) ∙ sym (keyed-finished shard a r bs) ∙ ap (λ n. cut_tree a (decoded shard r n)) tree_is in
     record { node = subst (λ (m : Node). IfOk c.finish_level.result (λ n. n ≡ m)) is c.finish_level.ensures }
 
 pub finish-returns-in_ok-finish_fixed-in-Fixed : goal.finish-returns-in_ok-finish_fixed-in-Fixed

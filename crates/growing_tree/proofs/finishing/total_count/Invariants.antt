@@ -1,6 +1,5 @@
 use Rattle.std.proofs.Common.{◌≡◌, sum_by, take}
-use Rattle.agg_evaluation.specs.Orders.{bucket_count}
 use Rattle.growing_tree.proofs.finishing.total_count.Given as goal
 
-abbrev pub invariant-loop-bucket : goal.invariant-loop-bucket
-invariant-loop-bucket l = l.total ≡ sum_by bucket_count (take l.bucket-index l.buckets)
+abbrev pub invariant-loop-coded : goal.invariant-loop-coded
+invariant-loop-coded l = l.total ≡ sum_by (λ c. c.bucket.count) (take l.coded-index l.buckets)
