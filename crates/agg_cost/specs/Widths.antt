@@ -1,5 +1,5 @@
--- Bounds on what a search can hold, from how many values a row has at most of each aggregation's fields of keys: a count over all
--- rows tells that, and no path to a row is followed (Elasticsearch Reference 8, 'Circuit breaker settings').
+-- Bounds on what a search can hold, from how many values a row has at most of each aggregation's fields of keys: each shard has
+-- counted that once, and no path to a row is followed (Elasticsearch Reference 8, 'Circuit breaker settings').
 use Rattle.std.specs.Prelude.{◌≡◌, ℕ, ◌*◌, ◌<◌, ◌≤◌, false, List, length, sum_by, Some}
 use Rattle.agg_evaluation.specs.Ceiling.{Reached, ceiling, combination_count, handed_on, is_wide_at, node_bound, search_ceiling}
 use Rattle.agg_evaluation.specs.Keys.{keys}

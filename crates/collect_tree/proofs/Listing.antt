@@ -1,5 +1,5 @@
 -- Rows of the roots of a block, listed one after another.
-use Rattle.std.specs.Prelude.{◌≡◌, ◌≢◌, refl, ℕ, zero, suc, ◌+◌, ◌<◌, ◌≤◌, Bool, true, false, cond, if◌then◌else◌, nat_lt, List, [], ◌∷◌, ◌++◌, All, filter, length, slice_get, take, Some}
+use Rattle.std.specs.Prelude.{◌≡◌, refl, ℕ, zero, suc, ◌+◌, ◌<◌, ◌≤◌, Bool, true, false, cond, if◌then◌else◌, nat_lt, List, [], ◌∷◌, ◌++◌, filter, length, slice_get, take, Some}
 use Rattle.std.specs.List.{list_any}
 use Rattle.std.proofs.Common.{sym, ◌∙◌, ap, subst, arith, length-append}
 use Rattle.std.proofs.Math.ListN.{get_or}
@@ -13,7 +13,7 @@ use Rattle.agg_model.specs.declared.aggregation.Agg.{out-Agg}
 use Rattle.agg_model.specs.declared.aggregation.Search.{Search}
 use Rattle.growth_laws.specs.Amounts.{row_count}
 use Rattle.shard_columns.specs.Columns.{Columns}
-use Rattle.collect_tree.specs.Blocks.{IsBlock, before_root, phase_roots}
+use Rattle.collect_tree.specs.Blocks.{IsBlock, phase_roots}
 use Rattle.collect_tree.specs.Phases.{collected_before}
 use Rattle.collect_tree.specs.declared.phase.Phase.{Phase}
 use Rattle.collect_tree.specs.declared.phase.Phase.TheVariants.{Matched, Global}

@@ -1,7 +1,6 @@
 -- One small index from the bytes of its script, computed: what is loaded is what an index is built from.
 use Rattle.std.specs.Prelude.{◌≡◌, refl, ℕ, pos, negsuc, List, [], ◌∷◌, map, Ok, IfOk, codes}
 use Rattle.agg_model.specs.Lines.{lines}
-use Rattle.agg_model.specs.declared.row.FieldValues.{FieldValues}
 use Rattle.agg_model.specs.declared.row.Scalar.{Scalar}
 use Rattle.agg_model.specs.declared.row.Scalar.TheVariants.{Whole, Word}
 use Rattle.agg_reading.specs.Lines.{Script}

@@ -1,10 +1,9 @@
 -- Queries that are read are made for the mapping.
-use Rattle.std.specs.Prelude.{◌≡◌, refl, ℕ, zero, suc, ◌+◌, List, [], ◌∷◌, ◌++◌, map, length, slice_get, Option, Some, None, Ok, Bool, true, false, ◌&&◌, nat_le, nat_lt, IfOk, option_map, codes}
+use Rattle.std.specs.Prelude.{◌≡◌, refl, ℕ, zero, suc, ◌+◌, List, [], ◌∷◌, ◌++◌, map, slice_get, Option, Some, None, Ok, Bool, true, false, ◌&&◌, nat_le, IfOk, option_map, codes}
 use Rattle.std.specs.List.{list_all}
 use Rattle.std.specs.Option.{option_map_or}
 use Rattle.std.proofs.Common.{sym, ◌∙◌, ap, arith}
-use Rattle.std.proofs.lemmas.Bool.{false≢true, and_parts, and_from}
-use Rattle.std.proofs.lemmas.Bool.Decides.{nat_tests}
+use Rattle.std.proofs.lemmas.Bool.{and_from}
 use Rattle.std.proofs.lemmas.List.Folds.{list_all-append}
 use Rattle.serde_json.specs.Data.{Data, null, boolean, number, string, array, object, Items, no_items, item, Members}
 use Rattle.serde_json.specs.Find.{get_member}
@@ -19,9 +18,9 @@ use Rattle.agg_model.specs.declared.query.Probe.TheVariants as probe
 use Rattle.agg_model.specs.declared.query.RangeOp.{RangeOp}
 use Rattle.agg_model.specs.declared.query.RangeOp.TheVariants.{Gt, Gte, Lt, Lte}
 use Rattle.agg_model.specs.declared.query.RangeTest.{RangeTest}
-use Rattle.agg_model.specs.declared.query.Query.{Query, Row_of-Query, end_of-Query, more_of-Query, Bool as BoolQuery}
+use Rattle.agg_model.specs.declared.query.Query.{Query, Bool as BoolQuery}
 use Rattle.agg_model.specs.declared.query.Query.TheVariants as query
-use Rattle.agg_evaluation.specs.Folds.{fold_query, fold_queries, fold_only}
+use Rattle.agg_evaluation.specs.Folds.{fold_query}
 use Rattle.agg_reading.specs.declared.names.QueryName.{QueryName}
 use Rattle.agg_reading.specs.declared.names.QueryName.TheVariants as name
 use Rattle.agg_reading.specs.Reading.{Reading, ◌>>=◌, refuse, or_refuse}
@@ -35,10 +34,8 @@ use Rattle.agg_reading.specs.Numbers.{whole_at}
 use Rattle.agg_reading.specs.Query.{query_name, Counted, counted, minimum, queries_from, clause_of, clause_at, all_at, clauses_at, bool_at, nested_at, path_in, within_at, named, named_at, query_at, top_query_at, query_from}
 use Rattle.agg_reading.proofs.Steps.{then_ok, next_ok, if_ok}
 use Rattle.agg_evaluation.specs.QueryFits.{field_is, is_probe, are_probes, is_path_beneath, query_fits_at, query_fits}
-use Rattle.agg_evaluation.specs.Conditions.{looks_below_at, looks_below}
 use Rattle.fitting_laws.proofs.Places.{field_found, path_found, path_same}
 use Rattle.agg_evaluation.proofs.QueryFolds.{fold_query-Bool, fold_query-Nested}
-use Rattle.std.proofs.lemmas.Option.{slice_get_within}
 
 -- a field that is found is one of the mapping's
 

@@ -1,13 +1,12 @@
 -- The rows of documents weigh as the documents do.
-use Rattle.std.specs.Prelude.{◌≡◌, refl, ℕ, ◌+◌, List, [], ◌∷◌, ◌++◌, map, sum_by, flat_map}
-use Rattle.std.specs.List.{enumerate_from}
+use Rattle.std.specs.Prelude.{◌≡◌, refl, ℕ, ◌+◌, List, [], ◌∷◌, ◌++◌, sum_by}
 use Rattle.std.proofs.Common.{sym, ◌∙◌, ap}
 use Rattle.std.proofs.lemmas.List.Sums.{sum_by-append, sum_by-cons}
 use Rattle.agg_model.specs.declared.row.Row.{Row, Row', Row_of-Children, end_of-Children, more_of-Children}
 use Rattle.agg_model.specs.declared.row.Children.{Children, Children', Row_of-Row, end_of-Row, more_of-Row}
 use Rattle.agg_model.specs.declared.row.Document.{Document}
 use Rattle.agg_evaluation.specs.Folds.{fold_rows, fold_all_children}
-use Rattle.agg_evaluation.specs.Rows.{PlacedRow, Walk, walk_children, walk_row, rows_of, rows_of_documents}
+use Rattle.agg_evaluation.specs.Rows.{walk_children, walk_row, rows_of, rows_of_documents}
 use Rattle.agg_model.specs.Weight.{field_weight}
 use Rattle.agg_reading.specs.Store as store
 use Rattle.shard_columns.specs.Layout.{children_of}

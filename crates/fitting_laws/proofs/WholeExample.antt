@@ -1,5 +1,5 @@
 -- An index and a search that are read from bytes: all that the laws of wholes ask for is there, and their whole is computed.
-use Rattle.std.specs.Prelude.{◌≡◌, refl, ℕ, List, [], ◌∷◌, ◌++◌, map, length, sum_by, Bool, true, false, ◌&&◌, nat_le, nat_lt, Result, Ok, Err, codes}
+use Rattle.std.specs.Prelude.{◌≡◌, refl, ℕ, List, [], ◌∷◌, ◌++◌, map, length, sum_by, Bool, true, false, ◌&&◌, nat_le, nat_lt, Ok, Err, codes}
 use Rattle.std.specs.List.{list_all}
 use Rattle.agg_model.specs.Contexts.{parents_before}
 use Rattle.agg_model.specs.Lines.{lines}

@@ -2,7 +2,7 @@
 use Rattle.std.specs.Prelude.{◌≡◌, refl, ℕ, suc, ◌+◌, Bool, true, T, List, [], ◌∷◌, map, filter_map, slice_get, Some}
 use Rattle.std.specs.List.{list_all, enumerate_from}
 use Rattle.std.proofs.Common.{sym, subst, arith}
-use Rattle.std.proofs.lemmas.Bool.{and_parts, and_from}
+use Rattle.std.proofs.lemmas.Bool.{and_parts}
 use Rattle.agg_model.specs.Contexts.{parents_before}
 use Rattle.agg_model.specs.declared.aggregation.Agg.{Agg}
 use Rattle.agg_model.specs.declared.aggregation.Search.{Search}

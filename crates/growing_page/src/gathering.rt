@@ -106,7 +106,7 @@ fn new_bucket(
     aggs: &List<Agg>,
     ready: &List<Ready>,
     shard: &Shard,
-    rows: &List<u32>,
+    rows: &[u32],
     spare: &mut Vec<Vec<i64>>,
     key: Key,
 ) -> Result<Held, AllocError>
@@ -135,7 +135,7 @@ fn grow(
     aggs: &List<Agg>,
     ready: &List<Ready>,
     shard: &Shard,
-    rows: &List<u32>,
+    rows: &[u32],
     spare: &mut Vec<Vec<i64>>,
     bucket: &mut Held,
 ) -> Result<u64, AllocError>
@@ -172,7 +172,7 @@ fn put_key(
     agg: &Agg,
     ready: &List<Ready>,
     shard: &Shard,
-    rows: &List<u32>,
+    rows: &[u32],
     spare: &mut Vec<Vec<i64>>,
     page: &mut Page,
     key: Key,
@@ -222,7 +222,7 @@ fn put_keys(
     agg: &Agg,
     ready: &List<Ready>,
     shard: &Shard,
-    rows: &List<u32>,
+    rows: &[u32],
     spare: &mut Vec<Vec<i64>>,
     page: &mut Page,
     keys: List<Key>,
@@ -255,26 +255,16 @@ fn put_keys(
     Ok(change)
 }
 
-fn one_row(alloc: Global, row: u32) -> Result<List<u32>, AllocError>
-    ensures { IfOk result (λ rows. rows ≡ row ∷ []) }
-{
-    let mut rows = List::new(alloc);
-    rows.push(row)?;
-    Ok(rows)
-}
-
-// The page with a row that stands alone in the list.
+// The page with one more row.
 fn put_row(
     alloc: Global,
     agg: &Agg,
     ready: &List<Ready>,
     shard: &Shard,
     row: u32,
-    rows: &List<u32>,
     spare: &mut Vec<Vec<i64>>,
     page: &mut Page,
 ) -> Result<Change, AllocError>
-    requires alone { rows.now ≡ row ∷ [] }
     requires ready { AreReadyFor shard.now (out-Agg agg.now).children ready.now }
     requires built { IsShard shard.now }
     requires apart { IsApart shard.now.rows }
@@ -289,7 +279,8 @@ fn put_row(
         ≡ node_cost (page_node (decoders shard.now ready.now) page.old) + change.added) }
 {
     let keys = keys(alloc, shard, row, &agg.kind)?;
-    let change = put_keys(alloc, agg, ready, shard, rows, spare, page, keys)?;
+    let one = [row];
+    let change = put_keys(alloc, agg, ready, shard, one.as_slice(), spare, page, keys)?;
     Ok(change)
 }
 
@@ -327,6 +318,5 @@ pub fn gather_root(
             removed: 0,
         });
     }
-    let rows = one_row(alloc, row)?;
-    put_row(alloc, agg, ready, shard, row, &rows, spare, page)
+    put_row(alloc, agg, ready, shard, row, spare, page)
 }

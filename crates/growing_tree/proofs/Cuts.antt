@@ -9,7 +9,6 @@ use Rattle.list_laws.proofs.Sums.{sum_by-sorted}
 use Rattle.list_laws.specs.Sorting.{sorted, insert_sorted}
 use Rattle.agg_model.specs.Options.{Options, options_of}
 use Rattle.agg_model.specs.declared.aggregation.Agg.{Agg, out-Agg}
-use Rattle.agg_model.specs.declared.aggregation.Kind.{Kind}
 use Rattle.agg_model.specs.declared.key.Key.{Key}
 use Rattle.agg_model.specs.declared.key.Key.TheVariants as key
 use Rattle.agg_model.specs.declared.partial.Bucket.{Bucket}
@@ -20,14 +19,14 @@ use Rattle.agg_model.specs.declared.partial.Node.TheVariants.{Keyed, Fixed, Numb
 use Rattle.agg_evaluation.specs.Folds.{fold_agg}
 use Rattle.agg_evaluation.specs.KeyOrder.{key_cmp}
 use Rattle.agg_evaluation.specs.Orders.{bucket_count, bucket_key}
-use Rattle.agg_evaluation.specs.Shard.{sorted_by_key, trimmed_node}
+use Rattle.agg_evaluation.specs.Shard.{sorted_by_key}
 use Rattle.agg_evaluation.proofs.AggFolds.{fold_agg-level}
 use Rattle.agg_evaluation.proofs.Computing.{computing}
 use Rattle.agg_evaluation.proofs.NodeForms.{out-Keyed, out-Fixed, out-Number}
 use Rattle.bucket_order.specs.Kinds.{child_kinds}
 use Rattle.growth_laws.specs.Cutting.{Cutter, cut_at, cut_bucket, cut_tree, cutter_at}
 use Rattle.shard_columns.specs.Columns.{Columns}
-use Rattle.terms_agg.specs.Trim.{trimmed_some}
+use Rattle.terms_agg.specs.Trim.{trimmed_by, trimmed_some}
 use Rattle.growing_tree.specs.Codes.{code_key}
 use Rattle.growing_tree.specs.Decoded.{decoded, decoded_bucket}
 use Rattle.growing_tree.specs.Finished.{finished_bucket, finished_children, finished_with}
@@ -53,10 +52,6 @@ sorted-map f cmp (x ∷ xs) = insert-map f cmp x (sorted (λ a b. cmp (f a) (f b
 cutter-kinds : (aggs : List Agg) → map (λ (c : Cutter). c.kind) (map (fold_agg cutter_at) aggs) ≡ child_kinds aggs
 cutter-kinds [] = refl
 cutter-kinds (a ∷ aggs) = λ i. ap (λ (c : Cutter). c.kind) (fold_agg-level cutter_at a) i ∷ cutter-kinds aggs i
-
--- what is cut of a level, by the options of its aggregation
-abbrev pub cut_options : List Kind → ℕ → List Bucket → Options → Node
-cut_options kinds n bs o = elim o [ Options.Terms t ↦ trimmed_node kinds t.shard_size t.order n bs | _ ↦ Keyed bs 0 0 0 ]
 
 -- the items from one on
 pub drop-at : {A : Type 0} (xs : List A) (i : ℕ) (x : A) → slice_get xs i ≡ Some x → drop i xs ≡ x ∷ drop (i + 1) xs
@@ -106,7 +101,7 @@ module _ (shard : Columns) (a : Agg) (r : Ready) where
       let total_is : sum_by bucket_count up ≡ sum_by bucket_count bs = sum_by-sorted bucket_count by (map (decoded_bucket decoders key_of) bs) ∙ sum_by-map bucket_count (decoded_bucket decoders key_of) bs in
       ap (cut_tree a) (decoded-out shard r _ _ (out-Keyed bs 0 0 0))
       ∙ cut-level (Keyed up 0 0 0) _ (out-Keyed up 0 0 0)
-      ∙ ap (λ ks. cut_options ks (sum_by bucket_count up) done (options_of (out-Agg a).kind)) (cutter-kinds (out-Agg a).children) ∙ (λ i. trimmed_some a (total_is i) (done_is i))
+      ∙ ap (λ ks. trimmed_by ks (options_of (out-Agg a).kind) (sum_by bucket_count up) done) (cutter-kinds (out-Agg a).children) ∙ (λ i. trimmed_some a (total_is i) (done_is i))
 
   -- buckets that exist from the start
   pub fixed-finished : (bs : List Bucket) → cut_tree a (decoded shard r (Fixed bs)) ≡ Fixed (map (finished_bucket shard a r) bs)

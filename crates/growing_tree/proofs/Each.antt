@@ -29,7 +29,7 @@ use Rattle.growing_tree.specs.declared.tree.Level.{Level}
 use Rattle.growing_tree.specs.declared.tree.Level.TheVariants.{Keyed, Fixed, Number}
 use Rattle.growing_tree.proofs.Children.{take-full}
 use Rattle.growing_tree.proofs.Counting.{keyed-keeps}
-use Rattle.growing_tree.proofs.Finals.{keeps_all, one-row}
+use Rattle.growing_tree.proofs.Finals.{one-row}
 use Rattle.growing_tree.proofs.Levels.{counted-keyed, decoded-is, gathered-is}
 use Rattle.growing_tree.proofs.Steps.{take-more}
 

@@ -3,18 +3,16 @@ use Rattle.std.specs.Prelude.{◌≡◌, refl, ℕ, suc, ◌≤◌, ◌<◌, ◌
 use Rattle.std.specs.declared.cmp.Ordering.{Ordering}
 use Rattle.std.specs.declared.cmp.Ordering.TheVariants.{Less, Equal, Greater}
 use Rattle.std.specs.Cmp.{IsTotalOrder}
-use Rattle.std.specs.List.{last_or, list_all, list_any}
+use Rattle.std.specs.List.{last_or, list_all}
 use Rattle.std.specs.Ordering.{nat_cmp, is_eq, is_le, ordering_reverse, ordering_then}
 use Rattle.std.proofs.Common.{sym, ◌∙◌, ap, subst, arith, inl, inr}
-use Rattle.std.proofs.lemmas.Bool.{cases_Bool, and_parts, and_from, or_parts}
+use Rattle.std.proofs.lemmas.Bool.{and_parts, and_from, or_parts}
 use Rattle.std.proofs.lemmas.Bool.Decides.{nat_tests}
-use Rattle.std.proofs.lemmas.Cmp.{on_total}
 use Rattle.std.proofs.lemmas.List.{take-append-le}
 use Rattle.list_laws.proofs.Lists.{filter-map, map-map, sum_by-map}
 use Rattle.list_laws.proofs.StableSort.{length-sorted}
 use Rattle.list_laws.proofs.Sums.{sum_by-filter}
 use Rattle.list_laws.specs.Sorting.{insert_sorted, sorted}
-use Rattle.agg_model.specs.Options.{Options, options_of}
 use Rattle.agg_model.specs.declared.aggregation.Agg.{Agg, out-Agg}
 use Rattle.agg_model.specs.declared.aggregation.Kind.{Kind}
 use Rattle.agg_model.specs.declared.aggregation.Order.{Order}
@@ -24,21 +22,20 @@ use Rattle.agg_model.specs.declared.key.Key.{Key}
 use Rattle.agg_model.specs.declared.partial.Bucket.{Bucket}
 use Rattle.agg_model.specs.declared.partial.Node.{Node}
 use Rattle.agg_model.specs.declared.partial.Node.TheVariants.{Keyed}
-use Rattle.agg_evaluation.specs.KeyOrder.{directed, has_key, key_cmp, key_eq}
+use Rattle.agg_evaluation.specs.KeyOrder.{has_key, key_cmp, key_eq}
 use Rattle.agg_evaluation.specs.Orders.{bucket_cmp, bucket_count, bucket_key, cmp_by}
-use Rattle.agg_evaluation.specs.Shard.{sorted_by_key, trimmed_node, with_covered}
+use Rattle.agg_evaluation.specs.Shard.{sorted_by_key, with_covered}
 use Rattle.agg_evaluation.proofs.Computing.{computing}
 use Rattle.bucket_order.proofs.SameOrder.{list_all-sorted}
 use Rattle.bucket_order.proofs.TotalLaws.{bucket_cmp_total}
 use Rattle.bucket_order.specs.Kinds.{child_kinds}
 use Rattle.shard_columns.specs.Columns.{Columns}
-use Rattle.terms_agg.specs.Trim.{trimmed_some}
+use Rattle.terms_agg.specs.Trim.{trimmed_by, trimmed_some}
 use Rattle.growing_tree.specs.CodedBuckets.{by_code, coded_bucket}
 use Rattle.growing_tree.specs.Finished.{finished_bucket}
-use Rattle.growing_tree.specs.Frequent.{AreFrequent, CutsByCount, Suffices, is_by_count, is_count}
+use Rattle.growing_tree.specs.Frequent.{AreFrequent, Suffices, is_by_count, is_count}
 use Rattle.growing_tree.specs.declared.coded.Coded.{Coded}
-use Rattle.growing_tree.specs.declared.ready.Ready.{Ready, out-Ready}
-use Rattle.growing_tree.proofs.Cuts.{cut_options}
+use Rattle.growing_tree.specs.declared.ready.Ready.{Ready}
 use Rattle.growing_tree.proofs.Orderings.{AreApart}
 use Rattle.growing_tree.proofs.Reordered.{sorted-any, sorted-before}
 
@@ -188,7 +185,7 @@ module _ (shard : Columns) (a : Agg) (r : Ready) where
       ap (λ bs. take t.shard_size (sorted cmp (sorted_by_key bs))) kept_is ∙ ap (take t.shard_size) (by-key-before kinds t.order (filter (has_rows are.least) (map made all)) kept_apart)
       ∙ first-pass cmp (bucket_cmp_total kinds t.order) (has_rows are.least) (frequent-first kinds t.order are.least are.cuts.by_count) t.shard_size (map made all) (let enough = are.cuts.enough in omega (arith, enough, many))
       ∙ ap (take t.shard_size) (sym (by-key-before kinds t.order (map made all) apart)) in
-      ap (cut_options kinds total (sorted_by_key (map made kept))) are.cuts.is ∙ ap (kept_node t.shard_size total) first ∙ sym (ap (cut_options kinds total (sorted_by_key (map made all))) are.cuts.is)
+      ap (λ o. trimmed_by kinds o total (sorted_by_key (map made kept))) are.cuts.is ∙ ap (kept_node t.shard_size total) first ∙ sym (ap (λ o. trimmed_by kinds o total (sorted_by_key (map made all))) are.cuts.is)
     where
       length-made : (cs : List Coded) → length (map made cs) ≡ length cs
       length-made [] = refl

@@ -39,10 +39,10 @@ module _ {A : Type 0} (step : Ready-F A → A) where
   items_are end_of-Ready = refl
   items_are (more_of-Ready r rest) = ap (λ xs. fold_ready step r ∷ xs) (items_are rest)
 
-  pub fold_ready-level : (r : Ready) → fold_ready step r ≡ step (record { kind = (out-Ready r).kind; width = (out-Ready r).width; child_bytes = (out-Ready r).child_bytes; children = map (fold_ready step) (out-Ready r).children })
+  pub fold_ready-level : (r : Ready) → fold_ready step r ≡ step (record { kind = (out-Ready r).kind; table = (out-Ready r).table; child_bytes = (out-Ready r).child_bytes; children = map (fold_ready step) (out-Ready r).children })
   unfolding taken_apart
-  fold_ready-level (Ready' kind width child_bytes n row) =
-      ap (λ xs. step (record { kind = kind; width = width; child_bytes = child_bytes; children = xs })) (items_are row ∙ ap (map (fold_ready step)) (sym (items_shown-the_row-Ready-0 n row)))
+  fold_ready-level (Ready' kind table child_bytes n row) =
+      ap (λ xs. step (record { kind = kind; table = table; child_bytes = child_bytes; children = xs })) (items_are row ∙ ap (map (fold_ready step)) (sym (items_shown-the_row-Ready-0 n row)))
 
 module _ (shard : Columns) (r : Ready) where
   -- what callers see of a level

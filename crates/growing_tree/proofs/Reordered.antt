@@ -5,10 +5,10 @@ use Rattle.std.specs.declared.cmp.Ordering.TheVariants.{Less, Equal, Greater}
 use Rattle.std.specs.Cmp.{IsTotalOrder}
 use Rattle.std.specs.List.{IsDistinct, list_any}
 use Rattle.std.specs.Ordering.{int_eq, is_eq, is_le, ordering_reverse}
-use Rattle.std.proofs.Common.{sym, ◌∙◌, ap, subst, ◌+◌, ⊎_elim, append_assoc}
+use Rattle.std.proofs.Common.{sym, ◌∙◌, ap, ◌+◌, ⊎_elim, append_assoc}
 use Rattle.std.proofs.lemmas.Bool.{cases_Bool, true≢false, or_parts}
 use Rattle.std.proofs.lemmas.Cmp.{on_total}
-use Rattle.list_laws.proofs.Lists.{map-append, map-map}
+use Rattle.list_laws.proofs.Lists.{map-append}
 use Rattle.list_laws.proofs.StableSort.{above, at_most, weak}
 use Rattle.list_laws.specs.Sorting.{insert_sorted, sorted}
 use Rattle.agg_model.specs.declared.aggregation.Agg.{Agg}
@@ -21,7 +21,7 @@ use Rattle.agg_evaluation.specs.Shard.{sorted_by_key}
 use Rattle.agg_evaluation.proofs.Computing.{computing}
 use Rattle.agg_evaluation.proofs.KeyCompare.{key_cmp_total}
 use Rattle.shard_columns.specs.Columns.{Columns}
-use Rattle.growing_tree.specs.CodedBuckets.{by_code, coded_bucket}
+use Rattle.growing_tree.specs.CodedBuckets.{coded_bucket}
 use Rattle.growing_tree.specs.Codes.{code_key}
 use Rattle.growing_tree.specs.Finished.{finished_bucket, finished_with}
 use Rattle.growing_tree.specs.Grouped.{HasOwnKeys}

@@ -6,8 +6,8 @@ use Rattle.growing_tree.specs.declared.ready.Ready.TheOpen.{Ready-F}
 module _ {A : Type 0} (step : Ready-F A → A) where
   abbrev mutual
     pub fold_ready : Ready → A
-    fold_ready (Ready' kind width child_bytes n children) =
-        step (record { kind = kind; width = width; child_bytes = child_bytes; children = fold_readies children })
+    fold_ready (Ready' kind table child_bytes n children) =
+        step (record { kind = kind; table = table; child_bytes = child_bytes; children = fold_readies children })
 
     pub fold_readies : {n : _} → Row_of-Ready n → List A
     fold_readies end_of-Ready = []

@@ -1,5 +1,5 @@
 //! Trees over no row.
-ghost use Rattle.std.specs.Prelude.{◌≡◌, ◌+◌, IfOk, length, map};
+ghost use Rattle.std.specs.Prelude.{◌≡◌, ◌+◌, [], IfOk, length, map};
 ghost use Rattle.std.specs.Option.{option_map_or};
 ghost use Rattle.agg_model.specs.declared.aggregation.Agg.{out-Agg};
 ghost use Rattle.agg_evaluation.specs.Cost.{key_bytes};
@@ -13,7 +13,7 @@ ghost use Rattle.growing_tree.specs.declared.ready.Ready.{out-Ready};
 
 use crate::kinds::code_bytes;
 use crate::number::Taken;
-use crate::ready::Ready;
+use crate::ready::{Ready, Table};
 use crate::sums::sum;
 use crate::tree::{Growing, Keyed, Level, Tree};
 use agg_model::costs::BUCKET_BYTES;
@@ -71,6 +71,17 @@ pub fn begin_trees(
     Ok(trees)
 }
 
+// No code, with this table.
+fn no_codes(alloc: Global, table: Table) -> Result<Places, AllocError>
+    ensures { IfOk result (λ places. places ≡ []) }
+{
+    if table.from_start {
+        let places = Places::dense(alloc, table.width)?;
+        return Ok(places);
+    }
+    Ok(Places::growing(alloc, table.width))
+}
+
 // The number of the buckets of filters.
 pub(crate) fn count_of(filters: &List<Query>, other: &Option<Text>) -> Result<usize, AllocError>
     ensures { IfOk result (λ n. n ≡ option_map_or (λ name. length filters.now + 1) other.now (length filters.now)) }
@@ -103,14 +114,15 @@ fn begin_buckets(
 /// metric of no value.
 ///
 /// `AllocError` says that memory is wanted, or that `ready` has not so many children as the aggregation, at some level. Time
-/// and memory are linear in the buckets that exist from the start, those below them counted, and in the codes of the tables.
+/// and memory are linear in the buckets that exist from the start, those below them counted, and in the codes of the tables that
+/// their trees have from the start.
 #[cycle(begin)]
 pub fn begin(alloc: Global, agg: &Agg, ready: &Ready) -> Result<Tree, AllocError>
     ensures { IfOk result (λ tree. (shard : Columns) → decoded shard ready.now tree ≡ empty_node agg.now) }
 {
     match &agg.kind {
         Kind::Terms { .. } | Kind::Histogram { .. } | Kind::Composite { .. } => {
-            let places = Places::dense(alloc, ready.width)?;
+            let places = no_codes(alloc, ready.table)?;
             Ok(Tree {
                 level: Level::Keyed(Keyed {
                     places,

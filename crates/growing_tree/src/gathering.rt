@@ -38,7 +38,7 @@ fn gather_values(
     agg: &Agg,
     ready: &Ready,
     shard: &Shard,
-    rows: &List<u32>,
+    rows: &[u32],
     tree: &mut Tree,
 ) -> Result<(), AllocError>
     requires metric { IsTrue (is_metric (out-Agg agg.now).kind) }
@@ -59,7 +59,7 @@ fn gather_child(
     agg: &Agg,
     ready: &Ready,
     shard: &Shard,
-    rows: &List<u32>,
+    rows: &[u32],
     spare: &mut Vec<Vec<i64>>,
     tree: &mut Tree,
 ) -> Result<u64, AllocError>
@@ -92,7 +92,7 @@ pub fn gather_children(
     aggs: &List<Agg>,
     ready: &List<Ready>,
     shard: &Shard,
-    rows: &List<u32>,
+    rows: &[u32],
     spare: &mut Vec<Vec<i64>>,
     children: &mut Vec<Tree>,
 ) -> Result<u64, AllocError>
@@ -135,7 +135,7 @@ fn gather_bucket(
     aggs: &List<Agg>,
     ready: &List<Ready>,
     shard: &Shard,
-    rows: &List<u32>,
+    rows: &[u32],
     spare: &mut Vec<Vec<i64>>,
     bucket: &mut Growing,
 ) -> Result<u64, AllocError>
@@ -160,7 +160,7 @@ fn put_coded(
     agg: &Agg,
     ready: &Ready,
     shard: &Shard,
-    rows: &List<u32>,
+    rows: &[u32],
     spare: &mut Vec<Vec<i64>>,
     code: i64,
     places: &mut Places,
@@ -224,7 +224,7 @@ fn put_fixed(
     agg: &Agg,
     ready: &Ready,
     shard: &Shard,
-    rows: &List<u32>,
+    rows: &[u32],
     spare: &mut Vec<Vec<i64>>,
     code: i64,
     buckets: &mut Vec<Growing>,
@@ -264,7 +264,7 @@ fn put(
     agg: &Agg,
     ready: &Ready,
     shard: &Shard,
-    rows: &List<u32>,
+    rows: &[u32],
     spare: &mut Vec<Vec<i64>>,
     code: i64,
     level: &mut Level,
@@ -315,7 +315,7 @@ fn put_codes(
     agg: &Agg,
     ready: &Ready,
     shard: &Shard,
-    rows: &List<u32>,
+    rows: &[u32],
     spare: &mut Vec<Vec<i64>>,
     codes: &[i64],
     level: &mut Level,
@@ -341,14 +341,14 @@ fn put_codes(
     Ok(added)
 }
 
-// One more row, which stands alone in the list, in the buckets of its keys.
+/// One more row, which stands alone in the list, in the buckets of its keys. The answer is by how many bytes their cost rose.
 #[cycle(gather)]
-fn put_row(
+pub(crate) fn put_row(
     alloc: Global,
     agg: &Agg,
     ready: &Ready,
     shard: &Shard,
-    rows: &List<u32>,
+    rows: &[u32],
     spare: &mut Vec<Vec<i64>>,
     level: &mut Level,
 ) -> Result<u64, AllocError>
@@ -367,7 +367,7 @@ fn put_row(
     ensures form { OnOk result (IsAlike level.old level.new) }
     ensures aligned { IsAligned level.old → IsAligned level.new }
 {
-    let row = rows.as_slice()[0];
+    let row = rows[0];
     match lone_code(shard, &agg.kind, &ready.kind, row) {
         Some(Some(code)) => {
             let more = put(alloc, agg, ready, shard, rows, spare, code, level)?;
@@ -431,7 +431,7 @@ fn put_groups(
             agg,
             ready,
             shard,
-            &groups.rows[place],
+            groups.rows[place].as_slice(),
             spare,
             codes[place],
             level,
@@ -448,7 +448,7 @@ fn count_keyed(
     agg: &Agg,
     ready: &Ready,
     shard: &Shard,
-    rows: &List<u32>,
+    rows: &[u32],
     spare: &mut Vec<Vec<i64>>,
     level: &mut Level,
 ) -> Result<u64, AllocError>
@@ -474,7 +474,14 @@ fn count_keyed(
         let added = put_row(alloc, agg, ready, shard, rows, spare, level)?;
         return Ok(added);
     }
-    let groups = group_rows(alloc, shard, &agg.kind, &ready.kind, ready.width, rows)?;
+    let groups = group_rows(
+        alloc,
+        shard,
+        &agg.kind,
+        &ready.kind,
+        ready.table.width,
+        rows,
+    )?;
     let added = put_groups(alloc, agg, ready, shard, &groups, spare, level)?;
     Ok(added)
 }
@@ -494,7 +501,7 @@ pub fn gather(
     agg: &Agg,
     ready: &Ready,
     shard: &Shard,
-    rows: &List<u32>,
+    rows: &[u32],
     spare: &mut Vec<Vec<i64>>,
     tree: &mut Tree,
 ) -> Result<u64, AllocError>
@@ -512,16 +519,22 @@ pub fn gather(
             if *context == 0 {
                 return Err(AllocError);
             }
-            let inner = rows_beneath(alloc, shard, *context - 1, rows)?;
-            let more = count(alloc, agg, ready, shard, &inner, spare, tree)?;
+            let path = *context - 1;
+            if rows.len() == 1 {
+                let inner = shard.children(rows[0], path);
+                let more = count(alloc, agg, ready, shard, inner, spare, tree)?;
+                return Ok(more);
+            }
+            let inner = rows_beneath(alloc, shard, path, rows)?;
+            let more = count(alloc, agg, ready, shard, inner.as_slice(), spare, tree)?;
             Ok(more)
         }
         Kind::ReverseNested { context } => {
-            if !ascend(rows.as_slice()) {
+            if !ascend(rows) {
                 return Err(AllocError);
             }
             let outer = rows_around(alloc, shard, *context, rows)?;
-            let more = count(alloc, agg, ready, shard, &outer, spare, tree)?;
+            let more = count(alloc, agg, ready, shard, outer.as_slice(), spare, tree)?;
             Ok(more)
         }
         Kind::Global => Ok(0),
@@ -540,7 +553,7 @@ pub(crate) fn count(
     agg: &Agg,
     ready: &Ready,
     shard: &Shard,
-    rows: &List<u32>,
+    rows: &[u32],
     spare: &mut Vec<Vec<i64>>,
     tree: &mut Tree,
 ) -> Result<u64, AllocError>

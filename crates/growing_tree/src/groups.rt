@@ -94,7 +94,7 @@ pub(crate) fn group_rows(
     kind: &Kind,
     ready: &ReadyKind,
     width: u32,
-    rows: &List<u32>,
+    rows: &[u32],
 ) -> Result<Groups, AllocError>
     requires ready { IsKindReady shard.now kind.now ready.now }
     requires built { IsShard shard.now }
@@ -105,7 +105,7 @@ pub(crate) fn group_rows(
     let mut places = places_for(alloc, width, rows.len())?;
     let mut groups = Vec::new(alloc);
     let mut codes = Vec::new(alloc);
-    for row in rows.as_slice() {
+    for row in rows {
         row_codes(shard, kind, ready, *row, &mut codes)?;
         add_all(alloc, codes.as_slice(), *row, &mut places, &mut groups)?;
     }

@@ -1,9 +1,11 @@
 //! Rows that go into a tree one after another, each alone, with what each adds to its cost.
-ghost use Rattle.std.specs.Prelude.{◌≡◌, ◌<◌, ◌≤◌, ℕ, All, IsTrue, OnOk, length};
+ghost use Rattle.std.specs.Prelude.{◌≡◌, ◌<◌, ◌≤◌, ◌+◌, ℕ, All, IfOk, IsTrue, OnOk, length, sum_by};
 ghost use Rattle.std.specs.List.{list_all};
 ghost use Rattle.agg_model.specs.declared.aggregation.Agg.{out-Agg};
 ghost use Rattle.agg_evaluation.specs.Cost.{node_cost};
 ghost use Rattle.agg_evaluation.specs.Counted.{IsApart};
+ghost use Rattle.agg_evaluation.specs.Rows.{row_of};
+ghost use Rattle.evaluation_laws.proofs.CostLaws.{bytes};
 ghost use Rattle.shard_columns.specs.Built.{IsShard};
 ghost use Rattle.growing_tree.specs.Decoded.{decoded};
 ghost use Rattle.growing_tree.specs.Gathered.{gatherers, rows_at, shown_level};
@@ -13,16 +15,46 @@ ghost use Rattle.growing_tree.specs.Shown.{IsAlike};
 ghost use Rattle.growing_tree.specs.Trees.{IsAligned};
 ghost use Rattle.growing_tree.specs.declared.ready.Ready.{out-Ready};
 
-use crate::gathering::{count, gather};
+use crate::gathering::{count, gather, put_row};
 use crate::kinds::{are_metrics, has_buckets, is_keyed};
 use crate::lone_rows::{put_alone, take_in_tree};
 use crate::ready::{Ready, ReadyKind};
-use crate::single::{one_row, with_row};
 use crate::sums::sum;
 use crate::tree::{Level, Tree};
 use agg_model::Agg;
 use shard_columns::Shard;
 use std::alloc::{AllocError, Global};
+
+// One more row in the buckets of its keys.
+fn put_next(
+    alloc: Global,
+    agg: &Agg,
+    ready: &Ready,
+    shard: &Shard,
+    row: u32,
+    metrics: bool,
+    spare: &mut Vec<Vec<i64>>,
+    level: &mut Level,
+) -> Result<u64, AllocError>
+    requires ready { IsReadyFor shard.now agg.now ready.now }
+    requires metrics { IsTrue metrics → IsTrue (list_all (λ a. is_metric (out-Agg a).kind) (out-Agg agg.now).children) }
+    requires built { IsShard shard.now }
+    requires apart { IsApart shard.now.rows }
+    requires in_range { row < length shard.now.rows }
+    ensures buckets { OnOk result (shown_level shard.now ready.now level.new
+        ≡ put_at_keys shard.now.rows (gatherers shard.now (out-Agg agg.now).children) (out-Agg agg.now).kind
+        (row_of shard.now.rows row) (shown_level shard.now ready.now level.old)) }
+    ensures cost { IfOk result (λ added. sum_by bytes (shown_level shard.now ready.now level.new)
+        ≡ sum_by bytes (shown_level shard.now ready.now level.old) + added) }
+    ensures form { OnOk result (IsAlike level.old level.new) }
+    ensures aligned { IsAligned level.old → IsAligned level.new }
+{
+    if metrics {
+        return put_alone(alloc, agg, ready, shard, row, spare, level);
+    }
+    let one = [row];
+    put_row(alloc, agg, ready, shard, one.as_slice(), spare, level)
+}
 
 // More rows in the buckets of their keys, one after another.
 fn put_each(
@@ -31,13 +63,15 @@ fn put_each(
     ready: &Ready,
     shard: &Shard,
     rows: &[u32],
+    metrics: bool,
     spare: &mut Vec<Vec<i64>>,
     level: &mut Level,
     added: &mut Vec<u64>,
 ) -> Result<(), AllocError>
     requires ready { IsReadyFor shard.now agg.now ready.now }
-    requires metrics { IsTrue (list_all (λ a. is_metric (out-Agg a).kind) (out-Agg agg.now).children) }
+    requires metrics { IsTrue metrics → IsTrue (list_all (λ a. is_metric (out-Agg a).kind) (out-Agg agg.now).children) }
     requires built { IsShard shard.now }
+    requires apart { IsApart shard.now.rows }
     requires in_range { All (λ n. n < length shard.now.rows) rows.now }
     requires many { length added.old.items ≡ length rows.now }
     ensures buckets { OnOk result (shown_level shard.now ready.now level.new ≡ after_each
@@ -51,7 +85,7 @@ fn put_each(
     ensures aligned { IsAligned level.old → IsAligned level.new }
 {
     for place in 0..rows.len() {
-        let more = put_alone(alloc, agg, ready, shard, rows[place], spare, level)?;
+        let more = put_next(alloc, agg, ready, shard, rows[place], metrics, spare, level)?;
         let next = sum(added[place], more)?;
         added[place] = next;
     }
@@ -65,14 +99,16 @@ fn put_each_in_tree(
     ready: &Ready,
     shard: &Shard,
     rows: &[u32],
+    metrics: bool,
     spare: &mut Vec<Vec<i64>>,
     tree: &mut Tree,
     added: &mut Vec<u64>,
 ) -> Result<(), AllocError>
     requires ready { IsReadyFor shard.now agg.now ready.now }
     requires keyed { IsTrue (is_keyed_kind (out-Ready ready.now).kind) }
-    requires metrics { IsTrue (list_all (λ a. is_metric (out-Agg a).kind) (out-Agg agg.now).children) }
+    requires metrics { IsTrue metrics → IsTrue (list_all (λ a. is_metric (out-Agg a).kind) (out-Agg agg.now).children) }
     requires built { IsShard shard.now }
+    requires apart { IsApart shard.now.rows }
     requires in_range { All (λ n. n < length shard.now.rows) rows.now }
     requires many { length added.old.items ≡ length rows.now }
     ensures tree { OnOk result (decoded shard.now ready.now tree.new
@@ -90,6 +126,7 @@ fn put_each_in_tree(
         ready,
         shard,
         rows,
+        metrics,
         spare,
         &mut tree.level,
         added,
@@ -141,10 +178,9 @@ fn gather_in_turn(
         (cost_after (gathered_one shard.now.rows agg.now) (rows_at shard.now rows.now) (decoded shard.now ready.now tree.old))
         (length rows.now) added.old.items added.new.items) }
 {
-    let mut single = one_row(alloc, 0)?;
     for place in 0..rows.len() {
-        single = with_row(single, rows[place]);
-        let more = gather(alloc, agg, ready, shard, &single, spare, tree)?;
+        let one = [rows[place]];
+        let more = gather(alloc, agg, ready, shard, one.as_slice(), spare, tree)?;
         let next = sum(added[place], more)?;
         added[place] = next;
     }
@@ -173,10 +209,9 @@ fn count_in_turn(
         (cost_after (counted_one shard.now.rows agg.now) (rows_at shard.now rows.now) (decoded shard.now ready.now tree.old))
         (length rows.now) added.old.items added.new.items) }
 {
-    let mut single = one_row(alloc, 0)?;
     for place in 0..rows.len() {
-        single = with_row(single, rows[place]);
-        let more = count(alloc, agg, ready, shard, &single, spare, tree)?;
+        let one = [rows[place]];
+        let more = count(alloc, agg, ready, shard, one.as_slice(), spare, tree)?;
         let next = sum(added[place], more)?;
         added[place] = next;
     }
@@ -218,10 +253,9 @@ pub fn gather_each(
             Ok(())
         }
         _ => {
-            let keyed = is_keyed(&ready.kind);
-            let metrics = are_metrics(&agg.children);
-            if keyed && metrics {
-                put_each_in_tree(alloc, agg, ready, shard, rows, spare, tree, added)?;
+            if is_keyed(&ready.kind) {
+                let metrics = are_metrics(&agg.children);
+                put_each_in_tree(alloc, agg, ready, shard, rows, metrics, spare, tree, added)?;
                 return Ok(());
             }
             gather_in_turn(alloc, agg, ready, shard, rows, spare, tree, added)?;

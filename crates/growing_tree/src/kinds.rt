@@ -150,7 +150,7 @@ pub(crate) fn lone_code(
 pub(crate) fn take_rows(
     kind: &Kind,
     shard: &Shard,
-    rows: &List<u32>,
+    rows: &[u32],
     level: &mut Level,
 ) -> Result<(), AllocError>
     requires metric { IsTrue (is_metric kind.now) }
@@ -160,7 +160,7 @@ pub(crate) fn take_rows(
 {
     match level {
         Level::Number(taken) => {
-            for row in rows.as_slice() {
+            for row in rows {
                 take_row(kind, shard, *row, taken)?;
             }
             Ok(())

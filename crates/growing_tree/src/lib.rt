@@ -16,7 +16,6 @@ mod lone_rows;
 mod number;
 mod preparing;
 mod ready;
-mod single;
 mod sums;
 mod tree;
 
@@ -27,5 +26,5 @@ pub use in_turn::{count_each, gather_each};
 pub use kinds::{code_bytes, row_codes};
 pub use number::Taken;
 pub use preparing::{prepare, prepare_all};
-pub use ready::{Ready, ReadyKind};
+pub use ready::{Ready, ReadyKind, Table};
 pub use tree::Tree;

@@ -306,7 +306,7 @@ pub(crate) fn put_in_turn(
     agg: &Agg,
     ready: &Ready,
     shard: &Shard,
-    rows: &List<u32>,
+    rows: &[u32],
     spare: &mut Vec<Vec<i64>>,
     level: &mut Level,
 ) -> Result<u64, AllocError>
@@ -325,7 +325,7 @@ pub(crate) fn put_in_turn(
     ensures aligned { IsAligned level.new }
 {
     let mut added = 0;
-    for row in rows.as_slice() {
+    for row in rows {
         let more = put_alone(alloc, agg, ready, shard, *row, spare, level)?;
         added = sum(added, more)?;
     }

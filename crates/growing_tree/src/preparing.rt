@@ -9,7 +9,7 @@ ghost use Rattle.growing_tree.specs.Readiness.{AreReadyFor, HasChildBytes, IsKin
 ghost use Rattle.growing_tree.specs.Starting.{start_count as number_from_start};
 
 use crate::beginning::count_of;
-use crate::ready::{Ready, ReadyKind};
+use crate::ready::{Ready, ReadyKind, Table};
 use crate::sums::{product, sum};
 use agg_model::costs::{BUCKET_BYTES, NODE_BYTES};
 use agg_model::{Agg, Kind, List};
@@ -19,8 +19,8 @@ use shard_columns::Shard;
 use std::alloc::{AllocError, Global};
 use terms_agg::{code_count, prepare as prepare_terms};
 
-// The tables of all trees of an aggregation together have at most so many entries, of 4 bytes each, but where there is one tree,
-// or each has few codes, which take no more memory in a table than in a map.
+// The tables that all trees of an aggregation have from the start have at most so many entries together, of 4 bytes each, but where
+// there is one tree, or each has few codes, which take no more memory in a table than in a map.
 const MOST_ENTRIES: u64 = 1 << 20;
 
 const FEW_CODES: u32 = 16;
@@ -102,18 +102,17 @@ fn most_buckets(shard: &Shard, kind: &Kind, ready: &ReadyKind) -> u64
     }
 }
 
-// How many codes a table of each tree is for, where there may be so many trees.
-fn table_width(kind: &ReadyKind, codes: u64, trees: u64) -> u32 {
+// The table of each tree, where there may be so many trees.
+fn table_of(kind: &ReadyKind, codes: u64, trees: u64) -> Table {
     let width = match kind {
         ReadyKind::Terms(_) | ReadyKind::Histogram(_) => u32::try_from(codes).unwrap_or(OPEN_WIDTH),
         ReadyKind::Filters(_) => u32::try_from(codes).unwrap_or(0),
         ReadyKind::Single | ReadyKind::Metric | ReadyKind::Composite => 0,
     };
     let entries = u64::from(width).saturating_mul(trees);
-    if trees == 1 || width <= FEW_CODES || entries <= MOST_ENTRIES {
-        width
-    } else {
-        0
+    Table {
+        width,
+        from_start: trees == 1 || width <= FEW_CODES || entries <= MOST_ENTRIES,
     }
 }
 
@@ -134,10 +133,10 @@ fn prepare_within(alloc: Global, shard: &Shard, agg: &Agg, trees: u64) -> Result
         child_bytes = sum(child_bytes, bytes)?;
         children.push(ready)?;
     }
-    let width = table_width(&kind, buckets, trees);
+    let table = table_of(&kind, buckets, trees);
     Ok(Ready {
         kind,
-        width,
+        table,
         child_bytes,
         children,
     })
@@ -147,7 +146,8 @@ fn prepare_within(alloc: Global, shard: &Shard, agg: &Agg, trees: u64) -> Result
 /// than 64 bits of bytes before its first row is answered as want of memory.
 ///
 /// It takes time and memory by the aggregations, and by what each kind takes to prepare. One tree is to grow of the aggregation:
-/// its codes are looked up in a table, and those of aggregations below where all their trees have tables of 4 MiB at most.
+/// its codes are looked up in a table from the start, and so are those of aggregations below where all their trees have tables of
+/// 4 MiB at most; any other tree gets its table once it has many codes.
 pub fn prepare(alloc: Global, shard: &Shard, agg: &Agg) -> Result<Ready, AllocError>
     requires built { IsShard shard.now }
     requires made { IsAggFor shard.now agg.now }
@@ -156,8 +156,8 @@ pub fn prepare(alloc: Global, shard: &Shard, agg: &Agg) -> Result<Ready, AllocEr
     prepare_within(alloc, shard, agg, 1)
 }
 
-/// Aggregations side by side, prepared for the shard: the children of buckets, of which any number may come, so that no codes are
-/// looked up in tables.
+/// Aggregations side by side, prepared for the shard: the children of buckets, of which any number may come, so that a tree gets a
+/// table only once it has many codes.
 pub fn prepare_all(
     alloc: Global,
     shard: &Shard,

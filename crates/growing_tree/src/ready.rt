@@ -19,12 +19,21 @@ pub enum ReadyKind {
     Composite,
 }
 
+/// The table in which the codes of a tree are looked up.
+#[derive(Clone, Copy, Debug, PartialEq, Eq)]
+pub struct Table {
+    /// So many codes, from 0 on, have an entry.
+    pub width: u32,
+    /// Whether a tree has it from the start, and not only once it has many codes.
+    pub from_start: bool,
+}
+
 /// An aggregation that is prepared for a shard, with those below it.
 #[derive(Drop)]
 pub struct Ready {
     pub kind: ReadyKind,
-    /// How many codes from 0 on are looked up in a table, in each tree of the aggregation.
-    pub width: u32,
+    /// The table of each tree of the aggregation.
+    pub table: Table,
     /// What the children of a bucket cost before its first row, in bytes.
     pub child_bytes: u64,
     pub children: List<Ready>,

@@ -34,7 +34,7 @@ pub fn rows_around(
     alloc: Global,
     shard: &Shard,
     context: u32,
-    rows: &List<u32>,
+    rows: &[u32],
 ) -> Result<List<u32>, AllocError>
     requires built { IsShard shard.now }
     requires apart { IsApart shard.now.rows }
@@ -45,7 +45,7 @@ pub fn rows_around(
 {
     let mut found = List::new(alloc);
     let mut last = None;
-    for row in rows.as_slice() {
+    for row in rows {
         if let Some(outer) = around(shard, *row, context) {
             if last != Some(outer) {
                 found.push(outer)?;

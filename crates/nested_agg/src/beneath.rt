@@ -13,7 +13,7 @@ pub fn rows_beneath(
     alloc: Global,
     shard: &Shard,
     path: u32,
-    rows: &List<u32>,
+    rows: &[u32],
 ) -> Result<List<u32>, AllocError>
     requires in_range { All (λ n. n < length shard.now.rows) rows.now }
     ensures rows { IfOk result (λ found. map (row_of shard.now.rows) found
@@ -21,7 +21,7 @@ pub fn rows_beneath(
     ensures in_range { IfOk result (λ found. All (λ n. n < length shard.now.rows) found) }
 {
     let mut found = Vec::new(alloc);
-    for row in rows.as_slice() {
+    for row in rows {
         found.extend_from_slice(shard.children(*row, path))?;
     }
     Ok(List::from_vec(found))

@@ -34,8 +34,8 @@ pub fn under(
     ensures in_range { IfOk result (λ found. All (λ n. n < length shard.now.rows) found) }
 {
     match kind {
-        Kind::Nested { context } => rows_beneath(alloc, shard, *context - 1, rows),
-        Kind::ReverseNested { context } => rows_around(alloc, shard, *context, rows),
+        Kind::Nested { context } => rows_beneath(alloc, shard, *context - 1, rows.as_slice()),
+        Kind::ReverseNested { context } => rows_around(alloc, shard, *context, rows.as_slice()),
         Kind::Terms { .. }
         | Kind::Histogram { .. }
         | Kind::Filters { .. }

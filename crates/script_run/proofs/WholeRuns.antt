@@ -1,5 +1,5 @@
 -- The output of a run, from what was written of its script.
-use Rattle.std.specs.Prelude.{◌≡◌, ℕ, Bool, List, [], ◌∷◌, ◌++◌, take, drop, Option, Some, None, Result, Ok, Err, ⊤}
+use Rattle.std.specs.Prelude.{◌≡◌, ℕ, Bool, List, [], ◌∷◌, ◌++◌, drop, Option, Some, None, Result, Ok, Err, ⊤}
 use Rattle.std.specs.Io.KnownBytes.{append_known}
 use Rattle.std.specs.Option.{option_map_or}
 use Rattle.std.proofs.Common.{inl, inr, refl, ◌∙◌, sym, ap, subst, append-nil}
@@ -12,7 +12,7 @@ use Rattle.agg_settings.specs.Changes.{changed}
 use Rattle.agg_settings.specs.Settings.{settings_of}
 use Rattle.agg_spec.specs.EndLines.{usage_line}
 use Rattle.agg_spec.specs.Generator.{generated}
-use Rattle.agg_spec.specs.Output.{script_from, whole_lines, text_read, IsWholeOf, IsWhole, IsCut, IsStopped, At3}
+use Rattle.agg_spec.specs.Output.{text_read, IsWholeOf, IsWhole, IsCut, IsStopped, At3}
 use Rattle.agg_spec.specs.Written.{Line, error, text_of}
 use Rattle.script_answers.specs.Outputs.{Output}
 use Rattle.script_answers.specs.Puts.{Puts}
@@ -21,7 +21,7 @@ use Rattle.script_answers.specs.declared.stop.Stop.{Stop}
 use Rattle.script_answers.specs.declared.stop.Stop.TheVariants.{Write, Memory}
 use Rattle.script_answers.proofs.Putting.{wrote-nothing}
 use Rattle.script_run.specs.Ends.{ended_by}
-use Rattle.script_run.specs.Runs.{WroteBy, WroteOf, WroteAll, script_of, script_read, IsCutOf, Runs}
+use Rattle.script_run.specs.Runs.{WroteOf, WroteAll, script_of, script_read, IsCutOf, Runs}
 use Rattle.script_run.specs.Statuses.{code_of}
 use Rattle.script_run.specs.declared.status.Status.{Status}
 use Rattle.script_run.specs.declared.status.Status.TheVariants as status

@@ -1,7 +1,6 @@
 -- What is known of a wave when its answers are there.
-use Rattle.std.specs.Prelude.{◌≡◌, refl, ◌+◌, ℕ, suc, List, [], ◌∷◌, ◌++◌, length, IfOk, Option, Result, Ok, Err}
+use Rattle.std.specs.Prelude.{◌≡◌, refl, ◌+◌, ℕ, suc, List, [], ◌∷◌, ◌++◌, length, IfOk, Result, Ok, Err}
 use Rattle.std.proofs.Common.{ap, arith, subst, length-append, ◌∙◌}
-use Rattle.agg_model.specs.declared.breaker.Tripped.{Tripped}
 use Rattle.agg_model.specs.declared.breaker.Which.{Which}
 use Rattle.agg_model.specs.declared.breaker.Which.TheVariants.{Request, Fielddata, Inflight, Parent}
 use Rattle.agg_model.specs.declared.outcome.Answered.{Answered}

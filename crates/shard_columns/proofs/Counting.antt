@@ -1,6 +1,6 @@
 -- The greatest of some numbers, and the most values that a row has.
-use Rattle.std.proofs.Common.{◌≡◌, refl, ℕ, ◌+◌, ◌-◌, ◌<◌, ◌≤◌, zero, suc, true, false, Bool, cond, eqb, List, [], ◌∷◌, ◌++◌, Some, None, Option, length, get_or, take, map, find, inl, inr, sym, ◌∙◌, ap, subst, arith, T}
-use Rattle.std.specs.Prelude.{nat_lt, slice_get, unwrap_or, option_map}
+use Rattle.std.proofs.Common.{◌≡◌, refl, ℕ, ◌+◌, ◌-◌, ◌<◌, ◌≤◌, zero, suc, true, false, Bool, cond, eqb, List, [], ◌∷◌, ◌++◌, Some, Option, length, get_or, take, map, find, inl, inr, sym, ◌∙◌, ap, subst, arith, T}
+use Rattle.std.specs.Prelude.{nat_lt, slice_get}
 use Rattle.std.specs.Option.{option_map_or}
 use Rattle.std.specs.Ordering.{nat_cmp, ord_max}
 use Rattle.std.proofs.lemmas.List.{map-append, length-map, get_or-map, get_or_past}
@@ -22,12 +22,12 @@ use Rattle.shard_columns.specs.declared.words.WordNumbers.{WordNumbers}
 use Rattle.shard_columns.specs.Counts.{most_values}
 use Rattle.shard_columns.specs.Layout.{values_of_laid}
 use Rattle.shard_columns.specs.Stored.{AreDrafts}
-use Rattle.shard_columns.specs.Values.{Reader, Words, no_span, span_in, scalars, typed_len, draft_values, drafted, found_values, held_count, most_held, FieldsBelow, IsShaped}
+use Rattle.shard_columns.specs.Values.{Reader, Words, no_span, span_in, scalars, typed_len, draft_values, found_values, held_count, most_held, FieldsBelow, IsShaped}
 use Rattle.shard_columns.specs.Words.{Shows, AllFieldsBelow}
 use Rattle.shard_columns.proofs.Laying.{take-next}
 use Rattle.shard_columns.proofs.Presenting.{found-unwrap}
 use Rattle.shard_columns.proofs.Searching.{find-some, rises-by}
-use Rattle.shard_columns.proofs.Storing.{get_or-any, scalars-len, length-cut, span-part}
+use Rattle.shard_columns.proofs.Storing.{scalars-len, length-cut, span-part}
 
 abbrev pub more : ℕ → ℕ → ℕ
 more n rest = cond (nat_lt n rest) rest n

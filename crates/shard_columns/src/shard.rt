@@ -42,8 +42,9 @@ pub struct Shard {
     ends: Vec<u32>,
     numbers: Vec<List<u32>>,
     words: Vec<List<Text>>,
-    // By field: the length of its longest word, and how many values a row has of it at most.
+    // The bytes of the longest word of each field.
     longest: Vec<usize>,
+    // How many values a row has at most of each field.
     most: Vec<u32>,
     columns: Vec<Column>,
     values: usize,

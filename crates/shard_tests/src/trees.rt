@@ -134,7 +134,15 @@ fn a_document_becomes_the_tree_of_its_shard(rt: HostRuntime) -> Result<(), Fail>
     rows.push(0)?;
     let mut spare = Vec::new(alloc);
     assert!(rt; shard.len() > 0);
-    let added = gather(alloc, &agg, &ready, &shard, &rows, &mut spare, &mut tree)?;
+    let added = gather(
+        alloc,
+        &agg,
+        &ready,
+        &shard,
+        rows.as_slice(),
+        &mut spare,
+        &mut tree,
+    )?;
     assert_eq!(rt; added, ONE_LETTER + TWO_LETTERS);
     let node = finish(alloc, &agg, &ready, &shard, tree)?;
     assert!(rt; are_items(&node));

@@ -34,8 +34,8 @@ abbrev pub trimmed : Agg → Node → Node
 trimmed agg n = trimmed_at (child_kinds (out-Agg agg).children) (out-Agg agg).kind (out-Node n) n
 
 -- some buckets of an aggregation, cut where they are terms, where all buckets of the shard have so many documents together
-abbrev pub trimmed_some_at : List Kind → Kind → ℕ → List Bucket → Node
-trimmed_some_at kinds k total buckets = elim (options_of k) [ Options.Terms t ↦ trimmed_node kinds t.shard_size t.order total buckets | _ ↦ Keyed buckets 0 0 0 ]
+abbrev pub trimmed_by : List Kind → Options → ℕ → List Bucket → Node
+trimmed_by kinds o total buckets = elim o [ Options.Terms t ↦ trimmed_node kinds t.shard_size t.order total buckets | _ ↦ Keyed buckets 0 0 0 ]
 
 abbrev pub trimmed_some : Agg → ℕ → List Bucket → Node
-trimmed_some agg = trimmed_some_at (child_kinds (out-Agg agg).children) (out-Agg agg).kind
+trimmed_some agg = trimmed_by (child_kinds (out-Agg agg).children) (options_of (out-Agg agg).kind)

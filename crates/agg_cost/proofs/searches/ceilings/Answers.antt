@@ -1,5 +1,5 @@
-use Rattle.std.proofs.Common.{◌≡◌, List, sym, ◌∙◌, subst, Some}
-use Rattle.std.specs.Prelude.{ℕ, slice_get}
+use Rattle.std.proofs.Common.{◌≡◌, List, ◌∙◌, subst, Some}
+use Rattle.std.specs.Prelude.{slice_get}
 use Rattle.agg_model.specs.declared.aggregation.Search.{Search}
 use Rattle.agg_evaluation.specs.SearchFits.{search_fits}
 use Rattle.agg_cost.specs.Searches.{kinds_of}

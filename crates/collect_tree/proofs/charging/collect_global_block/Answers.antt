@@ -1,6 +1,5 @@
 use Rattle.std.proofs.Common.{◌≡◌, ◌+◌, ◌≤◌, ℕ, List, pos, length, take, sym, ◌∙◌, ap, subst, arith}
 use Rattle.std.proofs.lemmas.Result.{err_from_is_err_and}
-use Rattle.agg_evaluation.specs.Rows.{roots}
 use Rattle.growth_laws.specs.Amounts.{amounts, row_count}
 use Rattle.collect_tree.specs.Blocks.{IsBlock}
 use Rattle.collect_tree.specs.Grown.{HasGrown}

@@ -1,7 +1,7 @@
 use Rattle.std.proofs.Common.{◌≡◌, ℕ, List, length, true, sym, ◌∙◌, ap, subst, arith}
 use Rattle.std.specs.List.{list_any}
 use Rattle.std.proofs.lemmas.Result.{err_from_is_err_and}
-use Rattle.agg_evaluation.specs.Rows.{PlacedRow, roots}
+use Rattle.agg_evaluation.specs.Rows.{PlacedRow}
 use Rattle.agg_evaluation.specs.Trace.{is_global, matched}
 use Rattle.agg_model.specs.declared.aggregation.Agg.{out-Agg}
 use Rattle.growth_laws.specs.Amounts.{amounts, row_count}

@@ -1,8 +1,7 @@
-use Rattle.std.proofs.Common.{◌≡◌, ◌+◌, ◌<◌, ◌≤◌, ℕ, length, take, sym, ◌∙◌, ap, subst, arith}
+use Rattle.std.proofs.Common.{◌≡◌, ◌+◌, ℕ, length, take, sym, ◌∙◌, ap, subst, arith}
 use Rattle.std.proofs.lemmas.Result.{err_from_is_err_and}
 use Rattle.agg_evaluation.specs.Matching.{matches}
 use Rattle.agg_evaluation.specs.Rows.{roots}
-use Rattle.agg_evaluation.specs.Trace.{matched}
 use Rattle.growth_laws.specs.Amounts.{amounts}
 use Rattle.task_charges.specs.Charged.{HasPaid}
 use Rattle.collect_tree.specs.Grown.{HasGrown}

@@ -5,7 +5,6 @@ use Rattle.agg_evaluation.specs.Rows.{roots}
 use Rattle.growth_laws.specs.Amounts.{amounts, row_count}
 use Rattle.collect_tree.specs.Blocks.{IsBlock}
 use Rattle.collect_tree.specs.Grown.{HasGrown}
-use Rattle.collect_tree.specs.Phases.{collected_before}
 use Rattle.collect_tree.specs.Stops.{PaysOn}
 use Rattle.collect_tree.specs.declared.phase.Phase.TheVariants.{Matched}
 use Rattle.collect_tree.proofs.Amounting.{held-sum}

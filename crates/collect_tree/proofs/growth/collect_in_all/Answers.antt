@@ -2,7 +2,7 @@ use Rattle.std.proofs.Common.{◌≡◌, refl, ◌+◌, ◌<◌, ◌++◌, ◌�
 use Rattle.std.proofs.lemmas.List.{take_all}
 use Rattle.std.proofs.lemmas.List.Sums.{sum_by-append, sum_by-cons}
 use Rattle.std.proofs.lemmas.Option.{slice_get_read, slice_get_within}
-use Rattle.agg_evaluation.specs.Rows.{PlacedRow, row_of}
+use Rattle.agg_evaluation.specs.Rows.{row_of}
 use Rattle.agg_model.specs.declared.aggregation.Agg.{Agg}
 use Rattle.agg_model.specs.declared.partial.Node.{Node}
 use Rattle.growing_tree.specs.GatheredEach.{after_each, cost_after}

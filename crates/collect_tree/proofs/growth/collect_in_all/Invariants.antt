@@ -1,4 +1,4 @@
-use Rattle.std.proofs.Common.{◌≡◌, length, map, sum_by, take}
+use Rattle.std.proofs.Common.{length, map, sum_by, take}
 use Rattle.agg_evaluation.specs.Rows.{row_of}
 use Rattle.agg_model.specs.declared.aggregation.Agg.{Agg}
 use Rattle.agg_model.specs.declared.partial.Node.{Node}

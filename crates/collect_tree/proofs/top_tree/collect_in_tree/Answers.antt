@@ -1,4 +1,4 @@
-use Rattle.std.proofs.Common.{◌≡◌, sym, ◌∙◌, ap, subst, length, map, take}
+use Rattle.std.proofs.Common.{sym, ◌∙◌, ap, subst, length, map, take}
 use Rattle.agg_evaluation.specs.Cost.{node_cost}
 use Rattle.agg_evaluation.specs.Rows.{PlacedRow, row_of}
 use Rattle.agg_model.specs.declared.partial.Node.{Node}

@@ -1,4 +1,4 @@
-use Rattle.std.proofs.Common.{sym, ◌∙◌, ap, subst, arith, rules, ◌≡◌, ◌<◌, ◌≤◌, ◌+◌, ◌-◌, ℕ, ℤ, List, [], ◌∷◌, length, map, take, sum_by, get_or, w64, to_z, of_z, pos}
+use Rattle.std.proofs.Common.{sym, ◌∙◌, ap, subst, arith, rules, ◌≡◌, ◌<◌, ◌≤◌, ◌+◌, ◌-◌, ℤ, List, [], length, map, take, sum_by, get_or, w64, to_z, of_z, pos}
 use Rattle.std.specs.Prelude.{slice_get, flat_map, option_map}
 use Rattle.std.specs.List.{IsDistinct}
 use Rattle.std.specs.Ordering.{int_eq}
@@ -6,11 +6,9 @@ use Rattle.std.proofs.lemmas.Bool.{false≢true}
 use Rattle.std.proofs.lemmas.Int.{to_z-of_z}
 use Rattle.std.proofs.lemmas.List.{length-map}
 use Rattle.std.proofs.lemmas.Option.{slice_get-get_or, slice_get-map}
-use Rattle.list_laws.proofs.Lists.{map-append}
 use Rattle.agg_model.specs.declared.aggregation.Agg.{out-Agg}
 use Rattle.agg_evaluation.specs.Cost.{key_bytes, node_cost}
 use Rattle.agg_evaluation.specs.Groups.{group, under}
-use Rattle.agg_evaluation.specs.Keys.{keys}
 use Rattle.agg_evaluation.specs.Rows.{row_of, beneath}
 use Rattle.evaluation_laws.proofs.CostLaws.{bytes}
 use Rattle.growth_laws.specs.Gathering.{counted, gathered_buckets, gatherer_of, put_rows}
@@ -29,7 +27,6 @@ use Rattle.growing_tree.proofs.Finals.{groups-are, groups-within, many-rows, one
 use Rattle.growing_tree.proofs.Levels.{children-ready, level-ready, counted-none, empties-are, gathered-is}
 use Rattle.growing_tree.proofs.Putting.{number-bytes, put-number}
 use Rattle.growing_tree.proofs.Steps.{found-buckets, found-cost, added-buckets, added-cost, item-at, mapped-at, put_all-more, take-more}
-use Rattle.growing_tree.proofs.Turns.{metrics-steps, one-more}
 use Rattle.growing_tree.proofs.gathering.+gather.Goals as goal
 
 pub gather_children-gather_child-requires : goal.gather_children-gather_child-requires

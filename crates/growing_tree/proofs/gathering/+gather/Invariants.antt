@@ -1,4 +1,4 @@
-use Rattle.std.proofs.Common.{◌≡◌, ◌+◌, ◌*◌, List, length, map, take, sum_by}
+use Rattle.std.proofs.Common.{◌≡◌, ◌+◌, ◌*◌, List, map, take, sum_by}
 use denote.Param.Weighed.{most}
 use Rattle.agg_model.specs.declared.aggregation.Agg.{out-Agg, size-Agg}
 use Rattle.agg_model.specs.declared.key.Key.{Key}

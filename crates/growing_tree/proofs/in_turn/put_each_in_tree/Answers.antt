@@ -1,4 +1,4 @@
-use Rattle.std.proofs.Common.{sym, ◌∙◌, ap, subst, rules, length}
+use Rattle.std.proofs.Common.{◌∙◌, ap, subst, rules, length}
 use Rattle.agg_model.specs.declared.aggregation.Agg.{out-Agg}
 use Rattle.agg_model.specs.declared.partial.Node.{Node}
 use Rattle.growing_tree.specs.Decoded.{decoded}

@@ -1,4 +1,4 @@
-use Rattle.std.proofs.Common.{sym, ◌∙◌, ap, arith, ◌≡◌, ◌<◌, ◌≤◌, ◌+◌, ℕ, length, get_or}
+use Rattle.std.proofs.Common.{sym, ◌∙◌, ap, arith, ◌≡◌, ◌<◌, ◌+◌, length, get_or}
 use Rattle.agg_evaluation.specs.Cost.{node_cost}
 use Rattle.agg_evaluation.specs.Rows.{row_of}
 use Rattle.growing_tree.specs.Decoded.{decoded}

@@ -1,4 +1,4 @@
-use Rattle.std.proofs.Common.{sym, ◌∙◌, ap, arith, rules, ◌≡◌, ◌<◌, ◌+◌, ◌∷◌, [], length, map, sum_by, w64, to_z, of_z}
+use Rattle.std.proofs.Common.{sym, ◌∙◌, ap, arith, rules, ◌≡◌, ◌<◌, ◌+◌, ◌∷◌, [], length, sum_by, w64, to_z, of_z}
 use Rattle.std.proofs.lemmas.Int.{to_z-of_z}
 use Rattle.agg_model.specs.declared.aggregation.Agg.{out-Agg}
 use Rattle.agg_evaluation.specs.Cost.{key_bytes, node_cost}

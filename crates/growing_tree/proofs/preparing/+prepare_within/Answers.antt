@@ -53,7 +53,7 @@ returns t c =
     let items = c.as_slice-child-items.result.now in
     let all = take_all c.loop-child.child-index items c.loop-child-test.false ∙ c.as_slice-child-items.ensures in
     record {
-      ready = made-ready shard c.args.agg.now (record { kind = c.loop-child.kind-1; width = c.table_width-width.result; child_bytes = c.loop-child.child_bytes; children = c.loop-child.children }) c.loop-child.invariant.kind
+      ready = made-ready shard c.args.agg.now (record { kind = c.loop-child.kind-1; table = c.table_of-table.result; child_bytes = c.loop-child.child_bytes; children = c.loop-child.children }) c.loop-child.invariant.kind
           (c.loop-child.invariant.bytes ∙ ap (λ (xs : List Agg). sum_by node_cost (map empty_node xs)) all)
           (omega (arith, c.loop-child.invariant.many, c.loop-child-test.false, c.loop-child.auto.child-index-end, ap (λ (xs : List Agg). length xs) c.as_slice-child-items.ensures))
           (subst (λ (xs : List Agg). AreReadyFor shard xs c.loop-child.children) all c.loop-child.invariant.ready);

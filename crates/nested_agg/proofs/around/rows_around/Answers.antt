@@ -1,5 +1,4 @@
 use Rattle.std.proofs.Common.{◌<◌, ◌+◌, ◌++◌, ◌∷◌, ℕ, List, length, map, take, [], Some, None, sym, ◌∙◌, ap, subst}
-use Rattle.std.specs.List.Sorted.{IsStrictlyIncreasing}
 use Rattle.std.proofs.lemmas.List.Elements.{All-nil, All-push, All-same}
 use Rattle.agg_evaluation.specs.Rows.{enclosing, row_of}
 use Rattle.nested_agg.proofs.Lists.{all_of}
@@ -16,11 +15,11 @@ loop-row-init c = record {
 pub loop-row-preserved : goal.loop-row-preserved
 loop-row-preserved c =
     let s = c.args.shard.now in
-    let items = c.as_slice-row-items.result.now in
+    let items = c.args.rows.now in
     let i = c.loop-row.row-index in
     let context = c.args.context in
-    let in_range = All-same (λ n. n < length s.rows) items c.args.rows.now c.as_slice-row-items.ensures c.requires.in_range in
-    let rising = subst IsStrictlyIncreasing (sym c.as_slice-row-items.ensures) c.requires.ascending in
+    let in_range = c.requires.in_range in
+    let rising = c.requires.ascending in
     let found = c.loop-row.found in
     let last = c.loop-row.last in
     let was = c.loop-row.invariant.found in
@@ -50,9 +49,8 @@ loop-row-preserved c =
 pub returns-clause-rows : goal.returns-clause-rows
 returns-clause-rows c =
     let rows = c.args.shard.now.rows in
-    let items = c.as_slice-row-items.result.now in
     found_are rows c.args.context _ c.loop-row.found c.loop-row.last c.loop-row.invariant.found
-    ∙ ap (λ (ns : List ℕ). enclosing rows c.args.context (map (row_of rows) ns)) (all_of items c.loop-row.row-index c.loop-row-test.false ∙ c.as_slice-row-items.ensures)
+    ∙ ap (λ (ns : List ℕ). enclosing rows c.args.context (map (row_of rows) ns)) (all_of c.args.rows.now c.loop-row.row-index c.loop-row-test.false)
 
 pub returns-clause-in_range : goal.returns-clause-in_range
 returns-clause-in_range c = c.loop-row.invariant.in_range

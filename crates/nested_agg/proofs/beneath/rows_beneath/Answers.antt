@@ -1,4 +1,4 @@
-use Rattle.std.proofs.Common.{◌<◌, [], ◌++◌, ℕ, List, flat_map, length, map, take, sym, ◌∙◌, ap, arith, rules, ◌≡◌, ◌+◌}
+use Rattle.std.proofs.Common.{◌<◌, [], ◌++◌, List, flat_map, length, map, take, sym, ◌∙◌, ap, arith, rules, ◌≡◌, ◌+◌}
 use Rattle.std.proofs.lemmas.List.Elements.{All-append, All-from_get_or, All-nil, All-same}
 use Rattle.agg_evaluation.specs.Rows.{PlacedRow, beneath, row_of}
 use Rattle.list_laws.proofs.Lists.{map-append}
@@ -14,7 +14,7 @@ loop-row-init c = (
 pub loop-row-preserved : goal.loop-row-preserved
 loop-row-preserved c =
     let rows = c.args.shard.now.rows in
-    let items = c.as_slice-row-items.result.now in
+    let items = c.args.rows.now in
     let before = flat_map (beneath rows (c.args.path + 1)) (map (row_of rows) (take c.loop-row.row-index items)) in
     let own = c.children.result.now in
     let more : c.extend_from_slice.new.self.items ≡ c.loop-row.found.items ++ own = search rules in (
@@ -29,10 +29,8 @@ loop-row-preserved c =
 pub returns-clause-rows : goal.returns-clause-rows
 returns-clause-rows c =
     let rows = c.args.shard.now.rows in
-    let items = c.as_slice-row-items.result.now in
     ap (map (row_of rows)) c.from_vec.ensures ∙ c.loop-row.invariant.0
-    ∙ (given_all (row_of rows) (beneath rows (c.args.path + 1)) items c.loop-row.row-index (omega (arith, c.loop-row-test.false))
-    ∙ ap (λ (ns : List ℕ). flat_map (beneath rows (c.args.path + 1)) (map (row_of rows) ns)) c.as_slice-row-items.ensures)
+    ∙ given_all (row_of rows) (beneath rows (c.args.path + 1)) c.args.rows.now c.loop-row.row-index (omega (arith, c.loop-row-test.false))
 
 pub returns-clause-in_range : goal.returns-clause-in_range
 returns-clause-in_range c = All-same (λ n. n < length c.args.shard.now.rows) c.from_vec.result c.loop-row.found.items c.from_vec.ensures c.loop-row.invariant.1

@@ -3,7 +3,6 @@ use Rattle.std.specs.Prelude.{IsTrue}
 use Rattle.std.proofs.lemmas.Option.{IfSome_then}
 use Rattle.arrival_moves.specs.declared.item.Item.TheVariants.{Arrived, Loaded, Put}
 use Rattle.arrival_moves.specs.declared.plan.Plan.{Plan}
-use Rattle.arrival_moves.specs.declared.view.View.{View}
 use Rattle.arrival_moves.specs.AfterMove.{after_arrive, after_put}
 use Rattle.arrival_moves.specs.Items.{is_loaded}
 use Rattle.arrival_moves.specs.Lists.{contains}

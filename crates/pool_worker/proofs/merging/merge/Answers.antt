@@ -8,7 +8,7 @@ use Rattle.arrival_moves.specs.Plans.{search_of}
 use Rattle.arrival_table.specs.Models.{DeskModel}
 use Rattle.pool_batch.specs.declared.taken.Taken.{Taken}
 use Rattle.pool_results.specs.Carried.{AreRuns, label_of}
-use Rattle.pool_results.specs.Pools.{Pool, shard_count, task_number}
+use Rattle.pool_results.specs.Pools.{Pool, task_number}
 use Rattle.pool_results.specs.declared.work.Work.{Work}
 use Rattle.pool_worker.specs.Plans.{plan_of}
 use Rattle.pool_worker.proofs.Gathering.{IsGathering, batch-at, batch_hand, gathering-begun, gathering-due, gathering-has, gathering-new, gathering-next, has-batch, is-due, one-run, search-of-work, whole-empty, whole-has, whole-label}

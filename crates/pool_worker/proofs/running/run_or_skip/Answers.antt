@@ -1,6 +1,4 @@
-use Rattle.std.proofs.Common.{◌≡◌, ◌∷◌, [], Bool, true, false, cond, sym, ap, ◌∙◌, subst, refl}
 use Rattle.std.specs.Prelude.{IsTrue}
-use Rattle.arrival_moves.specs.Lists.{contains, one_if}
 use Rattle.pool_worker.proofs.Gathering.{one-task}
 use Rattle.pool_worker.proofs.running.run_or_skip.Goals as goal
 

@@ -1,14 +1,12 @@
-use Rattle.std.proofs.Common.{◌≡◌, ℕ, ◌+◌, ◌-◌, ◌*◌, ◌<◌, ◌≤◌, min, ◌∷◌, [], false, length, sym, ap, ◌∙◌, subst, arith}
+use Rattle.std.proofs.Common.{◌≡◌, ℕ, ◌-◌, ◌*◌, ◌<◌, min, ◌∷◌, [], false, sym, ap, ◌∙◌, subst, arith}
 use Rattle.arrival_moves.specs.declared.item.Item.TheVariants.{Batch}
-use Rattle.arrival_moves.specs.declared.limits.TheConstants.{MAX_TASKS}
 use Rattle.arrival_moves.specs.declared.plan.Plan.{Plan}
 use Rattle.arrival_moves.specs.Labels.{no_label}
 use Rattle.arrival_moves.specs.Lists.{numbers_from}
-use Rattle.arrival_moves.specs.Plans.{batch_size, task_count, tasks_of}
+use Rattle.arrival_moves.specs.Plans.{batch_size, tasks_of}
 use Rattle.arrival_moves.proofs.Words.{of_search_le}
 use Rattle.arrival_table.proofs.OneItem.{claimed_has}
 use Rattle.pool_task.proofs.Pooling.{shards-are}
-use Rattle.pool_results.specs.Pools.{shard_count}
 use Rattle.pool_worker.proofs.Tasks.{task-count, task-search}
 use Rattle.pool_worker.proofs.working.run_claimed.Goals as goal
 

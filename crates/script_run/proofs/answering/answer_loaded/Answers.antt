@@ -1,4 +1,4 @@
-use Rattle.std.proofs.Common.{List, ap, refl, Some, []}
+use Rattle.std.proofs.Common.{ap, refl, []}
 use Rattle.agg_base.proofs.Gave.{gave_nothing}
 use Rattle.agg_model.specs.declared.settings.Settings.{Settings}
 use Rattle.agg_spec.specs.Answers.{Recent}

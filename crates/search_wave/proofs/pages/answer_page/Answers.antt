@@ -1,6 +1,5 @@
 use Rattle.std.specs.Prelude.{ℕ, List, [], ◌∷◌, map}
-use Rattle.std.proofs.Common.{ap, subst, sym, ◌∙◌}
-use Rattle.agg_model.specs.declared.outcome.Answered.{Answered}
+use Rattle.std.proofs.Common.{subst, sym, ◌∙◌}
 use Rattle.agg_search.specs.Paging.{request_at}
 use Rattle.agg_search.specs.declared.solo.Page.{Page}
 use Rattle.index_laws.specs.Indexes.{index_of}

@@ -1,5 +1,5 @@
-use Rattle.std.specs.Prelude.{◌≡◌, ℕ, List, [], ◌∷◌, ◌++◌}
-use Rattle.std.proofs.Common.{◌∙◌, ap, sym}
+use Rattle.std.specs.Prelude.{◌≡◌, [], ◌∷◌, ◌++◌}
+use Rattle.std.proofs.Common.{◌∙◌}
 use Rattle.search_wave.proofs.Following.{so-far-all, so-far-on}
 use Rattle.search_wave.proofs.pages.search_pages.Goals as goal
 

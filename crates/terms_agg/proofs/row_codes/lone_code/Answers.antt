@@ -1,4 +1,4 @@
-use Rattle.std.proofs.Common.{◌≡◌, refl, ◌∙◌, ◌++◌, ◌<◌, ◌≤◌, ◌+◌, sym, ap, arith, List, [], ◌∷◌, length, map, take}
+use Rattle.std.proofs.Common.{◌≡◌, refl, ◌∙◌, ◌++◌, ◌+◌, sym, ap, arith, List, [], ◌∷◌, length, map, take}
 use Rattle.std.specs.Prelude.{option_to_list}
 use Rattle.std.proofs.lemmas.List.{length-map}
 use Rattle.agg_model.specs.Options.{TermsOptions}
