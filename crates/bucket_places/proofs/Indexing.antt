@@ -1,11 +1,11 @@
--- An index over no code, and over one more.
+-- An index over no code, and over one more; codes that differ.
 use Rattle.std.specs.Prelude.{◌≡◌, refl, ◌||◌, ℕ, ℤ, pos, zero, suc, ◌<◌, false, cond, List, [], ◌∷◌, ◌++◌, length, Option, Some, None, slice_get}
 use Rattle.std.specs.BTreeMap.{BTreeMap, Updates, get}
-use Rattle.std.specs.List.{IsDistinct, list_any, slice_index_or}
+use Rattle.std.specs.List.{AllByRecursion, IsDistinct, list_any, slice_index_or}
 use Rattle.std.specs.Map.{lookup}
 use Rattle.std.specs.Ordering.{int_cmp, int_eq}
 use Rattle.std.proofs.Common.{sym, ◌∙◌, ap, subst, arith, inl, inr}
-use Rattle.std.proofs.Math.ListN.{set}
+use Rattle.std.proofs.Math.ListN.{set, take}
 use Rattle.std.proofs.lemmas.Bool.{cases_Bool, false≢true}
 use Rattle.std.proofs.lemmas.Bool.Decides.{Decides-int_eq}
 use Rattle.std.proofs.lemmas.Cmp.{int_eq_equiv}
@@ -95,3 +95,18 @@ module _ (codes : List ℤ) (table : List ℕ) (others : BTreeMap ℤ ℕ) (was 
 -- a map that has changed at a code and a place that are these
 pub updates_at : (others more : BTreeMap ℤ ℕ) (place last : ℕ) {x code : ℤ} → x ≡ code → place ≡ last → Updates int_cmp others more x (Some place) → Updates int_cmp others more code (Some last)
 updates_at others more place last {x} {code} same at h = subst (λ (k : ℕ). Updates int_cmp others more code (Some k)) at (subst (λ (z : ℤ). Updates int_cmp others more z (Some place)) same h)
+
+-- a code that stands after one from which all differ
+differs-later : (code : ℤ) (codes : List ℤ) (k : ℕ) (d : ℤ) → k < length codes → AllByRecursion (λ y. int_eq code y ≡ false) codes → int_eq (slice_index_or codes k d) code ≡ false
+differs-later code [] k d l apart = absurd (omega (arith, l))
+differs-later code (c ∷ codes) zero d l apart = int_eq_equiv.symm c code ∙ apart.0
+differs-later code (c ∷ codes) (suc k) d l apart = differs-later code codes k d (omega (arith, l)) apart.1
+
+-- of distinct codes, each stands nowhere before its place
+pub absent-before : (codes : List ℤ) (k : ℕ) (d : ℤ) → IsDistinct int_eq codes → k < length codes → list_any (int_eq (slice_index_or codes k d)) (take k codes) ≡ false
+unfolding IsDistinct
+absent-before [] k d distinct l = absurd (omega (arith, l))
+absent-before (c ∷ codes) zero d distinct l = refl
+absent-before (c ∷ codes) (suc k) d distinct l =
+    let within : k < length codes = omega (arith, l) in
+    λ i. differs-later c codes k d within distinct.0 i || absent-before codes k d distinct.1 within i

@@ -8,6 +8,9 @@ use std::alloc::{AllocError, Global};
 use std::collections::BTreeMap;
 use std::marker::Model;
 
+// A growing index makes its table once there is a code for each so many entries, of 4 bytes each.
+const ENTRIES_A_CODE: usize = 32;
+
 /// Where a code stands.
 #[derive(Clone, Copy, Debug, PartialEq, Eq)]
 pub enum Place {
@@ -25,6 +28,9 @@ pub struct Places {
     table: Vec<u32>,
     // The places of the codes that are no number of an entry.
     others: BTreeMap<i64, usize>,
+    // How many entries the table has, or is to have once there are many codes.
+    width: u32,
+    alloc: Global,
 }
 
 impl Model for Places {
@@ -70,11 +76,7 @@ impl Places {
     pub fn ordered(alloc: Global) -> Self
         ensures { result ≡ [] }
     {
-        Places {
-            codes: Vec::new(alloc),
-            table: Vec::new(alloc),
-            others: BTreeMap::new(alloc),
-        }
+        Places::growing(alloc, 0)
     }
 
     /// No code, with a table of 4 bytes for each code from 0 to below `width`, which are looked up at once. Other codes may come
@@ -86,7 +88,36 @@ impl Places {
             codes: Vec::new(alloc),
             table: zeros(alloc, width as usize)?,
             others: BTreeMap::new(alloc),
+            width,
+            alloc,
         })
+    }
+
+    /// No code, with an index as in `ordered`. Once as many codes stand here as one for each 32 from 0 to below `width`, the next
+    /// that is added makes the table of `dense`, which so takes at most 128 bytes for each code that stands here. Making it takes
+    /// the time of adding each of them once more, and the memory of both indexes until it is done.
+    pub fn growing(alloc: Global, width: u32) -> Self
+        ensures { result ≡ [] }
+    {
+        Places {
+            codes: Vec::new(alloc),
+            table: Vec::new(alloc),
+            others: BTreeMap::new(alloc),
+            width,
+            alloc,
+        }
+    }
+
+    // These codes, each at its place, with a table for those from 0 to below `width`.
+    fn with_table(alloc: Global, codes: &[i64], width: u32) -> Result<Self, AllocError>
+        requires distinct { IsDistinct int_eq codes.now }
+        ensures { IfOk result (λ places. places ≡ codes.now) }
+    {
+        let mut places = Places::dense(alloc, width)?;
+        for code in codes {
+            places.add(*code)?;
+        }
+        Ok(places)
     }
 
     /// The codes, each at its place.
@@ -138,6 +169,17 @@ impl Places {
         }
     }
 
+    // Makes the table where it is due. The codes stay as they are, also after want of memory.
+    fn grow(&mut self) -> Result<(), AllocError>
+        ensures { self.new ≡ self.old }
+    {
+        let width = self.width as usize;
+        if self.table.len() < width && self.codes.len().saturating_mul(ENTRIES_A_CODE) >= width {
+            *self = Places::with_table(self.alloc, self.codes.as_slice(), self.width)?;
+        }
+        Ok(())
+    }
+
     /// The place of the code: where it stands, or at the end, where it comes to stand if it was not there. It takes memory where
     /// the code is added, and after want of memory all is as before.
     pub fn find_or_add(&mut self, code: i64) -> Result<Place, AllocError>
@@ -149,6 +191,7 @@ impl Places {
         match self.find(code) {
             Some(place) => Ok(Place::Found(place)),
             None => {
+                self.grow()?;
                 let place = self.add(code)?;
                 Ok(Place::Added(place))
             }

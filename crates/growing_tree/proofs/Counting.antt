@@ -1,6 +1,7 @@
 -- What more rows that an aggregation counts come to at one level.
-use Rattle.std.specs.Prelude.{◌≡◌, refl, ℕ, ℤ, ◌+◌, true, List, [], ◌∷◌, ◌++◌, map, length, take, slice_get, Some, option_map, pos, sum_by, IsTrue}
+use Rattle.std.specs.Prelude.{◌≡◌, ◌==◌, refl, ℕ, ℤ, ◌+◌, true, List, [], ◌∷◌, ◌++◌, map, length, take, slice_get, Some, option_map, pos, sum_by, IsTrue}
 use Rattle.std.proofs.Common.{sym, ◌∙◌, ap, subst, arith}
+use Rattle.std.proofs.Math.Dec.{eqb-suc-zero}
 use Rattle.std.proofs.Math.ListN.{get_or}
 use Rattle.std.proofs.lemmas.Bool.{false≢true}
 use Rattle.std.proofs.lemmas.Option.{slice_get-map}
@@ -51,6 +52,11 @@ keyed-keeps shard k (Terms p) h keyed = ap keeps_all h.kind_is
 keyed-keeps shard k (Filters p) h keyed = filtering-keeps k h.filtering
 keyed-keeps shard k (Histogram p) h keyed = ap keeps_all h.kind_is
 keyed-keeps shard k Composite h keyed = absurd (false≢true keyed)
+
+-- a list of which it is told that it is empty
+pub nothing-there : (rows : List ℕ) → (length rows == 0) ≡ true → rows ≡ []
+nothing-there [] h = refl
+nothing-there (row ∷ rows) h = absurd (false≢true (sym (eqb-suc-zero (length rows)) ∙ h))
 
 -- a list of one row
 pub one-item : (rows : List ℕ) → length rows ≡ 1 → rows ≡ get_or rows 0 0 ∷ []

@@ -7,7 +7,7 @@ use Rattle.list_laws.proofs.Lists.{map-map, sum_by-map}
 use Rattle.list_laws.proofs.Options.{none_some, some_same}
 use Rattle.list_laws.proofs.Sums.{sum_by-sorted}
 use Rattle.list_laws.specs.Sorting.{sorted, insert_sorted}
-use Rattle.agg_model.specs.Options.{Options, options_of}
+use Rattle.agg_model.specs.Options.{options_of}
 use Rattle.agg_model.specs.declared.aggregation.Agg.{Agg, out-Agg}
 use Rattle.agg_model.specs.declared.key.Key.{Key}
 use Rattle.agg_model.specs.declared.key.Key.TheVariants as key

@@ -11,6 +11,6 @@ returns-clause-bucket c =
     let shard = c.args.shard.now in
     let rows = rows_at shard c.args.rows.now in
     let gs = gatherers shard c.args.aggs.now in
-    let many = c.len.ensures ∙ sym (length-mapped (row_of shard.rows) c.args.rows.now) ∙ sym (zero-add (length rows)) in
+    let many = sym (length-mapped (row_of shard.rows) c.args.rows.now) ∙ sym (zero-add (length rows)) in
     let children = c.in_ok-added.ensures.trees ∙ ap (gathered_children gs rows) (c.in_ok-children.ensures shard ∙ empties-are shard.rows c.args.aggs.now) in
     (λ i. record { key = c.args.key; count = many i; covered = 0; children = children i })

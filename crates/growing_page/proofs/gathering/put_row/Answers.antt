@@ -29,7 +29,7 @@ returns-clause-node c =
     let gs = gatherers shard (out-Agg a).children in
     let r = row_of shard.rows c.args.row in
     let bs = sorted_by_key (shown_all (decoders shard c.args.ready.now) (buckets_of c.args.page.now)) in
-    let rows_are = ap (rows_at shard) c.requires.alone in
+    let rows_are = ap (rows_at shard) c.as_slice.ensures in
     ap (λ (xs : List Bucket). Keyed xs 0 0 0)
     (c.in_ok-change.ensures.buckets ∙ ap (λ (rs : List PlacedRow). put_groups (λ q. rs) gs k c.in_ok-keys.keys bs) rows_are
     ∙ ap (λ (ks : List Key). put_groups (λ q. r ∷ []) gs k ks bs) c.in_ok-keys.ensures)

@@ -1,10 +1,10 @@
-use Rattle.std.proofs.Common.{sym, ◌∙◌, ap, subst, arith, rules, ◌≡◌, ◌<◌, ◌≤◌, ◌+◌, ◌-◌, ℤ, List, [], length, map, take, sum_by, get_or, w64, to_z, of_z, pos}
-use Rattle.std.specs.Prelude.{slice_get, flat_map, option_map}
+use Rattle.std.proofs.Common.{sym, ◌∙◌, ap, subst, arith, rules, ◌≡◌, ◌<◌, ◌≤◌, ◌+◌, ◌-◌, ℕ, ℤ, List, [], length, map, take, sum_by, get_or, w64, to_z, of_z, pos}
+use Rattle.std.specs.Prelude.{◌==◌, slice_get, flat_map, option_map}
 use Rattle.std.specs.List.{IsDistinct}
 use Rattle.std.specs.Ordering.{int_eq}
 use Rattle.std.proofs.lemmas.Bool.{false≢true}
 use Rattle.std.proofs.lemmas.Int.{to_z-of_z}
-use Rattle.std.proofs.lemmas.List.{length-map}
+use Rattle.std.proofs.lemmas.List.{append-nil, length-map}
 use Rattle.std.proofs.lemmas.Option.{slice_get-get_or, slice_get-map}
 use Rattle.agg_model.specs.declared.aggregation.Agg.{out-Agg}
 use Rattle.agg_evaluation.specs.Cost.{key_bytes, node_cost}
@@ -22,7 +22,7 @@ use Rattle.growing_tree.proofs.AggSizes.{children_less, item-most}
 use Rattle.growing_tree.proofs.Children.{child-more, child-cost, take-full}
 use Rattle.growing_tree.proofs.Codes.{codes-own}
 use Rattle.growing_tree.proofs.Ascents.{level-up}
-use Rattle.growing_tree.proofs.Counting.{groups-more, handed-is, keyed-counted, keyed-keeps, level-cost, metric-cost, metric-counted, one-item, single-counted}
+use Rattle.growing_tree.proofs.Counting.{groups-more, handed-is, keyed-counted, keyed-keeps, level-cost, metric-cost, metric-counted, nothing-there, one-item, single-counted}
 use Rattle.growing_tree.proofs.Finals.{groups-are, groups-within, many-rows, one-row}
 use Rattle.growing_tree.proofs.Levels.{children-ready, level-ready, counted-none, empties-are, gathered-is}
 use Rattle.growing_tree.proofs.Putting.{number-bytes, put-number}
@@ -60,7 +60,7 @@ put_fixed-gather_bucket-requires t c =
 
 pub count-returns-then-is_empty-clause-tree : goal.count-returns-then-is_empty-clause-tree
 count-returns-then-is_empty-clause-tree t c =
-    let none = c.is_empty.ensures.0 c.if-is_empty.true in
+    let none = nothing-there c.args.rows.now (sym c.is_empty.ensures ∙ c.if-is_empty.true) in
     let n = decoded c.args.shard.now c.args.ready.now c.args.tree.now in
     sym (ap (λ rs. counted c.args.shard.now.rows c.args.agg.now (map (row_of c.args.shard.now.rows) rs) n) none ∙ counted-none c.args.shard.now.rows c.args.agg.now n)
 
@@ -95,13 +95,28 @@ gather-returns-in-Global-clause-tree t c =
     let inner = map (row_of rows) c.args.rows.now in
     sym (gathered-is rows c.args.agg.now inner [] n (ap (λ k. under rows [] k inner) c.in-Global.is) ∙ counted-none rows c.args.agg.now n)
 
-pub gather-returns-in_ok-more-in-Nested-clause-tree : goal.gather-returns-in_ok-more-in-Nested-clause-tree
-gather-returns-in_ok-more-in-Nested-clause-tree t c =
+pub gather-returns-then-rows-eq1-clause-tree : goal.gather-returns-then-rows-eq1-clause-tree
+gather-returns-then-rows-eq1-clause-tree t c =
+    let rows = c.args.shard.now.rows in
+    let row = get_or c.args.rows.now 0 0 in
+    let n = decoded c.args.shard.now c.args.ready.now c.args.tree.now in
+    let handed = map (row_of rows) c.args.rows.now in
+    let path : (c.in-Nested.context - 1) + 1 ≡ c.in-Nested.context = omega (arith, c.if-context-eq0.false) in
+    let one = one-item c.args.rows.now (omega (arith, c.if-rows-eq1.true)) in
+    c.in_ok-more-in-Nested.ensures.tree
+    ∙ sym (gathered-is rows c.args.agg.now handed (map (row_of rows) c.children-inner.result.now) n
+    (ap (λ k. under rows [] k handed) c.in-Nested.is ∙ ap (λ k. flat_map (beneath rows k) handed) (sym path)
+    ∙ ap (λ (rs : List ℕ). flat_map (beneath rows ((c.in-Nested.context - 1) + 1)) (map (row_of rows) rs)) one
+    ∙ append-nil (beneath rows ((c.in-Nested.context - 1) + 1) (row_of rows row)) ∙ sym c.children-inner.ensures.rows))
+
+pub gather-returns-in_ok-more-in-Nested-2-clause-tree : goal.gather-returns-in_ok-more-in-Nested-2-clause-tree
+gather-returns-in_ok-more-in-Nested-2-clause-tree t c =
     let rows = c.args.shard.now.rows in
     let n = decoded c.args.shard.now c.args.ready.now c.args.tree.now in
     let handed = map (row_of rows) c.args.rows.now in
     let path : (c.in-Nested.context - 1) + 1 ≡ c.in-Nested.context = omega (arith, c.if-context-eq0.false) in
-    c.in_ok-more-in-Nested.ensures.tree
+    c.in_ok-more-in-Nested-2.ensures.tree
+    ∙ ap (λ (rs : List ℕ). counted rows c.args.agg.now (map (row_of rows) rs) n) c.as_slice.ensures
     ∙ sym (gathered-is rows c.args.agg.now handed (map (row_of rows) c.in_ok-inner-in-Nested.inner) n
     (ap (λ k. under rows [] k handed) c.in-Nested.is ∙ ap (λ k. flat_map (beneath rows k) handed) (sym path) ∙ sym c.in_ok-inner-in-Nested.ensures.rows))
 
@@ -111,6 +126,7 @@ gather-returns-in_ok-more-in-ReverseNested-clause-tree t c =
     let n = decoded c.args.shard.now c.args.ready.now c.args.tree.now in
     let handed = map (row_of rows) c.args.rows.now in
     c.in_ok-more-in-ReverseNested.ensures.tree
+    ∙ ap (λ (rs : List ℕ). counted rows c.args.agg.now (map (row_of rows) rs) n) c.as_slice-in-ReverseNested.ensures
     ∙ sym (gathered-is rows c.args.agg.now handed (map (row_of rows) c.in_ok-outer-in-ReverseNested.outer) n
     (ap (λ k. under rows [] k handed) c.in-ReverseNested.is ∙ sym c.in_ok-outer-in-ReverseNested.ensures.rows))
 
@@ -252,7 +268,8 @@ put_groups-loop-place-preserved t c =
           (shown_level shard r c.args.level.now) (shown_level shard r c.loop-place.level) (shown_level shard r c.put.new.level) same h
           (item-at groups place c.index.result.now there c.index.ensures)
           (ap (λ (cs : List ℤ). slice_get cs place) (sym c.codes-codes.ensures.codes) ∙ slice_get-get_or codes place (pos 0) below)
-          (c.loop-place.invariant.buckets rows_of h) c.in_ok-more.ensures.buckets;
+          (c.loop-place.invariant.buckets rows_of h)
+          (c.in_ok-more.ensures.buckets ∙ ap (λ (rs : List ℕ). put_rows gs (map (row_of shard.rows) rs) (key_of (to_z w64 (of_z w64 code))) (shown_level shard r c.loop-place.level)) c.as_slice.ensures);
       cost = omega arith;
       form = λ bs. c.in_ok-more.ensures.form bs ∙ c.loop-place.invariant.form bs;
       aligned = λ h. c.in_ok-more.ensures.aligned (c.loop-place.invariant.aligned h);
@@ -291,8 +308,8 @@ count_keyed-put_groups-requires t c =
       ),
     )
 
-pub count_keyed-returns-then-len-eq1-clause-buckets : goal.count_keyed-returns-then-len-eq1-clause-buckets
-count_keyed-returns-then-len-eq1-clause-buckets t c =
+pub count_keyed-returns-then-rows-eq1-clause-buckets : goal.count_keyed-returns-then-rows-eq1-clause-buckets
+count_keyed-returns-then-rows-eq1-clause-buckets t c =
     let shard = c.args.shard.now in
     let k = (out-Agg c.args.agg.now).kind in
     let r = c.args.ready.now in
@@ -302,7 +319,7 @@ count_keyed-returns-then-len-eq1-clause-buckets t c =
     let rows = c.args.rows.now in
     let row = get_or rows 0 0 in
     let buckets = shown_level shard r c.args.level.now in
-    let one = one-item rows (omega (arith, c.len.ensures, c.if-len-eq1.true)) in
+    let one = one-item rows (omega (arith, c.if-rows-eq1.true)) in
     c.in_ok-added.ensures.buckets (row_at row) (ap (map row_at) one)
     ∙ one-row shard.rows gs k (row_at row) buckets (keyed-keeps shard k (out-Ready r).kind (level-ready shard c.args.agg.now r c.requires.ready).kind c.requires.keyed)
     ∙ ap (λ rs. gathered_buckets shard.rows gs k (map row_at rs) buckets) (sym one)
@@ -342,7 +359,7 @@ count-returns-in_ok-more-in-Single-clause-tree t c =
     let a = c.args.agg.now in
     let r = c.args.ready.now in
     let rows = rows_at shard c.args.rows.now in
-    single-counted shard a r c.args.rows.now c.tree.inside.level c.put_codes.new.level c.in-Single.is (level-ready shard a r c.requires.ready).kind (λ e. false≢true (sym c.if-is_empty.false ∙ c.is_empty.ensures.1 e))
+    single-counted shard a r c.args.rows.now c.tree.inside.level c.put_codes.new.level c.in-Single.is (level-ready shard a r c.requires.ready).kind (λ e. false≢true (sym c.if-is_empty.false ∙ c.is_empty.ensures ∙ ap (λ (rs : List ℕ). length rs == 0) e))
     (c.in_ok-more-in-Single.ensures.buckets
     ∙ ap (λ (cs : List ℤ). put_all (λ k. rows) (gatherers shard (out-Agg a).children) (map (key_at shard r) cs) (shown_level shard r c.tree.inside.level)) c.as_slice.ensures)
     c.in_ok-more-in-Single.ensures.form (c.has_buckets.ensures (search rules))

@@ -13,7 +13,7 @@ pub loop-row-preserved : goal.loop-row-preserved
 loop-row-preserved c =
     let shard = c.args.shard.now in
     let kind = c.args.kind.now in
-    let items = c.as_slice-row-items.result.now in
+    let items = c.args.rows.now in
     let i = c.loop-row.row-index in
     let row = get_or items i 0 in
     let key_of = code_key shard c.args.ready.now in

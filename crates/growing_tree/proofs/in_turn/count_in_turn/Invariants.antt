@@ -1,4 +1,4 @@
-use Rattle.std.proofs.Common.{◌≡◌, length, take}
+use Rattle.std.proofs.Common.{◌≡◌, take}
 use Rattle.growing_tree.specs.Decoded.{decoded}
 use Rattle.growing_tree.specs.Gathered.{rows_at}
 use Rattle.growing_tree.specs.GatheredEach.{after_each, cost_after, counted_one}
@@ -9,5 +9,4 @@ abbrev pub invariant-loop-place : goal.invariant-loop-place
 invariant-loop-place l = record {
   tree : decoded l.shard l.ready l.tree ≡ after_each (counted_one l.shard.rows l.agg) (take l.place (rows_at l.shard l.rows)) (decoded l.shard l.ready l.fn.tree);
   rising : IsRising (cost_after (counted_one l.shard.rows l.agg) (rows_at l.shard l.rows) (decoded l.shard l.ready l.fn.tree)) l.place l.fn.added.items l.added.items;
-  single : length l.single ≡ 1;
 }

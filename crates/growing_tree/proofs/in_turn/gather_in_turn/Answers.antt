@@ -28,7 +28,7 @@ loop-place-preserved c =
     let below : i < length rows = omega (arith, c.loop-place-test.true) in
     let within : i < length now = (let many = rising.rises.many in omega (arith, many, c.requires.many, below)) in
     let before = c.loop-place.invariant.tree in
-    let after = c.in_ok-more.ensures.tree ∙ ap (λ (rs : List ℕ). gathered shard.rows a (map row_at rs) (decoded shard r c.loop-place.tree)) c.with_row-single.ensures ∙ ap (step (row_at (get_or rows i 0))) before ∙ sym (after-next step row_at rows i old below) in
+    let after = c.in_ok-more.ensures.tree ∙ ap (λ (rs : List ℕ). gathered shard.rows a (map row_at rs) (decoded shard r c.loop-place.tree)) c.as_slice.ensures ∙ ap (step (row_at (get_or rows i 0))) before ∙ sym (after-next step row_at rows i old below) in
     let here = ap node_cost before in
     let next = ap node_cost after in
     let rose = c.in_ok-more.ensures.cost in
@@ -36,21 +36,19 @@ loop-place-preserved c =
     record {
       tree = after;
       rising = rising-more (cost_after step (rows_at shard rows) old) i more c.in_ok-next.next c.args.added.now.items now rising within up (c.in_ok-next.ensures ∙ ap (λ (k : ℕ). k + more) (get_or_read now i c.index.result.now within c.index.ensures 0));
-      single = ap (λ (rs : List ℕ). length rs) c.with_row-single.ensures;
     }
 
 pub loop-place-init : goal.loop-place-init
 loop-place-init c = record {
   tree = refl;
   rising = rising-none (cost_after (gathered_one c.args.shard.now.rows c.args.agg.now) (rows_at c.args.shard.now c.args.rows.now) (decoded c.args.shard.now c.args.ready.now c.args.tree.now)) c.args.added.now.items;
-  single = ap (λ (rs : List ℕ). length rs) c.in_ok-single.ensures;
 }
 
 pub gather-requires-clause-in_range : goal.gather-requires-clause-in_range
 gather-requires-clause-in_range c =
     let below : c.loop-place.place < length c.args.rows.now = omega (arith, c.loop-place-test.true) in
     let here = c.requires.in_range c.loop-place.place 0 below in
-    subst (All (λ n. n < length c.args.shard.now.rows)) (sym c.with_row-single.ensures) (All-push (λ n. n < length c.args.shard.now.rows) [] (get_or c.args.rows.now c.loop-place.place 0) (λ k d l. absurd (omega arith)) here)
+    subst (All (λ n. n < length c.args.shard.now.rows)) (sym c.as_slice.ensures) (All-push (λ n. n < length c.args.shard.now.rows) [] (get_or c.args.rows.now c.loop-place.place 0) (λ k d l. absurd (omega arith)) here)
 
 pub returns-clause-tree : goal.returns-clause-tree
 returns-clause-tree c =

@@ -11,7 +11,7 @@ use Rattle.growing_tree.proofs.kinds.take_rows.Goals as goal
 pub loop-row-preserved : goal.loop-row-preserved
 loop-row-preserved c =
     let k = c.args.kind.now in
-    let items = c.as_slice-row-items.result.now in
+    let items = c.args.rows.now in
     let i = c.loop-row.row-index in
     let row = get_or items i 0 in
     let row_at = row_of c.args.shard.now.rows in

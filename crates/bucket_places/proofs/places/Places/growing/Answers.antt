@@ -1,7 +1,7 @@
 use Rattle.std.proofs.Common.{sym, ap, subst, arith, ◌≡◌, List, ℕ, ℤ, length}
 use Rattle.bucket_places.specs.Places.{IsIndexed}
 use Rattle.bucket_places.proofs.Indexing.{nothing_indexed}
-use Rattle.bucket_places.proofs.places.Places.ordered.Goals as goal
+use Rattle.bucket_places.proofs.places.Places.growing.Goals as goal
 
 pub invariant_of-result : goal.invariant_of-result
 invariant_of-result c =
