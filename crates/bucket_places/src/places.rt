@@ -72,7 +72,7 @@ fn after(place: usize) -> Result<u32, AllocError>
 }
 
 impl Places {
-    /// No code, with an index that grows: a look-up takes time by the logarithm of the codes.
+    /// No code, with an ordered map: a look-up takes time by the logarithm of the codes.
     pub fn ordered(alloc: Global) -> Self
         ensures { result ≡ [] }
     {
@@ -93,9 +93,9 @@ impl Places {
         })
     }
 
-    /// No code, with an index as in `ordered`. Once as many codes stand here as one for each 32 from 0 to below `width`, the next
-    /// that is added makes the table of `dense`, which so takes at most 128 bytes for each code that stands here. Making it takes
-    /// the time of adding each of them once more, and the memory of both indexes until it is done.
+    /// No code, with an index as in `ordered`. Once there is a code for each 32 from 0 to below `width`, the next that is added makes
+    /// the table of `dense`, which so takes at most 128 bytes for each code that stands here. Making it takes the time of adding
+    /// each of them once more, and the memory of both indexes until it is done.
     pub fn growing(alloc: Global, width: u32) -> Self
         ensures { result ≡ [] }
     {

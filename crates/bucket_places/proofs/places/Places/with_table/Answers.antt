@@ -1,7 +1,6 @@
-use Rattle.std.proofs.Common.{sym, ap, rules, ◌≡◌, ◌∙◌, ℤ, List, false, pos, slice_index_or, w64, to_z, of_z}
+use Rattle.std.proofs.Common.{rules, ◌≡◌, ◌∙◌, pos, slice_index_or, w64, to_z, of_z}
 use Rattle.std.specs.List.{list_any}
 use Rattle.std.specs.Ordering.{int_eq}
-use Rattle.std.proofs.Math.ListN.{take}
 use Rattle.std.proofs.lemmas.Int.{to_z-of_z}
 use Rattle.bucket_places.proofs.Indexing.{absent-before}
 use Rattle.bucket_places.proofs.places.Places.with_table.Goals as goal
