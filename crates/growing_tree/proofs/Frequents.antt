@@ -11,8 +11,9 @@ use Rattle.std.proofs.lemmas.Bool.Decides.{nat_tests}
 use Rattle.std.proofs.lemmas.List.{take-append-le}
 use Rattle.list_laws.proofs.Lists.{filter-map, map-map, sum_by-map}
 use Rattle.list_laws.proofs.StableSort.{length-sorted}
-use Rattle.list_laws.proofs.Sums.{sum_by-filter}
+use Rattle.list_laws.proofs.Sums.{sum_by-filter, sum_by-sorted}
 use Rattle.list_laws.specs.Sorting.{insert_sorted, sorted}
+use Rattle.agg_model.specs.Options.{Options, options_of}
 use Rattle.agg_model.specs.declared.aggregation.Agg.{Agg, out-Agg}
 use Rattle.agg_model.specs.declared.aggregation.Kind.{Kind}
 use Rattle.agg_model.specs.declared.aggregation.Order.{Order}
@@ -24,20 +25,20 @@ use Rattle.agg_model.specs.declared.partial.Node.{Node}
 use Rattle.agg_model.specs.declared.partial.Node.TheVariants.{Keyed}
 use Rattle.agg_evaluation.specs.KeyOrder.{has_key, key_cmp, key_eq}
 use Rattle.agg_evaluation.specs.Orders.{bucket_cmp, bucket_count, bucket_key, cmp_by}
-use Rattle.agg_evaluation.specs.Shard.{sorted_by_key, with_covered}
+use Rattle.agg_evaluation.specs.Shard.{is_terms, sorted_by_key, with_covered}
 use Rattle.agg_evaluation.proofs.Computing.{computing}
 use Rattle.bucket_order.proofs.SameOrder.{list_all-sorted}
 use Rattle.bucket_order.proofs.TotalLaws.{bucket_cmp_total}
 use Rattle.bucket_order.specs.Kinds.{child_kinds}
 use Rattle.shard_columns.specs.Columns.{Columns}
 use Rattle.terms_agg.specs.Trim.{trimmed_by, trimmed_some}
-use Rattle.growing_tree.specs.CodedBuckets.{by_code, coded_bucket}
+use Rattle.growing_tree.specs.CodedBuckets.{coded_bucket}
 use Rattle.growing_tree.specs.Finished.{finished_bucket}
 use Rattle.growing_tree.specs.Frequent.{AreFrequent, Suffices, is_by_count, is_count}
 use Rattle.growing_tree.specs.declared.coded.Coded.{Coded}
 use Rattle.growing_tree.specs.declared.ready.Ready.{Ready}
 use Rattle.growing_tree.proofs.Orderings.{AreApart}
-use Rattle.growing_tree.proofs.Reordered.{sorted-any, sorted-before}
+use Rattle.growing_tree.proofs.Reordered.{apart-sorted, sorted-any, sorted-before}
 
 -- items that pass a test and stand before all others
 module _ {A : Type 0} (cmp : A → A → Ordering) (total : IsTotalOrder cmp) (p : A → Bool) (less : (x y : A) → p x ≡ true → p y ≡ false → cmp x y ≡ Less) where
@@ -191,27 +192,60 @@ module _ (shard : Columns) (a : Agg) (r : Ready) where
       length-made [] = refl
       length-made (c ∷ cs) = ap suc (length-made cs)
 
-  -- what suffices, by code first, is cut as all of them are
-  pub suffices-cut : (total : ℕ) (all kept : List Coded) → AreApart (keys_of all) → Suffices (out-Agg a).kind all kept
-      → trimmed_some a total (sorted_by_key (map finish (map coded_bucket (sorted by_code kept)))) ≡ trimmed_some a total (sorted_by_key (map finish (map coded_bucket all)))
-  suffices-cut total all kept apart are =
-      ap (λ bs. trimmed_some a total (sorted_by_key bs)) (map-map finish coded_bucket (sorted by_code kept))
+  -- what suffices, in some order of its own first, is cut as all of them are
+  pub suffices-cut : (by : Coded → Coded → Ordering) (total : ℕ) (all kept : List Coded) → AreApart (keys_of all) → Suffices (out-Agg a).kind all kept
+      → trimmed_some a total (sorted_by_key (map finish (map coded_bucket (sorted by kept)))) ≡ trimmed_some a total (sorted_by_key (map finish (map coded_bucket all)))
+  suffices-cut by total all kept apart are =
+      ap (λ bs. trimmed_some a total (sorted_by_key bs)) (map-map finish coded_bucket (sorted by kept))
       ∙ elim are [
         | inl same ↦
-            ap (λ cs. trimmed_some a total (sorted_by_key (map made (sorted by_code cs)))) same ∙ ap (trimmed_some a total) (sorted-before made by_code all apart)
+            ap (λ cs. trimmed_some a total (sorted_by_key (map made (sorted by cs)))) same ∙ ap (trimmed_some a total) (sorted-before made by all apart)
         | inr frequent ↦
             ap (trimmed_some a total)
-            (sorted-before made by_code kept (subst (λ cs. AreApart (keys_of cs)) (sym frequent.kept_are) (apart-filter made (λ c. nat_le frequent.least c.bucket.count) all apart)))
+            (sorted-before made by kept (subst (λ cs. AreApart (keys_of cs)) (sym frequent.kept_are) (apart-filter made (λ c. nat_le frequent.least c.bucket.count) all apart)))
             ∙ frequent-cut total all kept apart frequent
       ]
       ∙ ap (λ bs. trimmed_some a total (sorted_by_key bs)) (sym (map-map finish coded_bucket all))
 
-  -- finished buckets have the rows of those that they are made of
-  pub finished-rows : (cs : List Coded) → sum_by bucket_count (map finish (map coded_bucket cs)) ≡ sum_by (λ c. c.bucket.count) cs
+  suffices-apart : (all kept : List Coded) → AreApart (keys_of all) → Suffices (out-Agg a).kind all kept → AreApart (keys_of kept)
+  suffices-apart all kept apart (inl same) = subst (λ cs. AreApart (keys_of cs)) (sym same) apart
+  suffices-apart all kept apart (inr are) = subst (λ cs. AreApart (keys_of cs)) (sym are.kept_are) (apart-filter made (λ c. nat_le are.least c.bucket.count) all apart)
+
+  -- terms need no order by key before they are cut
+  pub terms-cut : (by : Coded → Coded → Ordering) (total : ℕ) (all kept : List Coded) → is_terms (out-Agg a).kind ≡ true → AreApart (keys_of all) → Suffices (out-Agg a).kind all kept
+      → trimmed_some a total (map finish (map coded_bucket (sorted by kept))) ≡ trimmed_some a total (sorted_by_key (map finish (map coded_bucket (sorted by kept))))
+  terms-cut by total all kept terms apart are =
+      any-order (options_of (out-Agg a).kind) terms
+    where
+      bs : List Bucket
+      bs = map finish (map coded_bucket (sorted by kept))
+
+      kinds : List Kind
+      kinds = child_kinds (out-Agg a).children
+
+      own : AreApart (map bucket_key bs)
+      own = subst (λ cs. AreApart (map bucket_key cs)) (sym (map-map finish coded_bucket (sorted by kept))) (apart-sorted made by kept (suffices-apart all kept apart are))
+
+      any-order : (o : Options) → (elim o [ Options.Terms t ↦ true | _ ↦ false ]) ≡ true → trimmed_by kinds o total bs ≡ trimmed_by kinds o total (sorted_by_key bs)
+      any-order (Options.Terms t) e = sym (ap (λ cs. kept_node t.shard_size total (take t.shard_size cs)) (by-key-before kinds t.order bs own))
+      any-order (Options.Histogram h) e = absurd (cc e)
+      any-order (Options.Filters names filters other) e = absurd (cc e)
+      any-order (Options.Filter query) e = absurd (cc e)
+      any-order (Options.Missing field) e = absurd (cc e)
+      any-order Options.Global e = absurd (cc e)
+      any-order (Options.Nested context) e = absurd (cc e)
+      any-order (Options.ReverseNested context) e = absurd (cc e)
+      any-order (Options.Composite sources size after) e = absurd (cc e)
+      any-order (Options.Metric m) e = absurd (cc e)
+
+  finished-rows : (cs : List Coded) → sum_by bucket_count (map finish (map coded_bucket cs)) ≡ sum_by (λ c. c.bucket.count) cs
   unfolding computing
   finished-rows cs = ap (sum_by bucket_count) (map-map finish coded_bucket cs) ∙ sum_by-map bucket_count made cs
 
--- those that are kept have no more rows than all
-pub suffices-few : (k : Kind) (all kept : List Coded) → Suffices k all kept → sum_by (λ c. c.bucket.count) kept ≤ sum_by (λ c. c.bucket.count) all
-suffices-few k all kept (inl same) = omega (arith, ap (sum_by (λ c. c.bucket.count)) same)
-suffices-few k all kept (inr are) = omega (arith, ap (sum_by (λ c. c.bucket.count)) are.kept_are, sum_by-filter (λ c. c.bucket.count) (λ c. nat_le are.least c.bucket.count) all)
+  few : (k : Kind) (all kept : List Coded) → Suffices k all kept → sum_by (λ c. c.bucket.count) kept ≤ sum_by (λ c. c.bucket.count) all
+  few k all kept (inl same) = omega (arith, ap (sum_by (λ c. c.bucket.count)) same)
+  few k all kept (inr are) = omega (arith, ap (sum_by (λ c. c.bucket.count)) are.kept_are, sum_by-filter (λ c. c.bucket.count) (λ c. nat_le are.least c.bucket.count) all)
+
+  -- finished buckets have no more rows than all of which some are kept
+  pub rows-within : (by : Coded → Coded → Ordering) (all kept : List Coded) → Suffices (out-Agg a).kind all kept → sum_by bucket_count (map finish (map coded_bucket (sorted by kept))) ≤ sum_by (λ c. c.bucket.count) all
+  rows-within by all kept are = omega (arith, finished-rows (sorted by kept), sum_by-sorted (λ (c : Coded). c.bucket.count) by kept, few (out-Agg a).kind all kept are)

@@ -20,6 +20,7 @@ use Rattle.agg_evaluation.specs.Orders.{bucket_key}
 use Rattle.agg_evaluation.specs.Shard.{sorted_by_key}
 use Rattle.agg_evaluation.proofs.Computing.{computing}
 use Rattle.agg_evaluation.proofs.KeyCompare.{key_cmp_total}
+use Rattle.agg_evaluation.proofs.KeyLists.{key_eq-sym}
 use Rattle.shard_columns.specs.Columns.{Columns}
 use Rattle.growing_tree.specs.CodedBuckets.{coded_bucket}
 use Rattle.growing_tree.specs.Codes.{code_key}
@@ -106,6 +107,20 @@ module _ {A : Type 0} (f : A → Bucket) (by : A → A → Ordering) where
   has-sorted : (q : Key) (xs : List A) → has_key q (keys_of (sorted by xs)) ≡ has_key q (keys_of xs)
   has-sorted q [] = refl
   has-sorted q (x ∷ xs) = has-insert q x (sorted by xs) ∙ ap (λ b. key_eq q (bucket_key (f x)) || b) (has-sorted q xs)
+
+  apart-insert : (x : A) (ys : List A) → has_key (bucket_key (f x)) (keys_of ys) ≡ false → AreApart (keys_of ys) → AreApart (keys_of (insert_sorted by x ys))
+  apart-insert x [] other apart = (other, apart)
+  apart-insert x (y ∷ ys) other apart =
+      let parts = or_parts (key_eq (bucket_key (f x)) (bucket_key (f y))) (has_key (bucket_key (f x)) (keys_of ys)) other in
+      elim (is_le (by x y)) as (λ b. AreApart (keys_of (cond b (x ∷ y ∷ ys) (y ∷ insert_sorted by x ys)))) [
+        | true ↦ (other, apart)
+        | false ↦ (has-insert (bucket_key (f y)) x ys ∙ (λ i. (key_eq-sym (bucket_key (f y)) (bucket_key (f x)) ∙ parts.0) i || apart.0 i), apart-insert x ys parts.1 apart.1)
+      ]
+
+  -- keys that are apart are so in any order
+  pub apart-sorted : (xs : List A) → AreApart (keys_of xs) → AreApart (keys_of (sorted by xs))
+  apart-sorted [] apart = tt
+  apart-sorted (x ∷ xs) apart = apart-insert x (sorted by xs) (has-sorted (bucket_key (f x)) xs ∙ apart.0) (apart-sorted xs apart.1)
 
   -- an order in which buckets of different keys do not compare alike
   module _ (cmp : Bucket → Bucket → Ordering) (total : IsTotalOrder cmp) (differ : (a b : Bucket) → key_eq (bucket_key a) (bucket_key b) ≡ false → is_eq (cmp a b) ≡ false) where

@@ -1,10 +1,12 @@
 //! Buckets that have all their rows, with the codes of their keys.
 ghost use Rattle.std.specs.Prelude.{◌≡◌, IfOk, OnOk, map};
 ghost use Rattle.list_laws.specs.Sorting.{sorted};
-ghost use Rattle.growing_tree.specs.CodedBuckets.{by_code, coded_bucket};
+ghost use Rattle.growing_tree.specs.CodedBuckets.{by_code, code_order, coded_bucket, from_last};
 ghost use Rattle.growing_tree.specs.Trees.{coded_buckets};
 
+use crate::kinds::is_terms;
 use crate::tree::{Growing, Keyed};
+use agg_model::Kind;
 use std::alloc::{AllocError, Global};
 
 /// A bucket, and the code that stands for its key.
@@ -35,9 +37,29 @@ pub(crate) fn with_codes(alloc: Global, keyed: Keyed) -> Result<Vec<Coded>, Allo
     Ok(coded)
 }
 
-/// Puts buckets in ascending order of their codes.
-pub(crate) fn sort_by_code(buckets: &mut Vec<Coded>) -> Result<(), AllocError>
+// Ascending by code.
+fn sort_from_first(buckets: &mut Vec<Coded>) -> Result<(), AllocError>
     ensures { OnOk result (buckets.new.items ≡ sorted by_code buckets.old.items) }
 {
     buckets.sort_by(|a, b| a.code.cmp(&b.code))
+}
+
+// Descending by code.
+fn sort_from_last(buckets: &mut Vec<Coded>) -> Result<(), AllocError>
+    ensures { OnOk result (buckets.new.items ≡ sorted from_last buckets.old.items) }
+{
+    buckets.sort_by(|a, b| b.code.cmp(&a.code))
+}
+
+/// Puts buckets in the order of their codes, those of terms from the last one on: they are cut from the end, so that the first
+/// keys are kept early, and most others are left out at one comparison.
+pub(crate) fn sort_by_code(kind: &Kind, buckets: &mut Vec<Coded>) -> Result<(), AllocError>
+    ensures { OnOk result (buckets.new.items ≡ sorted (code_order kind.now) buckets.old.items) }
+{
+    if is_terms(kind) {
+        sort_from_last(buckets)?;
+    } else {
+        sort_from_first(buckets)?;
+    }
+    Ok(())
 }

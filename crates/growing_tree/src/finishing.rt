@@ -18,7 +18,7 @@ ghost use Rattle.growing_tree.specs.declared.ready.Ready.{out-Ready};
 
 use crate::coded::{Coded, sort_by_code, with_codes};
 use crate::frequent::keep_frequent;
-use crate::kinds::place_of;
+use crate::kinds::{is_terms, place_of};
 use crate::ready::{Ready, ReadyKind};
 use crate::sums::sum;
 use crate::tree::{Growing, Level, Tree};
@@ -217,13 +217,16 @@ pub fn finish(
     let Tree { level } = tree;
     match level {
         Level::Keyed(keyed) => {
-            // Codes ascend as their keys do, but for that of a word for missing values, and are compared at once: the sort by
-            // key finds next to nothing to do.
+            // Codes ascend as their keys do, but for that of a word for missing values, and are compared at once: a sort by key
+            // finds next to nothing to do.
             let all = with_codes(alloc, keyed)?;
             let total = total_count(all.as_slice())?;
             let mut coded = keep_frequent(&agg.kind, all);
-            sort_by_code(&mut coded)?;
+            sort_by_code(&agg.kind, &mut coded)?;
             let buckets = finish_coded(alloc, agg, ready, shard, coded)?;
+            if is_terms(&agg.kind) {
+                return trim_some(alloc, agg, total, buckets);
+            }
             finish_level(alloc, agg, total, buckets)
         }
         Level::Fixed(buckets) => Ok(Node::Fixed {

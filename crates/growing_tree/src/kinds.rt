@@ -5,6 +5,7 @@ ghost use Rattle.std.specs.List.Sorted.{IsStrictlyIncreasing};
 ghost use Rattle.agg_model.specs.declared.aggregation.Agg.{out-Agg};
 ghost use Rattle.agg_evaluation.specs.Cost.{key_bytes};
 ghost use Rattle.agg_evaluation.specs.Rows.{row_of};
+ghost use Rattle.agg_evaluation.specs.Shard.{is_terms as is_terms_kind};
 ghost use Rattle.shard_columns.specs.Columns.{Columns};
 ghost use Rattle.growing_tree.specs.Codes.{code_key, HasFixedKeys};
 ghost use Rattle.growing_tree.specs.Readiness.{IsKindReady, is_keyed as is_keyed_kind, is_metric};
@@ -28,6 +29,13 @@ use std::alloc::AllocError;
 use terms_agg::{
     codes as codes_of_terms, key_bytes as key_bytes_of_term, lone_code as lone_code_of_terms,
 };
+
+/// Whether a shard cuts the buckets.
+pub(crate) fn is_terms(kind: &Kind) -> bool
+    ensures { result ≡ is_terms_kind kind.now }
+{
+    matches!(kind, Kind::Terms { .. })
+}
 
 /// Whether the codes are numbers of buckets that exist from the start.
 pub(crate) fn has_fixed_keys(kind: &ReadyKind) -> bool
