@@ -1,5 +1,6 @@
 pub mod Dealt
 pub mod Finished
+pub mod Indexed
 pub mod Placed
 pub mod Loaded
 pub mod Reread

@@ -1,9 +1,7 @@
 -- What a put and a delete make of a loading.
 use Rattle.std.proofs.Common.{rules, ◌≡◌, refl, ℕ, ◌+◌, ◌-◌, ◌^◌, ◌<◌, ◌≤◌, min, Bool, true, false, ◌&&◌, List, [], ◌∷◌, ◌++◌, length, set, if◌then◌else◌, Option, None, Some, Ok, Err, sym, ◌∙◌, ap, subst, arith}
 use Rattle.std.specs.Prelude.{Vec, IfSome, IfOk, sum_by}
-use Rattle.std.specs.BTreeMap.{get_by_text}
 use Rattle.std.specs.List.{IsDistinct}
-use Rattle.std.specs.Map.{update}
 use Rattle.std.specs.Option.{is_some, option_map, option_to_list, unwrap_or}
 use Rattle.std.specs.Str.{bytes_eq}
 use Rattle.std.proofs.lemmas.Bool.{and_from}
@@ -37,7 +35,9 @@ use Rattle.column_loading.specs.Loadings.{IsLoadingOf, IsRead, AreRead, Puts, do
 use Rattle.column_loading.specs.declared.loading.Loading.{Loading}
 use Rattle.column_loading.specs.declared.slot.Kept.{Kept}
 use Rattle.column_loading.specs.declared.slot.Slot.{Slot}
-use Rattle.column_loading.proofs.Placed.{read-push, read-set, document-is, places-push, apart-push, entries-push, entries-set, ids-set}
+use Rattle.column_loading.specs.Slots.{slot_ids}
+use Rattle.column_loading.proofs.Indexed.{ids-are}
+use Rattle.column_loading.proofs.Placed.{read-push, read-set, document-is, apart-push, entries-push, entries-set, ids-set}
 
 -- after a refusal the loading is as before
 pub refused-puts : (m : Mapping) (action : Action) (root : Row) (old new : Loading) (fault : ItemFault) (refusal : ItemRefusal) → fault ≡ Refused refusal → new ≡ old → Fails (Refused refusal) (put_row action root (store_of m old)) → Puts m action root old new (Err fault)
@@ -53,17 +53,16 @@ fit-read m source d read = fit-alone m d (document_at m source) (document_fits m
 
 -- nothing yet
 
-pub loaded-none : (m : Mapping) (l : Loading) (drafts : Vec ShardDraft Global) → length m.fields + length m.nested ≤ MAX_PATHS → parents_before m ≡ true → 1 ≤ l.shards → l.shards < 2 ^ 32 → ((id : List ℕ) → get_by_text l.places id ≡ None) →
-    l.slots.items ≡ [] → l.weight ≡ 0 → l.drafts ≡ Some drafts → AreDraftsOf m (cut [] l.shards) drafts.items → IsLoadingOf m l
+pub loaded-none : (m : Mapping) (l : Loading) (drafts : Vec ShardDraft Global) → length m.fields + length m.nested ≤ MAX_PATHS → parents_before m ≡ true → 1 ≤ l.shards → l.shards < 2 ^ 32 →
+    l.slots ≡ [] → l.weight ≡ 0 → l.drafts ≡ Some drafts → AreDraftsOf m (cut [] l.shards) drafts.items → IsLoadingOf m l
 unfolding place_of store_weight live_documents AreRead IsDistinct
-loaded-none m l drafts few paths some in_range places none weigh drafts_are are =
+loaded-none m l drafts few paths some in_range none weigh drafts_are are =
     let empty : store_of m l ≡ [] = ap (entries_of m) none in
     record {
       few = few;
       paths = paths;
       some = some;
       in_range = in_range;
-      places = λ id. places id ∙ ap (λ (es : Store). place_of id (ids es)) (sym empty);
       distinct = subst (λ (es : Store). IsDistinct bytes_eq (ids es)) (sym empty) nothing;
       weight = weigh ∙ ap store_weight (sym empty);
       light = omega (arith, weigh);
@@ -78,13 +77,13 @@ loaded-none m l drafts few paths some in_range places none weigh drafts_are are 
 -- a slot in the place of its id
 
 pub replaced : (m : Mapping) (old new : Loading) (p : ℕ) (s : Slot) (w : ℕ) (o : Option Document) → IsLoadingOf m old → place_of s.id (ids (store_of m old)) ≡ Some p → option_map (document_of m s.id) s.live ≡ o →
-    new.slots.items ≡ set old.slots.items p s → new.weight ≡ w → new.drafts ≡ None → new.places ≡ old.places → new.shards ≡ old.shards →
+    new.slots ≡ set old.slots p s → new.weight ≡ w → new.drafts ≡ None → new.shards ≡ old.shards →
     w ≡ store_weight (with_document s.id o (store_of m old)) → w < WEIGHT_LIMIT → IfSome s.live (IsRead m) → all_fit m (option_to_list o) ≡ true →
     IsLoadingOf m new × (store_of m new ≡ with_document s.id o (store_of m old))
-replaced m old new p s w o held found is slots weigh drafts places shards exact light read fit =
+replaced m old new p s w o held found is slots weigh drafts shards exact light read fit =
     let es = store_of m old in
-    let placed : store_of m new ≡ with_document s.id o es = ap (entries_of m) slots ∙ (entries-set m old.slots.items s p found ∙ ap (λ (x : Option Document). with_document s.id x es) is) in
-    let stay : ids (store_of m new) ≡ ids es = ap (λ (ss : List Slot). ids (entries_of m ss)) slots ∙ ids-set m old.slots.items s p found in
+    let placed : store_of m new ≡ with_document s.id o es = ap (entries_of m) slots ∙ (entries-set m old.slots s p found ∙ ap (λ (x : Option Document). with_document s.id x es) is) in
+    let stay : ids (store_of m new) ≡ ids es = ap (λ (ss : List Slot). ids (entries_of m ss)) slots ∙ ids-set m old.slots s p found in
     let some = held.some in
     let in_range = held.in_range in (
       record {
@@ -92,11 +91,10 @@ replaced m old new p s w o held found is slots weigh drafts places shards exact 
         paths = held.paths;
         some = omega (arith, some, shards);
         in_range = omega (arith, in_range, shards);
-        places = λ id. ap (λ ps. get_by_text ps id) places ∙ (held.places id ∙ ap (place_of id) (sym stay));
         distinct = subst (IsDistinct bytes_eq) (sym stay) held.distinct;
         weight = weigh ∙ (exact ∙ ap store_weight (sym placed));
         light = omega (arith, weigh, light);
-        read = subst (AreRead m) (sym slots) (read-set m old.slots.items p s held.read read);
+        read = subst (AreRead m) (sym slots) (read-set m old.slots p s held.read read);
         fit = subst (λ (xs : Store). all_fit m (live_documents xs) ≡ true) (sym placed) (live_fit m s.id o es fit held.fit);
         growing = subst (AreGrowing m (live_documents (store_of m new)) new.shards) (sym drafts) tt;
       },
@@ -105,12 +103,12 @@ replaced m old new p s w o held found is slots weigh drafts places shards exact 
 
 -- a slot at the end
 
-module _ (m : Mapping) (old : Loading) (d : Document) (source : List ℕ) (held : IsLoadingOf m old) (read : document_at m source ≡ Ok d.root) (new : get_by_text old.places d.id ≡ None) where
+module _ (m : Mapping) (old : Loading) (d : Document) (source : List ℕ) (held : IsLoadingOf m old) (read : document_at m source ≡ Ok d.root) (new : place_of d.id (slot_ids old.slots) ≡ None) where
   abbrev es : Store
   es = store_of m old
 
   pub absent : place_of d.id (ids es) ≡ None
-  absent = sym (held.places d.id) ∙ new
+  absent = ap (place_of d.id) (ids-are m old.slots) ∙ new
 
   -- the weight of all, up to where it is counted
   pub counted : (added w : ℕ) → added ≡ min (weight d) (2 ^ 64 - 1) → w ≡ min (old.weight + added) (2 ^ 64 - 1) → w ≡ min (store_weight (with_document d.id (Some d) es)) (2 ^ 64 - 1)
@@ -140,8 +138,8 @@ module _ (m : Mapping) (old : Loading) (d : Document) (source : List ℕ) (held 
     pub can-grow : CanGrow old.drafts d
     can-grow = record { mapping = m; documents = live_documents es; shards = old.shards; some = held.some; in_range = held.in_range; growing = held.growing; light = are-light }
 
-    module _ (next : Loading) (s : Slot) (k : Kept) (slot_is : s ≡ record { id = d.id; live = Some k }) (routing : k.routing ≡ d.routing) (source_is : k.source ≡ source) (weighs : k.weight ≡ added)
-        (slots : next.slots.items ≡ old.slots.items ++ s ∷ []) (places : (id : List ℕ) → get_by_text next.places id ≡ update bytes_eq (get_by_text old.places) s.id (Some (length old.slots.items)) id) (weigh : next.weight ≡ w) (shards : next.shards ≡ old.shards) (grown : Grows old.drafts next.drafts d) where
+    module _ (next : Loading) (s : Slot) (k : Kept) (slot_is : s ≡ record { id = d.id; live = Some k }) (routing : unwrap_or k.routing d.id ≡ d.routing) (source_is : k.source ≡ source) (weighs : k.weight ≡ added)
+        (slots : next.slots ≡ old.slots ++ s ∷ []) (weigh : next.weight ≡ w) (shards : next.shards ≡ old.shards) (grown : Grows old.drafts next.drafts d) where
       abbrev whole : Slot
       whole = record { id = d.id; live = Some k }
 
@@ -157,11 +155,11 @@ module _ (m : Mapping) (old : Loading) (d : Document) (source : List ℕ) (held 
         weighs = weighs ∙ (own-weight ∙ ap (λ (r : Reading Row). row_weight (row_in r)) (sym k-read));
       }
 
-      slots-are : next.slots.items ≡ old.slots.items ++ whole ∷ []
-      slots-are = slots ∙ ap (λ (x : Slot). old.slots.items ++ x ∷ []) slot_is
+      slots-are : next.slots ≡ old.slots ++ whole ∷ []
+      slots-are = slots ∙ ap (λ (x : Slot). old.slots ++ x ∷ []) slot_is
 
       pub placed-last : store_of m next ≡ with_document d.id (Some d) es
-      placed-last = ap (entries_of m) slots-are ∙ (entries-push m old.slots.items whole absent ∙ ap (λ (x : Document). with_document d.id (Some x) es) (document-is m d k routing k-read))
+      placed-last = ap (entries_of m) slots-are ∙ (entries-push m old.slots whole absent ∙ ap (λ (x : Document). with_document d.id (Some x) es) (document-is m d k routing k-read))
 
       pub loaded-last : IsLoadingOf m next
       loaded-last =
@@ -172,13 +170,10 @@ module _ (m : Mapping) (old : Loading) (d : Document) (source : List ℕ) (held 
             paths = held.paths;
             some = omega (arith, some, shards);
             in_range = omega (arith, in_range, shards);
-            places = λ id.
-                places-push m old.slots.items whole absent (get_by_text old.places) (get_by_text next.places) held.places (λ j. places j ∙ ap (λ (x : Slot). update bytes_eq (get_by_text old.places) x.id (Some (length old.slots.items)) j) slot_is) id
-                ∙ ap (λ (ss : List Slot). place_of id (ids (entries_of m ss))) (sym slots-are);
-            distinct = subst (λ (ss : List Slot). IsDistinct bytes_eq (ids (entries_of m ss))) (sym slots-are) (apart-push m old.slots.items whole absent held.distinct);
+            distinct = subst (λ (ss : List Slot). IsDistinct bytes_eq (ids (entries_of m ss))) (sym slots-are) (apart-push m old.slots whole absent held.distinct);
             weight = weigh ∙ (exact ∙ ap store_weight (sym placed-last));
             light = omega (arith, weigh, light);
-            read = subst (AreRead m) (sym slots-are) (read-push m old.slots.items whole held.read is-read);
+            read = subst (AreRead m) (sym slots-are) (read-push m old.slots whole held.read is-read);
             fit = subst (λ (xs : Store). all_fit m (live_documents xs) ≡ true) (sym placed-last) all-fit;
             growing = subst (λ (n : ℕ). AreGrowing m (live_documents (store_of m next)) n next.drafts) (sym shards)
                 (subst (λ (ds : List Document). AreGrowing m ds old.shards next.drafts) (sym (ap live_documents placed-last ∙ live-more)) (grown m (live_documents es) old.shards held.some held.growing are-light));
@@ -186,15 +181,16 @@ module _ (m : Mapping) (old : Loading) (d : Document) (source : List ℕ) (held 
 
 -- a document in the place of its id
 
-module _ (m : Mapping) (old new : Loading) (action : Action) (root : Row) (held : IsLoadingOf m old) (read : document_at m action.source ≡ Ok root) (p : ℕ) (place : get_by_text old.places action.id ≡ Some p) where
+module _ (m : Mapping) (old new : Loading) (action : Action) (root : Row) (held : IsLoadingOf m old) (read : document_at m action.source ≡ Ok root) (p : ℕ) (place : place_of action.id (slot_ids old.slots) ≡ Some p) where
   abbrev put_document : Document
   put_document = record { id = action.id; routing = action.routing; root = root }
 
   pub found : place_of action.id (ids (store_of m old)) ≡ Some p
-  found = sym (held.places action.id) ∙ place
+  found = ap (place_of action.id) (ids-are m old.slots) ∙ place
 
   module _ (conflict : Bool) (r : Option ℕ) (beside added w : ℕ) (is : r ≡ option_map weight (live_at action.id (store_of m old))) (test : conflict ≡ (is_create action.kind && is_some r)) (free : conflict ≡ false) (beside_is : beside ≡ unwrap_or r 0)
-      (added_is : added ≡ min (weight put_document) (2 ^ 64 - 1)) (w_is : w ≡ min ((old.weight - beside) + added) (2 ^ 64 - 1)) (light : w < WEIGHT_LIMIT) where
+      (added_is : added ≡ min (weight put_document) (2 ^ 64 - 1)) (w_is : w ≡ min ((old.weight - beside) + added) (2 ^ 64 - 1)) (light : w < WEIGHT_LIMIT)
+      (other : Option (List ℕ)) (routing : unwrap_or other action.id ≡ action.routing) where
     total : w ≡ store_weight (with_document action.id (Some put_document) (store_of m old))
     total = (let all = put-weight action.id (store_of m old) put_document r old.weight beside added w is held.weight beside_is added_is w_is in omega (arith, all, light))
 
@@ -202,7 +198,7 @@ module _ (m : Mapping) (old new : Loading) (action : Action) (root : Row) (held 
     own = (let more = weight-put action.id (Some put_document) (store_of m old) in let within = weight-within action.id (store_of m old) in omega (arith, total, light, more, within, added_is))
 
     abbrev put_kept : Kept
-    put_kept = record { routing = action.routing; source = action.source; weight = added }
+    put_kept = record { routing = other; source = action.source; weight = added }
 
     abbrev put_slot : Slot
     put_slot = record { id = action.id; live = Some put_kept }
@@ -213,10 +209,10 @@ module _ (m : Mapping) (old new : Loading) (action : Action) (root : Row) (held 
       weighs = own ∙ ap (λ (x : Reading Row). row_weight (row_in x)) (sym read);
     }
 
-    pub put-again : new.slots.items ≡ set old.slots.items p put_slot → new.weight ≡ w → new.drafts ≡ None → new.places ≡ old.places → new.shards ≡ old.shards →
+    pub put-again : new.slots ≡ set old.slots p put_slot → new.weight ≡ w → new.drafts ≡ None → new.shards ≡ old.shards →
         Puts m action root old new (Ok (if is_some r then Updated else Created))
-    put-again slots weigh drafts places shards =
-        let made = replaced m old new p put_slot w (Some put_document) held found (ap Some (document-is m put_document put_kept refl read)) slots weigh drafts places shards total light put-read (fit-read m action.source put_document read) in
+    put-again slots weigh drafts shards =
+        let made = replaced m old new p put_slot w (Some put_document) held found (ap Some (document-is m put_document put_kept routing read)) slots weigh drafts shards total light put-read (fit-read m action.source put_document read) in
         record { put = put-done action root (store_of m old) conflict r w (store_of m new) is test free total light made.1; loading = made.0; shards = shards; as_before = tt }
 
 -- the live documents of a loading are light

@@ -1,17 +1,16 @@
 -- Slots with the sources of documents: one more at the end, and one in the place of its id.
-use Rattle.std.proofs.Common.{◌≡◌, refl, zero, suc, ℕ, ◌<◌, List, [], ◌∷◌, ◌++◌, length, get_or, set, Option, None, Some, Ok, sym, ◌∙◌, ap, subst, arith, cond}
+use Rattle.std.proofs.Common.{◌≡◌, refl, zero, suc, ℕ, ◌<◌, List, [], ◌∷◌, ◌++◌, length, get_or, set, Option, None, Some, Ok, sym, ◌∙◌, ap, subst, arith}
 use Rattle.std.specs.Prelude.{IfSome}
 use Rattle.std.specs.List.{IsDistinct}
-use Rattle.std.specs.Map.{update}
-use Rattle.std.specs.Option.{option_map}
+use Rattle.std.specs.Option.{option_map, unwrap_or}
 use Rattle.std.specs.Str.{bytes_eq}
-use Rattle.std.proofs.lemmas.List.{length-map, map-append, map-set, get_or-map}
+use Rattle.std.proofs.lemmas.List.{map-append, map-set, get_or-map}
 use Rattle.agg_model.specs.declared.mapping.Mapping.{Mapping}
 use Rattle.agg_model.specs.declared.row.Document.{Document}
 use Rattle.agg_reading.specs.Document.{document_at}
 use Rattle.agg_reading.specs.Store.{weight, with_document}
 use Rattle.agg_documents.specs.Slots.{ids, place_of}
-use Rattle.agg_documents.proofs.Places.{new-put, place-push, distinct-push, found-below, found-put, found-ids}
+use Rattle.agg_documents.proofs.Places.{new-put, distinct-push, found-put, found-ids}
 use Rattle.column_loading.specs.Loadings.{row_in, document_of, entry_of, entries_of, IsRead, AreRead}
 use Rattle.column_loading.specs.declared.slot.Kept.{Kept}
 use Rattle.column_loading.specs.declared.slot.Slot.{Slot}
@@ -49,7 +48,7 @@ module _ (m : Mapping) where
       weighed s.id s.live (read-at slots p s below is read) ∙ sym (ap (λ (e : List ℕ × Option Document). option_map weight e.1) (entry-at slots p s below is))
 
   -- a document by its source
-  pub document-is : (d : Document) (k : Kept) → k.routing ≡ d.routing → document_at m k.source ≡ Ok d.root → document_of m d.id k ≡ d
+  pub document-is : (d : Document) (k : Kept) → unwrap_or k.routing d.id ≡ d.routing → document_at m k.source ≡ Ok d.root → document_of m d.id k ≡ d
   document-is d k routing read = λ i. record { id = d.id; routing = routing i; root = row_in (read i) }
 
   -- ---- a slot at the end
@@ -58,20 +57,7 @@ module _ (m : Mapping) where
   ids-push [] s = refl
   ids-push (t ∷ ts) s = ap (λ (rest : List (List ℕ)). t.id ∷ rest) (ids-push ts s)
 
-  length-ids : (slots : List Slot) → length (ids (entries_of m slots)) ≡ length slots
-  length-ids [] = refl
-  length-ids (t ∷ ts) = ap suc (length-ids ts)
-
   module _ (slots : List Slot) (s : Slot) (new : place_of s.id (ids (entries_of m slots)) ≡ None) where
-    pub places-push : (old next : List ℕ → Option ℕ) → ((j : List ℕ) → old j ≡ place_of j (ids (entries_of m slots))) →
-        ((j : List ℕ) → next j ≡ update bytes_eq old s.id (Some (length slots)) j) → (j : List ℕ) → next j ≡ place_of j (ids (entries_of m (slots ++ s ∷ [])))
-    places-push old next was is j =
-        is j
-        ∙ (ap (λ (o : Option ℕ). cond (bytes_eq s.id j) (Some (length slots)) o) (was j)
-        ∙ (ap (λ (n : ℕ). cond (bytes_eq s.id j) (Some n) (place_of j (ids (entries_of m slots)))) (sym (length-ids slots))
-        ∙ (sym (place-push s.id j (ids (entries_of m slots)) new)
-        ∙ ap (place_of j) (sym (ids-push slots s)))))
-
     pub apart-push : IsDistinct bytes_eq (ids (entries_of m slots)) → IsDistinct bytes_eq (ids (entries_of m (slots ++ s ∷ [])))
     apart-push distinct = subst (IsDistinct bytes_eq) (sym (ids-push slots s)) (distinct-push s.id (ids (entries_of m slots)) new distinct)
 
@@ -86,6 +72,3 @@ module _ (m : Mapping) where
 
     pub ids-set : ids (entries_of m (set slots p s)) ≡ ids (entries_of m slots)
     ids-set = ap ids entries-set ∙ found-ids s.id (option_map (document_of m s.id) s.live) (entries_of m slots) p found
-
-  pub place-below : (id : List ℕ) (slots : List Slot) (p : ℕ) → place_of id (ids (entries_of m slots)) ≡ Some p → p < length slots
-  place-below id slots p found = subst (λ (n : ℕ). p < n) (length-map slots (entry_of m)) (found-below id (entries_of m slots) p found)

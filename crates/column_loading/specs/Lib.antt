@@ -1,3 +1,4 @@
 -- What is said of documents that go into columns as bulk actions bring them.
 pub mod Drafts
 pub mod Loadings
+pub mod Slots

@@ -1,6 +1,5 @@
 -- What was loaded so far: ids with the sources of their live documents, and growing shards of these documents.
-use Rattle.std.specs.Prelude.{◌≡◌, ℕ, ◌+◌, ◌^◌, ◌<◌, ◌≤◌, List, [], ◌∷◌, map, length, Option, Ok, Err, Result, option_map, IfSome, IsTrue, OnOk}
-use Rattle.std.specs.BTreeMap.{get_by_text}
+use Rattle.std.specs.Prelude.{◌≡◌, ℕ, ◌+◌, ◌^◌, ◌<◌, ◌≤◌, List, [], ◌∷◌, map, length, Option, Ok, Err, Result, option_map, unwrap_or, IfSome, IsTrue, OnOk}
 use Rattle.std.specs.List.{IsDistinct}
 use Rattle.std.specs.Str.{bytes_eq}
 use Rattle.agg_model.specs.declared.limits.TheConstants.{MAX_PATHS, WEIGHT_LIMIT}
@@ -15,7 +14,7 @@ use Rattle.agg_evaluation.specs.DocumentFits.{all_fit}
 use Rattle.agg_reading.specs.Document.{document_at}
 use Rattle.agg_reading.specs.Reading.{Reading}
 use Rattle.agg_reading.specs.Store.{Store, live_documents, store_weight, row_weight, put_row, deleted}
-use Rattle.agg_documents.specs.Slots.{ids, place_of}
+use Rattle.agg_documents.specs.Slots.{ids}
 use Rattle.document_rows.specs.Faults.{Gives}
 use Rattle.document_rows.specs.declared.fault.ItemFault.{ItemFault}
 use Rattle.document_rows.specs.declared.fault.ItemFault.TheVariants.{Refused, Memory}
@@ -33,7 +32,7 @@ abbrev pub root_at : Mapping → List ℕ → Row
 root_at m source = row_in (document_at m source)
 
 abbrev pub document_of : Mapping → List ℕ → Kept → Document
-document_of m id kept = record { id = id; routing = kept.routing; root = root_at m kept.source }
+document_of m id kept = record { id = id; routing = unwrap_or kept.routing id; root = root_at m kept.source }
 
 abbrev pub entry_of : Mapping → Slot → List ℕ × Option Document
 entry_of m slot = (slot.id, option_map (document_of m slot.id) slot.live)
@@ -43,7 +42,7 @@ entries_of m slots = map (entry_of m) slots
 
 -- the store of the live documents, each as its source gives it
 abbrev pub store_of : Mapping → Loading → Store
-store_of m loading = entries_of m loading.slots.items
+store_of m loading = entries_of m loading.slots
 
 -- the source is read, and its document weighs so much
 pub record IsRead (m : Mapping) (kept : Kept) : Type 0 where
@@ -54,26 +53,19 @@ unfoldable pub AreRead : Mapping → List Slot → Type 0
 AreRead m [] = Unit {0}
 AreRead m (s ∷ ss) = IfSome s.live (IsRead m) × AreRead m ss
 
--- Where each id stands, that no id has two places; the weight of the live documents, below WEIGHT_LIMIT; each is read from its
--- source and fits the mapping; and growing shards hold exactly them.
+-- No id has two places; the weight of the live documents, below WEIGHT_LIMIT; each is read from its source and fits the mapping;
+-- and growing shards hold exactly them.
 pub record IsLoadingOf (m : Mapping) (loading : Loading) : Type 0 where
   pub few : length m.fields + length m.nested ≤ MAX_PATHS
   pub paths : IsTrue (parents_before m)
   pub some : 1 ≤ loading.shards
   pub in_range : loading.shards < 2 ^ 32
-  pub places : (id : List ℕ) → get_by_text loading.places id ≡ place_of id (ids (store_of m loading))
   pub distinct : IsDistinct bytes_eq (ids (store_of m loading))
   pub weight : loading.weight ≡ store_weight (store_of m loading)
   pub light : loading.weight < WEIGHT_LIMIT
-  pub read : AreRead m loading.slots.items
+  pub read : AreRead m loading.slots
   pub fit : IsTrue (all_fit m (live_documents (store_of m loading)))
   pub growing : AreGrowing m (live_documents (store_of m loading)) loading.shards loading.drafts
-
--- nothing but slots and their places is another
-pub record IsBeside (old new : Loading) : Type 0 where
-  pub weight : new.weight ≡ old.weight
-  pub shards : new.shards ≡ old.shards
-  pub drafts : new.drafts ≡ old.drafts
 
 -- a loading under some mapping
 abbrev pub IsLoading : Loading → Type 0

@@ -32,7 +32,7 @@ fn document_again(
     match root_row_with(alloc, &ordered, kept.source.as_slice(), scratch) {
         Ok(root) => Ok(Document {
             id: id.copy(alloc)?,
-            routing: kept.routing.copy(alloc)?,
+            routing: kept.routing.as_ref().unwrap_or(id).copy(alloc)?,
             root,
         }),
         Err(ItemFault::Refused(_)) => unreachable!(),

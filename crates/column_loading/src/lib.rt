@@ -6,5 +6,6 @@ mod again;
 mod drafts;
 mod loading;
 mod slot;
+mod slots;
 
 pub use loading::Loading;

@@ -1,8 +1,5 @@
 //! Bulk actions on documents that grow into columns.
 ghost use Rattle.std.specs.Prelude.{◌≡◌, ◌++◌, ◌∷◌, ℕ, List as Items, ◌+◌, ◌<◌, ◌≤◌, [], None, Some, length, map, option_map, slice_index_or, slice_set, IfOk, OnOk, IsTrue};
-ghost use Rattle.std.specs.BTreeMap.{get_by_text};
-ghost use Rattle.std.specs.Map.{update};
-ghost use Rattle.std.specs.Str.{bytes_eq};
 ghost use Rattle.agg_model.specs.Contexts.{parents_before};
 ghost use Rattle.agg_model.specs.MappingOrder.{IsOrdered};
 ghost use Rattle.agg_model.specs.declared.limits.TheConstants.{MAX_PATHS};
@@ -11,12 +8,15 @@ ghost use Rattle.document_rows.specs.Faults.{Gives};
 ghost use Rattle.agg_model.specs.declared.mapping.Mapping.{Mapping as AnyMapping};
 ghost use Rattle.agg_model.specs.declared.bulk.ActionKind.{ActionKind as AnyKind};
 ghost use Rattle.shard_columns.specs.Built.{columns_from};
+ghost use Rattle.agg_documents.specs.Slots.{place_of};
 ghost use Rattle.column_loading.specs.Drafts.{AreDraftsOf};
-ghost use Rattle.column_loading.specs.Loadings.{AreRead, CanPut, IsBeside, DeletesId, IfRefused, IsLoading, IsLoadingOf, PutsAll, store_of};
+ghost use Rattle.column_loading.specs.Loadings.{AreRead, CanPut, DeletesId, IfRefused, IsLoading, IsLoadingOf, PutsAll, store_of};
+ghost use Rattle.column_loading.specs.Slots.{slot_ids};
 
 use crate::again::read_again;
 use crate::drafts::{empty_drafts, finished, grow};
-use crate::slot::{Kept, Slot};
+use crate::slot::{Kept, Slot, other_routing};
+use crate::slots::Slots;
 use agg_documents::{conflicts, refused, weight_of};
 use agg_mapping::OrderedMapping;
 use agg_model::item_refusal::{INDEX_FULL, VERSION_CONFLICT};
@@ -25,7 +25,6 @@ use agg_model::{Action, ActionKind, Applied, Bytes, Document, List, Mapping, Tex
 use document_rows::{ItemFault, Scratch, root_row_with};
 use shard_columns::{Shard, ShardDraft};
 use std::alloc::{AllocError, Global};
-use std::collections::BTreeMap;
 
 /// The documents that bulk actions leave, on their way into columns: each accepted document is copied into the growing shard
 /// of its routing, and kept by its source alone. Once a live document is replaced or deleted, the growing shards are let go of,
@@ -34,9 +33,7 @@ use std::collections::BTreeMap;
 /// Contracts see by `store_of` the documents that a `Store` would have. After want of memory it is spent.
 #[derive(Drop)]
 pub struct Loading {
-    /// Where each id stands among the slots. Its order is that of the bytes, so that no choice of ids makes it slow.
-    pub(crate) places: BTreeMap<String, usize>,
-    pub(crate) slots: Vec<Slot>,
+    pub(crate) slots: Slots,
     pub(crate) weight: u64,
     pub shards: u32,
     pub(crate) drafts: Option<Vec<ShardDraft>>,
@@ -53,8 +50,7 @@ impl Loading {
         ensures shards { IfOk result (λ loading. loading.shards ≡ shards) }
     {
         Ok(Loading {
-            places: BTreeMap::new(alloc),
-            slots: Vec::new(alloc),
+            slots: Slots::new(alloc),
             weight: 0,
             shards,
             drafts: Some(empty_drafts(alloc, mapping, shards)?),
@@ -62,19 +58,20 @@ impl Loading {
     }
 
     /// Where an id stands; none where it is new.
-    fn find(&self, id: &str) -> Option<usize>
-        ensures { result ≡ get_by_text self.now.places id.now }
+    fn find(&mut self, id: &str) -> Result<Option<usize>, AllocError>
+        ensures place { IfOk result (λ place. place ≡ place_of id.now (slot_ids self.old.slots)) }
+        ensures same { self.new ≡ self.old }
     {
-        self.places.get(id).copied()
+        self.slots.find(id)
     }
 
     /// What the live document at a place weighs; none where it has no document.
     fn live_weight(&self, place: usize) -> Option<u64>
-        requires { place < length self.now.slots.items }
-        ensures { (m : AnyMapping) → AreRead m self.now.slots.items →
+        requires { place < length self.now.slots }
+        ensures { (m : AnyMapping) → AreRead m self.now.slots →
             result ≡ option_map weight (slice_index_or (store_of m self.now) place ([], None)).1 }
     {
-        match &self.slots[place].live {
+        match &self.slots.as_slice()[place].live {
             Some(kept) => Some(kept.weight),
             None => None,
         }
@@ -82,26 +79,34 @@ impl Loading {
 
     /// Puts a slot in the place of its id. The growing shards do not have it.
     fn replace(&mut self, place: usize, slot: Slot, weight: u64)
-        requires { place < length self.old.slots.items }
-        ensures slots { self.new.slots.items ≡ slice_set self.old.slots.items place slot }
+        requires { place_of slot.id (slot_ids self.old.slots) ≡ Some place }
+        ensures slots { self.new.slots ≡ slice_set self.old.slots place slot }
         ensures weight { self.new.weight ≡ weight }
         ensures drafts { self.new.drafts ≡ None }
-        ensures places { self.new.places ≡ self.old.places }
         ensures shards { self.new.shards ≡ self.old.shards }
     {
-        self.slots[place] = slot;
+        self.slots.set(place, slot);
         self.weight = weight;
         self.drafts = None;
     }
 
     /// Takes the document of an id out. The id keeps its place.
-    fn delete(&mut self, id: Text) -> Applied
+    fn delete(&mut self, id: Text) -> Result<Applied, AllocError>
         requires { IsLoading self.old }
+        ensures { IfOk result (DeletesId id self.old self.new) }
+    {
+        match self.find(id.as_str())? {
+            Some(place) => Ok(self.delete_at(place, id)),
+            None => Ok(Applied::NotFound),
+        }
+    }
+
+    /// Takes the document of an id out, which has this place.
+    fn delete_at(&mut self, place: usize, id: Text) -> Applied
+        requires loading { IsLoading self.old }
+        requires place { place_of id (slot_ids self.old.slots) ≡ Some place }
         ensures { DeletesId id self.old self.new result }
     {
-        let Some(place) = self.find(id.as_str()) else {
-            return Applied::NotFound;
-        };
         match self.live_weight(place) {
             None => Applied::NotFound,
             Some(weight) => {
@@ -121,18 +126,18 @@ impl Loading {
         source: Bytes,
     ) -> Result<Applied, ItemFault>
         requires loading { IsLoading self.old }
-        requires place { get_by_text self.old.places document.id ≡ Some place }
+        requires place { place_of document.id (slot_ids self.old.slots) ≡ Some place }
         ensures { PutsAll kind document source self.old self.new result }
     {
         let replaced = self.live_weight(place);
         if conflicts(kind, replaced.is_some()) {
-            return Err(refused(*self.slots.allocator(), VERSION_CONFLICT));
+            return Err(refused(self.slots.alloc(), VERSION_CONFLICT));
         }
         let added = weight_of(&document);
         let beside = self.weight - replaced.unwrap_or(0);
         let weight = beside.saturating_add(added);
         if weight >= WEIGHT_LIMIT {
-            return Err(refused(*self.slots.allocator(), INDEX_FULL));
+            return Err(refused(self.slots.alloc(), INDEX_FULL));
         }
         let Document {
             id,
@@ -140,7 +145,7 @@ impl Loading {
             root: _,
         } = document;
         let live = Some(Kept {
-            routing,
+            routing: other_routing(&id, routing),
             source,
             weight: added,
         });
@@ -151,30 +156,16 @@ impl Loading {
         }
     }
 
-    /// Puts a slot with a new id behind the others.
-    fn add(&mut self, slot: Slot) -> Result<(), AllocError>
-        ensures slots { OnOk result (self.new.slots.items ≡ self.old.slots.items ++ slot ∷ []) }
-        ensures places { OnOk result ((id : Items ℕ) →
-            get_by_text self.new.places id ≡ update bytes_eq (get_by_text self.old.places) slot.id (Some (length self.old.slots.items)) id) }
-        ensures same { OnOk result (IsBeside self.old self.new) }
-    {
-        let key = String::from_str(*self.slots.allocator(), slot.id.as_str())?;
-        let place = self.slots.len();
-        self.slots.push(slot)?;
-        self.places.insert(key, place)?;
-        Ok(())
-    }
-
     /// Puts a document whose id is new, and copies it into the growing shard of its routing.
     fn put_new(&mut self, document: Document, source: Bytes) -> Result<Applied, ItemFault>
         requires loading { CanPut document source self.old }
-        requires new { get_by_text self.old.places document.id ≡ None }
+        requires new { place_of document.id (slot_ids self.old.slots) ≡ None }
         ensures { (kind : AnyKind) → PutsAll kind document source self.old self.new result }
     {
         let added = weight_of(&document);
         let weight = self.weight.saturating_add(added);
         if weight >= WEIGHT_LIMIT {
-            return Err(refused(*self.slots.allocator(), INDEX_FULL));
+            return Err(refused(self.slots.alloc(), INDEX_FULL));
         }
         grow(&mut self.drafts, &document)?;
         let Document {
@@ -183,11 +174,11 @@ impl Loading {
             root: _,
         } = document;
         let live = Some(Kept {
-            routing,
+            routing: other_routing(&id, routing),
             source,
             weight: added,
         });
-        self.add(Slot { id, live })?;
+        self.slots.push(Slot { id, live })?;
         self.weight = weight;
         Ok(Applied::Created)
     }
@@ -202,14 +193,15 @@ impl Loading {
         requires { CanPut document source self.old }
         ensures { PutsAll kind document source self.old self.new result }
     {
-        match self.find(document.id.as_str()) {
+        match self.find(document.id.as_str())? {
             Some(place) => self.put_again(kind, place, document, source),
             None => self.put_new(document, source),
         }
     }
 
     /// Does one bulk action on documents of this mapping. The time is that of reading its source, of copying its values into
-    /// columns, and of two look-ups of its id and one of each word, which take the logarithm of their numbers.
+    /// columns, and of finding its id and each word, which takes the logarithm of their numbers; an id that comes behind all
+    /// before it, by length and then by bytes, is found new at once.
     ///
     /// It answers what `Store::apply_with` answers, and after a refusal the loading is as before. After want of memory it is
     /// spent.
@@ -234,9 +226,9 @@ impl Loading {
             source,
         } = action;
         match kind {
-            ActionKind::Delete => Ok(self.delete(id)),
+            ActionKind::Delete => Ok(self.delete(id)?),
             ActionKind::Index | ActionKind::Create => {
-                let alloc = *self.slots.allocator();
+                let alloc = self.slots.alloc();
                 let mapping = OrderedMapping::of(mapping);
                 let root = root_row_with(alloc, &mapping, source.as_slice(), scratch)?;
                 self.put(kind, Document { id, routing, root }, source)
@@ -251,7 +243,6 @@ impl Loading {
         ensures { IfOk result (λ drafts. AreDraftsOf mapping.now (shards_of (store_of mapping.now self) self.shards) drafts.items) }
     {
         let Loading {
-            places: _,
             slots,
             weight: _,
             shards,

@@ -1,11 +1,13 @@
-//! The places of ids, with the sources of their live documents.
+//! Ids, with the sources of their live documents.
+ghost use Rattle.std.specs.Prelude.{◌≡◌, unwrap_or};
 
 use agg_model::{Bytes, Text};
 
 /// A live document by its source, which is read once more where it is wanted again.
 #[derive(Drop)]
 pub struct Kept {
-    pub routing: Text,
+    /// None where the document is routed by its id.
+    pub routing: Option<Text>,
     pub source: Bytes,
     /// What the document weighs.
     pub weight: u64,
@@ -16,4 +18,15 @@ pub struct Kept {
 pub struct Slot {
     pub id: Text,
     pub live: Option<Kept>,
+}
+
+/// A routing, if it is another than the id.
+pub(crate) fn other_routing(id: &Text, routing: Text) -> Option<Text>
+    ensures { unwrap_or result id.now ≡ routing }
+{
+    if routing.as_str() == id.as_str() {
+        None
+    } else {
+        Some(routing)
+    }
 }

@@ -1,60 +1,31 @@
-use Rattle.std.proofs.Common.{◌≡◌, ◌-◌, [], Some, None, refl, sym, ◌∙◌, ap, arith}
-use Rattle.std.specs.Option.{option_map}
-use Rattle.std.specs.BTreeMap.{get_by_text}
-use Rattle.agg_reading.specs.Store.{live_at, weight}
-use Rattle.agg_documents.specs.Slots.{ids, place_of}
+use Rattle.std.proofs.Common.{◌≡◌, ◌∙◌, None, Some, refl, sym, ap, subst}
+use Rattle.agg_documents.specs.Slots.{place_of}
 use Rattle.agg_documents.proofs.Places.{new-live}
-use Rattle.agg_documents.proofs.Putting.{found-is, gone-weight, deleted-new, deleted-gone, deleted-live}
-use Rattle.column_loading.specs.Loadings.{store_of}
-use Rattle.column_loading.specs.declared.slot.Slot.{Slot}
-use Rattle.column_loading.proofs.Placed.{place-below}
-use Rattle.column_loading.proofs.Loaded.{replaced}
+use Rattle.agg_documents.proofs.Putting.{deleted-new}
+use Rattle.agg_model.specs.declared.bulk.Applied.TheVariants.{NotFound}
+use Rattle.column_loading.specs.Loadings.{Deletes, DeletesId, IsLoading, store_of}
+use Rattle.column_loading.specs.Slots.{slot_ids}
+use Rattle.column_loading.specs.declared.loading.Loading.{Loading}
+use Rattle.column_loading.proofs.Indexed.{ids-are}
 use Rattle.column_loading.proofs.loading.Loading.delete.Goals as goal
 
-pub returns-in_default : goal.returns-in_default
-returns-in_default c = λ m held.
-    let id = c.args.id in
-    let es = store_of m c.args.self.now in
-    let none : get_by_text c.args.self.now.places id ≡ None = sym (c.in_default.ensures ∙ ap (get_by_text c.args.self.now.places) c.as_str.ensures) in
-    record { deleted_is = deleted-new id es (new-live id es (sym (held.places id) ∙ none)); loading = held; shards = refl }
+pub delete_at-requires : goal.delete_at-requires
+delete_at-requires c =
+    let old = c.args.self.now in
+    let found : place_of c.args.id (slot_ids old.slots) ≡ Some c.in-Some.place = ap (λ id. place_of id (slot_ids old.slots)) (sym c.as_str.ensures) ∙ sym c.in_ok-place.ensures.place ∙ c.in-Some.is in
+    record {
+      loading = subst IsLoading (sym c.in_ok-place.ensures.same) c.requires;
+      place = ap (λ (l : Loading). place_of c.args.id (slot_ids l.slots)) c.in_ok-place.ensures.same ∙ found;
+    }
 
-pub live_weight-requires : goal.live_weight-requires
-live_weight-requires c =
-    let m = c.requires.0 in
-    let id = c.args.id in
-    let at : get_by_text c.args.self.now.places id ≡ Some c.in-Some.place = sym (c.in-Some.ensures ∙ ap (get_by_text c.args.self.now.places) c.as_str.ensures) in
-    place-below m id c.args.self.now.slots.items c.in-Some.place (sym (c.requires.1.places id) ∙ at)
-
-pub overflow_sub-weight : goal.overflow_sub-weight
-overflow_sub-weight c =
-    let m = c.requires.0 in
-    let held = c.requires.1 in
-    let id = c.args.id in
-    let es = store_of m c.args.self.now in
-    let at : get_by_text c.args.self.now.places id ≡ Some c.in-Some.place = sym (c.in-Some.ensures ∙ ap (get_by_text c.args.self.now.places) c.as_str.ensures) in
-    let found : place_of id (ids es) ≡ Some c.in-Some.place = sym (held.places id) ∙ at in
-    let is : Some c.in-Some-live_weight.weight ≡ option_map weight (live_at id es) = found-is id es c.in-Some.place (Some c.in-Some-live_weight.weight) ([], None) found (c.in-Some-live_weight.ensures m held.read) in
-    (gone-weight id es c.in-Some-live_weight.weight c.args.self.now.weight is held.weight).0
+pub returns-in-Some : goal.returns-in-Some
+returns-in-Some c = subst (λ (l : Loading). DeletesId c.args.id l c.delete_at.new.self c.delete_at.result) c.in_ok-place.ensures.same c.delete_at.ensures
 
 pub returns-in-None : goal.returns-in-None
 returns-in-None c = λ m held.
     let id = c.args.id in
-    let es = store_of m c.args.self.now in
-    let at : get_by_text c.args.self.now.places id ≡ Some c.in-Some.place = sym (c.in-Some.ensures ∙ ap (get_by_text c.args.self.now.places) c.as_str.ensures) in
-    let found : place_of id (ids es) ≡ Some c.in-Some.place = sym (held.places id) ∙ at in
-    record { deleted_is = deleted-gone id es (found-is id es c.in-Some.place None ([], None) found (c.in-None.ensures m held.read)); loading = held; shards = refl }
-
-pub returns-in-Some-live_weight : goal.returns-in-Some-live_weight
-returns-in-Some-live_weight c = λ m held.
-    let id = c.args.id in
     let old = c.args.self.now in
     let es = store_of m old in
-    let w = c.in-Some-live_weight.weight in
-    let at : get_by_text old.places id ≡ Some c.in-Some.place = sym (c.in-Some.ensures ∙ ap (get_by_text old.places) c.as_str.ensures) in
-    let found : place_of id (ids es) ≡ Some c.in-Some.place = sym (held.places id) ∙ at in
-    let is : Some w ≡ option_map weight (live_at id es) = found-is id es c.in-Some.place (Some w) ([], None) found (c.in-Some-live_weight.ensures m held.read) in
-    let slot : Slot = record { id = id; live = None } in
-    let light = held.light in
-    let made = replaced m old c.replace.new.self c.in-Some.place slot (old.weight - w) None held found refl c.replace.ensures.slots c.replace.ensures.weight c.replace.ensures.drafts c.replace.ensures.places c.replace.ensures.shards
-    (gone-weight id es w old.weight is held.weight).1 (omega (arith, light)) tt refl in
-    record { deleted_is = deleted-live id es (store_of m c.replace.new.self) w is made.1; loading = made.0; shards = c.replace.ensures.shards }
+    let none : place_of id (slot_ids old.slots) ≡ None = ap (λ j. place_of j (slot_ids old.slots)) (sym c.as_str.ensures) ∙ sym c.in_ok-place.ensures.place ∙ c.in-None.is in
+    subst (λ (l : Loading). Deletes m id old l NotFound) (sym c.in_ok-place.ensures.same)
+    (record { deleted_is = deleted-new id es (new-live id es (ap (place_of id) (ids-are m old.slots) ∙ none)); loading = held; shards = refl })

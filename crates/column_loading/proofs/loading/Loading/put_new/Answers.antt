@@ -1,10 +1,6 @@
-use Rattle.std.proofs.Common.{[], Option, None, false, refl, sym, subst}
-use Rattle.std.specs.Prelude.{Vec}
-use Rattle.std.specs.declared.alloc.Global.{Global}
+use Rattle.std.proofs.Common.{[], None, false, refl}
 use Rattle.agg_model.specs.declared.bulk.Action.{Action}
 use Rattle.agg_documents.proofs.Putting.{new-is, never_create, put-full, put-done}
-use Rattle.shard_columns.specs.declared.draft.ShardDraft.{ShardDraft}
-use Rattle.column_loading.specs.Drafts.{Grows}
 use Rattle.column_loading.specs.Loadings.{store_of}
 use Rattle.column_loading.specs.declared.loading.Loading.{Loading}
 use Rattle.column_loading.specs.declared.slot.Kept.{Kept}
@@ -35,16 +31,14 @@ returns c = λ kind m held read.
     let added = c.weight_of-added.result in
     let w = c.saturating_add-weight.result in
     let action : Action = record { kind = kind; id = d.id; routing = d.routing; source = c.args.source } in
-    let kept : Kept = record { routing = d.routing; source = c.args.source; weight = added } in
-    let same = c.in_ok-add.ensures.same in
-    let next : Loading = record { places = c.add.new.self.places; slots = c.add.new.self.slots; weight = w; shards = c.add.new.self.shards; drafts = c.add.new.self.drafts } in
+    let kept : Kept = record { routing = c.other_routing.result; source = c.args.source; weight = added } in
+    let next : Loading = record { slots = c.push.new.self; weight = w; shards = old.shards; drafts = c.grow.new.drafts } in
     let new = absent m old d c.args.source held read c.requires.new in
     let total = exact m old d c.args.source held read c.requires.new added w c.weight_of-added.ensures c.saturating_add-weight.ensures c.if-weight-ge-WEIGHT_LIMIT.false in
-    let grown : Grows old.drafts next.drafts d = subst (λ (o : Option (Vec ShardDraft Global)). Grows old.drafts o d) (sym same.drafts) c.in_ok-grow.ensures in
-    let placed = placed-last m old d c.args.source held read c.requires.new added w c.weight_of-added.ensures c.saturating_add-weight.ensures c.if-weight-ge-WEIGHT_LIMIT.false next _ kept refl refl refl refl c.in_ok-add.ensures.slots c.in_ok-add.ensures.places refl same.shards grown in
+    let placed = placed-last m old d c.args.source held read c.requires.new added w c.weight_of-added.ensures c.saturating_add-weight.ensures c.if-weight-ge-WEIGHT_LIMIT.false next _ kept refl c.other_routing.ensures refl refl c.in_ok-push.ensures refl refl c.in_ok-grow.ensures in
     record {
       put = put-done action d.root es false None w (store_of m next) (new-is d.id es new) (never_create kind) refl total c.if-weight-ge-WEIGHT_LIMIT.false placed;
-      loading = loaded-last m old d c.args.source held read c.requires.new added w c.weight_of-added.ensures c.saturating_add-weight.ensures c.if-weight-ge-WEIGHT_LIMIT.false next _ kept refl refl refl refl c.in_ok-add.ensures.slots c.in_ok-add.ensures.places refl same.shards grown;
-      shards = same.shards;
+      loading = loaded-last m old d c.args.source held read c.requires.new added w c.weight_of-added.ensures c.saturating_add-weight.ensures c.if-weight-ge-WEIGHT_LIMIT.false next _ kept refl c.other_routing.ensures refl refl c.in_ok-push.ensures refl refl c.in_ok-grow.ensures;
+      shards = refl;
       as_before = tt;
     }
