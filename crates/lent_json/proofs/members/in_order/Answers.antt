@@ -1,19 +1,9 @@
-use Rattle.std.proofs.Common.{rules, ◌≡◌, sym, ap, ◌∙◌, ◌∷◌}
+use Rattle.std.proofs.Common.{rules, ◌≡◌}
 use Rattle.std.proofs.lemmas.Fn.{always_returns_same}
-use Rattle.lent_json.specs.Members.{put_all}
-use Rattle.lent_json.specs.View.{members_view}
-use Rattle.lent_json.proofs.Ordered.{below, rising_stay, view_inserted}
+use Rattle.lent_json.proofs.Ordered.{below, rising_stay}
 use Rattle.lent_json.proofs.members.in_order.Goals as goal
 
 pub returns-then-is_sorted_by : goal.returns-then-is_sorted_by
 returns-then-is_sorted_by c =
     let rising = c.if-is_sorted_by.ensures.cases below (always_returns_same _ (λ a r. r ≡ below a.0.now a.1.0.now) _ (λ a r f k. search rules)) in
     rising_stay c.args.members.items (rw c.as_slice.ensures.value at rising)
-
-pub loop-name-preserved : goal.loop-name-preserved
-loop-name-preserved c =
-    let left = c.next.new.self.rest.items in
-    let took : c.loop-name.name-iterator.rest.items ≡ (c.in-Some.name, c.in-Some.value) ∷ left = search rules in
-    ap (λ es. put_all (members_view left) (members_view es)) c.in_ok-insert.ensures.entries
-    ∙ ap (put_all (members_view left)) (view_inserted c.loop-name.by_name.entries c.in-Some.name c.in-Some.value)
-    ∙ ap (λ ms. put_all (members_view ms) (members_view c.loop-name.by_name.entries)) (sym took) ∙ c.loop-name.invariant

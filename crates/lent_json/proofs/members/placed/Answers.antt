@@ -1,0 +1,11 @@
+use Rattle.std.proofs.Common.{rules, ◌≡◌, sym, ap, ◌∙◌, ◌∷◌}
+use Rattle.lent_json.specs.Members.{put_all}
+use Rattle.lent_json.specs.View.{members_view}
+use Rattle.lent_json.proofs.members.placed.Goals as goal
+
+pub loop-name-preserved : goal.loop-name-preserved
+loop-name-preserved c =
+    let left = c.next.new.self.rest.items in
+    let took : c.loop-name.name-iterator.rest.items ≡ (c.in-Some.name, c.in-Some.value) ∷ left = search rules in
+    ap (put_all (members_view left)) c.in_ok-put_member.ensures
+    ∙ ap (λ ms. put_all (members_view ms) (members_view c.loop-name.ordered.items)) (sym took) ∙ c.loop-name.invariant
