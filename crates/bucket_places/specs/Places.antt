@@ -1,8 +1,9 @@
 -- The places of codes: each stands once, in the order in which they came (Elasticsearch Reference 8, 'Bucket aggregations').
-use Rattle.std.specs.Prelude.{◌≡◌, ℕ, ℤ, pos, zero, suc, ◌<◌, false, List, [], ◌∷◌, ◌++◌, length, Option, Some, None, slice_get}
+use Rattle.std.specs.Prelude.{◌≡◌, ℕ, ℤ, pos, zero, suc, ◌<◌, false, List, [], ◌∷◌, ◌++◌, length, Option, Some, None, IfSome, slice_get}
 use Rattle.std.specs.BTreeMap.{BTreeMap, get}
 use Rattle.std.specs.List.{IsDistinct, list_any, slice_index_or}
 use Rattle.std.specs.Ordering.{int_cmp, int_eq}
+use Rattle.bucket_places.specs.declared.places.Index.{Index}
 use Rattle.bucket_places.specs.declared.places.Place.{Place}
 use Rattle.bucket_places.specs.declared.places.Place.TheVariants.{Found, Added}
 
@@ -40,4 +41,8 @@ place_at (suc place) = Some place
 pub record IsIndexed (codes : List ℤ) (table : List ℕ) (others : BTreeMap ℤ ℕ) : Type 0 where
   pub of_table : (n : ℕ) → n < length table → Indexes codes (pos n) (place_at (slice_index_or table n 0))
   pub of_others : (code : ℤ) → IsOutside code (length table) → Indexes codes code (get int_cmp others code)
+
+-- none stands twice, and where there is an index it is one of these codes
+pub record AreKept (codes : List ℤ) (index : Option Index) : Type 0 where
   pub distinct : IsDistinct int_eq codes
+  pub indexed : IfSome index (λ i. IsIndexed codes i.table.items i.others)

@@ -1,8 +1,8 @@
 //! An index from codes to the places at which they stand.
-ghost use Rattle.std.specs.Prelude.{◌≡◌, ◌++◌, ◌∷◌, [], ◌<◌, IfOk, IfSome, IfNone, OnErr, length, pos, suc, false, replicate};
+ghost use Rattle.std.specs.Prelude.{◌≡◌, ◌++◌, ◌∷◌, [], ◌<◌, IfOk, IfSome, IfNone, OnErr, OnOk, List, ℤ, length, pos, suc, false, replicate};
 ghost use Rattle.std.specs.List.{IsDistinct, list_any};
 ghost use Rattle.std.specs.Ordering.{int_eq};
-ghost use Rattle.bucket_places.specs.Places.{IsAddedAt, IsPlaceOf, IsOutside, Indexes};
+ghost use Rattle.bucket_places.specs.Places.{IsAddedAt, IsPlaceOf, IsIndexed, IsOutside, Indexes};
 
 use std::alloc::{AllocError, Global};
 use std::collections::BTreeMap;
@@ -10,6 +10,10 @@ use std::marker::Model;
 
 // A growing index makes its table once there is a code for each so many entries, of 4 bytes each.
 const ENTRIES_A_CODE: usize = 32;
+
+// Where there is no table, so many codes are looked through: they lie in two cache lines, while a map takes nodes of about 200
+// bytes for them, in which it looks through codes as well.
+const SCANNED_CODES: usize = 16;
 
 /// Where a code stands.
 #[derive(Clone, Copy, Debug, PartialEq, Eq)]
@@ -20,14 +24,22 @@ pub enum Place {
     Added(usize),
 }
 
-/// Distinct codes in the order in which they came, and an index into them. Contracts see the list of the codes.
+// The places of codes.
 #[derive(Drop)]
-pub struct Places {
-    codes: Vec<i64>,
+struct Index {
     // One more than the place of the code that is this entry's number, and 0 where it has none.
     table: Vec<u32>,
     // The places of the codes that are no number of an entry.
     others: BTreeMap<i64, usize>,
+}
+
+/// Distinct codes in the order in which they came, and an index into them where they are not few. Contracts see the list of the
+/// codes.
+#[derive(Drop)]
+pub struct Places {
+    codes: Vec<i64>,
+    // With none the codes are looked through.
+    index: Option<Index>,
     // How many entries the table has, or is to have once there are many codes.
     width: u32,
     alloc: Global,
@@ -35,13 +47,13 @@ pub struct Places {
 
 impl Model for Places {
     ghost use Rattle.std.specs.Prelude.{List, ℤ};
-    ghost use Rattle.bucket_places.specs.Places.{IsIndexed};
+    ghost use Rattle.bucket_places.specs.Places.{AreKept};
 
     ghost Value = { List ℤ };
 
     ghost view = { λ p. p.codes.items };
 
-    ghost invariant = { λ p. IsIndexed p.codes.items p.table.items p.others };
+    ghost invariant = { λ p. AreKept p.codes.items p.index };
 }
 
 // The entry of a code in a table of so many.
@@ -71,66 +83,38 @@ fn after(place: usize) -> Result<u32, AllocError>
     entry.checked_add(1).ok_or(AllocError)
 }
 
-impl Places {
-    /// No code, with an ordered map: a look-up takes time by the logarithm of the codes.
-    pub fn ordered(alloc: Global) -> Self
-        ensures { result ≡ [] }
-    {
-        Places::growing(alloc, 0)
-    }
+// The place of a code among these, which are looked through from the front.
+fn scan(codes: &[i64], code: i64) -> Option<usize>
+    ensures { Indexes codes.now code result }
+{
+    codes.iter().position(|known| *known == code)
+}
 
-    /// No code, with a table of 4 bytes for each code from 0 to below `width`, which are looked up at once. Other codes may come
-    /// too, and are looked up as in `ordered`.
-    pub fn dense(alloc: Global, width: u32) -> Result<Self, AllocError>
-        ensures { IfOk result (λ places. places ≡ []) }
+impl Index {
+    // Of no code, with a table for those from 0 to below `width`.
+    fn new(alloc: Global, width: u32) -> Result<Self, AllocError>
+        ensures { IfOk result (λ index. IsIndexed [] index.table.items index.others) }
     {
-        Ok(Places {
-            codes: Vec::new(alloc),
+        Ok(Index {
             table: zeros(alloc, width as usize)?,
             others: BTreeMap::new(alloc),
-            width,
-            alloc,
         })
     }
 
-    /// No code, with an index as in `ordered`. Once there is a code for each 32 from 0 to below `width`, the next that is added makes
-    /// the table of `dense`, which so takes at most 128 bytes for each code that stands here. Making it takes the time of adding
-    /// each of them once more, and the memory of both indexes until it is done.
-    pub fn growing(alloc: Global, width: u32) -> Self
-        ensures { result ≡ [] }
-    {
-        Places {
-            codes: Vec::new(alloc),
-            table: Vec::new(alloc),
-            others: BTreeMap::new(alloc),
-            width,
-            alloc,
-        }
-    }
-
-    // These codes, each at its place, with a table for those from 0 to below `width`.
-    fn with_table(alloc: Global, codes: &[i64], width: u32) -> Result<Self, AllocError>
+    // Of these codes, with a table for those from 0 to below `width`.
+    fn over(alloc: Global, codes: &[i64], width: u32) -> Result<Self, AllocError>
         requires distinct { IsDistinct int_eq codes.now }
-        ensures { IfOk result (λ places. places ≡ codes.now) }
+        ensures { IfOk result (λ index. IsIndexed codes.now index.table.items index.others) }
     {
-        let mut places = Places::dense(alloc, width)?;
-        for code in codes {
-            places.add(*code)?;
+        let mut index = Index::new(alloc, width)?;
+        for place in 0..codes.len() {
+            index.insert(codes[place], place)?;
         }
-        Ok(places)
-    }
-
-    /// The codes, each at its place.
-    pub fn codes(&self) -> &[i64]
-        ensures codes { result.now ≡ self.now }
-        ensures distinct { IsDistinct int_eq self.now }
-    {
-        let _index = &self.others;
-        self.codes.as_slice()
+        Ok(index)
     }
 
     fn find(&self, code: i64) -> Option<usize>
-        ensures { Indexes self.now code result }
+        ensures { (codes : List ℤ) → IsIndexed codes self.now.table.items self.now.others → Indexes codes code result }
     {
         match entry_of(code, self.table.len()) {
             Some(entry) => match self.table[entry] {
@@ -138,6 +122,78 @@ impl Places {
                 after => Some(after as usize - 1),
             },
             None => self.others.get(&code).copied(),
+        }
+    }
+
+    // Takes a code that stands nowhere, for the place after those of the codes.
+    fn insert(&mut self, code: i64, place: usize) -> Result<(), AllocError>
+        ensures more { OnOk result ((codes : List ℤ) → IsIndexed codes self.old.table.items self.old.others
+            → list_any (int_eq code) codes ≡ false → place ≡ length codes
+            → IsIndexed (codes ++ code ∷ []) self.new.table.items self.new.others) }
+        ensures memory { OnErr result ((codes : List ℤ) → IsIndexed codes self.old.table.items self.old.others
+            → IsIndexed codes self.new.table.items self.new.others) }
+    {
+        match entry_of(code, self.table.len()) {
+            Some(entry) => self.table[entry] = after(place)?,
+            None => {
+                self.others.insert(code, place)?;
+            }
+        }
+        Ok(())
+    }
+}
+
+impl Places {
+    /// No code. At most 16 are looked through, which takes 8 bytes for each and no other memory; for more there is an ordered map,
+    /// and a look-up takes time by the logarithm of the codes.
+    pub fn ordered(alloc: Global) -> Self
+        ensures { result ≡ [] }
+    {
+        Places::growing(alloc, 0)
+    }
+
+    /// No code, with a table of 4 bytes for each code from 0 to below `width`, which are looked up at once. Other codes may come
+    /// too, and are looked up in an ordered map.
+    pub fn dense(alloc: Global, width: u32) -> Result<Self, AllocError>
+        ensures { IfOk result (λ places. places ≡ []) }
+    {
+        Ok(Places {
+            codes: Vec::new(alloc),
+            index: Some(Index::new(alloc, width)?),
+            width,
+            alloc,
+        })
+    }
+
+    /// No code; they are looked up as in `ordered`. Once there are 16, and a code for each 32 from 0 to below `width`, the next that
+    /// is added makes the table of `dense`, which so takes at most 128 bytes for each code that stands here. Making a map or a
+    /// table takes the time of adding each code once more, and a table that comes after a map the memory of both until it is done.
+    pub fn growing(alloc: Global, width: u32) -> Self
+        ensures { result ≡ [] }
+    {
+        Places {
+            codes: Vec::new(alloc),
+            index: None,
+            width,
+            alloc,
+        }
+    }
+
+    /// The codes, each at its place.
+    pub fn codes(&self) -> &[i64]
+        ensures codes { result.now ≡ self.now }
+        ensures distinct { IsDistinct int_eq self.now }
+    {
+        let _index = &self.index;
+        self.codes.as_slice()
+    }
+
+    fn find(&self, code: i64) -> Option<usize>
+        ensures { Indexes self.now code result }
+    {
+        match &self.index {
+            Some(index) => index.find(code),
+            None => scan(self.codes.as_slice(), code),
         }
     }
 
@@ -149,33 +205,33 @@ impl Places {
         ensures memory { OnErr result (self.new ≡ self.old) }
     {
         let place = self.codes.len();
-        match entry_of(code, self.table.len()) {
-            Some(entry) => {
-                let after = after(place)?;
-                self.codes.push(code)?;
-                self.table[entry] = after;
-                Ok(place)
-            }
-            None => {
-                self.codes.push(code)?;
-                match self.others.insert(code, place) {
-                    Ok(_) => Ok(place),
-                    Err(_) => {
-                        self.codes.pop();
-                        Err(AllocError)
-                    }
-                }
+        self.codes.push(code)?;
+        if let Some(index) = &mut self.index {
+            if index.insert(code, place).is_err() {
+                self.codes.pop();
+                return Err(AllocError);
             }
         }
+        Ok(place)
     }
 
-    // Makes the table where it is due. The codes stay as they are, also after want of memory.
+    // Makes the index or its table where they are due. The codes stay as they are, also after want of memory.
     fn grow(&mut self) -> Result<(), AllocError>
         ensures { self.new ≡ self.old }
     {
-        let width = self.width as usize;
-        if self.table.len() < width && self.codes.len().saturating_mul(ENTRIES_A_CODE) >= width {
-            *self = Places::with_table(self.alloc, self.codes.as_slice(), self.width)?;
+        let count = self.codes.len();
+        let width = if count.saturating_mul(ENTRIES_A_CODE) >= self.width as usize {
+            self.width
+        } else {
+            0
+        };
+        let is_due = match &self.index {
+            Some(index) => index.table.len() < width as usize,
+            None => count >= SCANNED_CODES,
+        };
+        if is_due {
+            let index = Index::over(self.alloc, self.codes.as_slice(), width)?;
+            self.index = Some(index);
         }
         Ok(())
     }
@@ -187,7 +243,7 @@ impl Places {
         ensures distinct { IsDistinct int_eq self.new }
         ensures memory { OnErr result (self.new ≡ self.old) }
     {
-        let _index = &self.others;
+        let _index = &self.index;
         match self.find(code) {
             Some(place) => Ok(Place::Found(place)),
             None => {

@@ -1,45 +1,63 @@
-use Rattle.std.proofs.Common.{sym, ap, subst, arith, rules, ◌≡◌, ◌++◌, ◌∷◌, [], ◌<◌, List, ℤ, ◌∙◌, suc, length, false, w64, to_z, of_z}
+use Rattle.std.proofs.Common.{arith, sym, ap, subst, rules, ◌≡◌, ◌++◌, ◌∷◌, [], ◌∙◌, List, ℤ, Option, false, true, w64, to_z, of_z}
+use Rattle.std.specs.Prelude.{IfSome}
+use Rattle.std.specs.Result.{is_err}
 use Rattle.std.specs.List.{IsDistinct, list_any}
 use Rattle.std.specs.Ordering.{int_eq}
-use Rattle.std.proofs.Math.ListN.{set}
+use Rattle.std.proofs.lemmas.Grind.{common_steps}
 use Rattle.std.proofs.lemmas.Int.{to_z-of_z}
+use Rattle.bucket_places.specs.declared.places.Index.{Index}
 use Rattle.bucket_places.specs.Places.{IsIndexed}
-use Rattle.bucket_places.proofs.Indexing.{of_table_more, of_others_more, still_distinct, updates_at}
+use Rattle.bucket_places.proofs.Indexing.{err_given, ok_given, still_distinct}
+use Rattle.bucket_places.proofs.places.Places.add.Goals.{In_ok-push}
 use Rattle.bucket_places.proofs.places.Places.add.Goals as goal
 
-pub invariant_of-self-in-Some : goal.invariant_of-self-in-Some
-invariant_of-self-in-Some c =
-    let codes = c.self.inside.codes.items in
-    let table = c.self.inside.table.items in
-    let same : to_z w64 (of_z w64 c.args.code) ≡ c.args.code = to_z-of_z w64 c.args.code (search rules) in
-    let absent : list_any (int_eq c.args.code) codes ≡ false = ap (λ (xs : List ℤ). list_any (int_eq c.args.code) xs) c.self.view_is ∙ c.requires.absent in
-    let below : c.in-Some.entry < length table = let l = c.in-Some.ensures.within in let n = c.len.ensures in omega (arith, l, n) in
-    let last : c.in_ok-after-in-Some.after ≡ suc (length codes) = let e = c.in_ok-after-in-Some.ensures in let n = c.len-place.ensures in omega (arith, e, n) in
-    subst (λ (xs : List ℤ). IsIndexed xs (set table c.in-Some.entry c.in_ok-after-in-Some.after) c.self.inside.others) (ap (λ (x : ℤ). codes ++ x ∷ []) (sym same) ∙ sym c.in_ok-push-in-Some.ensures.items)
-    (of_table_more codes table c.self.inside.others c.self.invariant c.args.code absent c.in-Some.entry c.in_ok-after-in-Some.after (sym same ∙ c.in-Some.ensures.code) below last)
+-- the code has come to the end, and differs from those before it
+module _ (c : In_ok-push) where
+  same : to_z w64 (of_z w64 c.args.code) ≡ c.args.code
+  same = to_z-of_z w64 c.args.code (search rules)
 
-pub invariant_of-self-in-Ok : goal.invariant_of-self-in-Ok
-invariant_of-self-in-Ok c =
-    let codes = c.self.inside.codes.items in
-    let table = c.self.inside.table.items in
-    let same : to_z w64 (of_z w64 c.args.code) ≡ c.args.code = to_z-of_z w64 c.args.code (search rules) in
-    let absent : list_any (int_eq c.args.code) codes ≡ false = ap (λ (xs : List ℤ). list_any (int_eq c.args.code) xs) c.self.view_is ∙ c.requires.absent in
-    let n = c.len.ensures in
-    let m : c.len-place.result ≡ length codes = (let e = c.len-place.ensures in omega (arith, e)) in
-    subst (λ (xs : List ℤ). IsIndexed xs table c.insert.new.self) (ap (λ (x : ℤ). codes ++ x ∷ []) (sym same) ∙ sym c.in_ok-push-in-None.ensures.items)
-    (of_others_more codes table c.self.inside.others c.self.invariant c.args.code absent c.insert.new.self (λ k l e. c.in-None.ensures.outside k (omega (arith, l, n)) (same ∙ e))
-    (updates_at c.self.inside.others c.insert.new.self c.len-place.result (length codes) same m c.in-Ok.ensures.updates))
+  absent : list_any (int_eq c.args.code) c.self.inside.codes.items ≡ false
+  absent = ap (λ (xs : List ℤ). list_any (int_eq c.args.code) xs) c.self.view_is ∙ c.requires.absent
 
-pub returns-in_ok-push-in-Some-clause-distinct : goal.returns-in_ok-push-in-Some-clause-distinct
-returns-in_ok-push-in-Some-clause-distinct c =
-    let codes = c.self.inside.codes.items in
-    let same : to_z w64 (of_z w64 c.args.code) ≡ c.args.code = to_z-of_z w64 c.args.code (search rules) in
-    let absent : list_any (int_eq c.args.code) codes ≡ false = ap (λ (xs : List ℤ). list_any (int_eq c.args.code) xs) c.self.view_is ∙ c.requires.absent in
-    subst (IsDistinct int_eq) (ap (λ (x : ℤ). codes ++ x ∷ []) (sym same) ∙ sym c.in_ok-push-in-Some.ensures.items) (still_distinct codes c.self.inside.table.items c.self.inside.others c.self.invariant c.args.code absent)
+  pushed : c.self.inside.codes.items ++ c.args.code ∷ [] ≡ c.push.new.self.items
+  pushed = ap (λ (x : ℤ). c.self.inside.codes.items ++ x ∷ []) (sym same) ∙ sym c.in_ok-push.ensures.items
 
-pub returns-in-Ok-clause-distinct : goal.returns-in-Ok-clause-distinct
-returns-in-Ok-clause-distinct c =
+  distinct : IsDistinct int_eq c.push.new.self.items
+  distinct = subst (IsDistinct int_eq) pushed (still_distinct c.self.inside.codes.items c.args.code c.self.invariant.distinct absent)
+
+pub invariant_of-self-else-is_err : goal.invariant_of-self-else-is_err
+invariant_of-self-else-is_err c =
+    let at = (goal.at.invariant_of-self-else-is_err c).In_ok-push in
     let codes = c.self.inside.codes.items in
-    let same : to_z w64 (of_z w64 c.args.code) ≡ c.args.code = to_z-of_z w64 c.args.code (search rules) in
-    let absent : list_any (int_eq c.args.code) codes ≡ false = ap (λ (xs : List ℤ). list_any (int_eq c.args.code) xs) c.self.view_is ∙ c.requires.absent in
-    subst (IsDistinct int_eq) (ap (λ (x : ℤ). codes ++ x ∷ []) (sym same) ∙ sym c.in_ok-push-in-None.ensures.items) (still_distinct codes c.self.inside.table.items c.self.inside.others c.self.invariant c.args.code absent)
+    let index = c.insert.new.self in
+    let was : IsIndexed codes c.in-Some.index.table.items c.in-Some.index.others = subst (λ (o : Option Index). IfSome o (λ i. IsIndexed codes i.table.items i.others)) c.in-Some.is c.self.invariant.indexed in
+    let ok : is_err c.insert.result ≡ false = sym c.is_err.ensures.value ∙ c.if-is_err.false in
+    let more = ok_given c.insert.result ok c.insert.ensures.more in
+    let now = more codes was (ap (λ (x : ℤ). list_any (int_eq x) codes) (same at) ∙ absent at) (search (rules, c.len-place.ensures)) in record {
+      distinct = distinct at;
+      indexed = subst (λ (xs : List ℤ). IsIndexed xs index.table.items index.others) (ap (λ (x : ℤ). codes ++ x ∷ []) (same at) ∙ pushed at) now;
+    }
+
+pub invariant_of-self-then-is_err : goal.invariant_of-self-then-is_err
+invariant_of-self-then-is_err c =
+    let codes = c.self.inside.codes.items in
+    let index = c.insert.new.self in
+    let was : IsIndexed codes c.in-Some.index.table.items c.in-Some.index.others = subst (λ (o : Option Index). IfSome o (λ i. IsIndexed codes i.table.items i.others)) c.in-Some.is c.self.invariant.indexed in
+    let err : is_err c.insert.result ≡ true = sym c.is_err.ensures.value ∙ c.if-is_err.true in
+    let still = err_given c.insert.result err c.insert.ensures.memory in
+    let back : c.pop.new.self.items ≡ codes = grind (arith, common_steps) in record {
+      distinct = subst (IsDistinct int_eq) (sym back) c.self.invariant.distinct;
+      indexed = subst (λ (xs : List ℤ). IsIndexed xs index.table.items index.others) (sym back) (still codes was);
+    }
+
+pub invariant_of-self-in_default : goal.invariant_of-self-in_default
+invariant_of-self-in_default c = record {
+  distinct = distinct (goal.at.invariant_of-self-in_default c).In_ok-push;
+  indexed = subst (λ (o : Option Index). IfSome o (λ i. IsIndexed c.push.new.self.items i.table.items i.others)) (sym c.in_default.is) tt;
+}
+
+pub returns-else-is_err-clause-distinct : goal.returns-else-is_err-clause-distinct
+returns-else-is_err-clause-distinct c = distinct (goal.at.returns-else-is_err-clause-distinct c).In_ok-push
+
+pub returns-in_default-clause-distinct : goal.returns-in_default-clause-distinct
+returns-in_default-clause-distinct c = distinct (goal.at.returns-in_default-clause-distinct c).In_ok-push
