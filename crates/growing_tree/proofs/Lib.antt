@@ -21,3 +21,4 @@ pub mod Turns
 pub mod Rises
 pub mod Each
 pub mod AllMetrics
+pub mod MeasuredBuckets

@@ -1,4 +1,5 @@
 -- Trees that grow.
+pub mod Measures
 pub mod Trees
 pub mod TreeFalls
 pub mod Taken
