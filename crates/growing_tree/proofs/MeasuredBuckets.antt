@@ -27,11 +27,11 @@ use Rattle.growth_laws.specs.Gathering.{gathered_children, gatherer_of}
 use Rattle.growth_laws.specs.Growth.{metric_with}
 use Rattle.shard_columns.specs.Columns.{Columns}
 use Rattle.growing_tree.specs.Decoded.{decoded, decoded_bucket, decoded_children}
-use Rattle.growing_tree.specs.Gathered.{decoders, gatherers}
-use Rattle.growing_tree.specs.Measures.{Measure, measures_from, metrics_at, metrics_with, no_values}
+use Rattle.growing_tree.specs.Gathered.{decoders, gatherers, key_at, shown_measured}
+use Rattle.growing_tree.specs.Measures.{Measure, measures_from, metrics_with, no_values}
 use Rattle.growing_tree.specs.Readiness.{is_metric}
 use Rattle.growing_tree.specs.Trees.{coded_buckets, measured_buckets}
-use Rattle.growing_tree.specs.declared.ready.Ready.{Ready}
+use Rattle.growing_tree.specs.declared.ready.Ready.{Ready, out-Ready}
 use Rattle.growing_tree.specs.declared.tree.Growing.{Growing}
 use Rattle.growing_tree.specs.declared.tree.Level.TheVariants.{Number}
 use Rattle.growing_tree.proofs.Counting.{handed-values}
@@ -42,72 +42,72 @@ use Rattle.growing_tree.proofs.Putting.{Gathers}
 abbrev pub measure : ℕ → List Metric → Measure
 measure n ms = record { count = n; metrics = ms }
 
-pub length-measures : (columns : List (Vec Metric)) (q : ℕ) (ns : List ℕ) → length (measures_from columns q ns) ≡ length ns
-length-measures columns q [] = refl
-length-measures columns q (n ∷ ns) = ap suc (length-measures columns (suc q) ns)
+pub length-measures : (at : ℕ → List Metric) (q : ℕ) (ns : List ℕ) → length (measures_from at q ns) ≡ length ns
+length-measures at q [] = refl
+length-measures at q (n ∷ ns) = ap suc (length-measures at (suc q) ns)
 
 -- the bucket at a place
-pub measure-at : (columns : List (Vec Metric)) (q : ℕ) (ns : List ℕ) (p : ℕ) (d : Measure) → p < length ns → get_or (measures_from columns q ns) p d ≡ measure (get_or ns p 0) (metrics_at columns (q + p))
-measure-at columns q [] p d l = absurd (omega arith)
-measure-at columns q (n ∷ ns) zero d l = let here : q ≡ q + zero = omega arith in ap (λ k. measure n (metrics_at columns k)) here
-measure-at columns q (n ∷ ns) (suc p) d l =
+pub measure-at : (at : ℕ → List Metric) (q : ℕ) (ns : List ℕ) (p : ℕ) (d : Measure) → p < length ns → get_or (measures_from at q ns) p d ≡ measure (get_or ns p 0) (at (q + p))
+measure-at at q [] p d l = absurd (omega arith)
+measure-at at q (n ∷ ns) zero d l = let here : q ≡ q + zero = omega arith in ap (λ k. measure n (at k)) here
+measure-at at q (n ∷ ns) (suc p) d l =
     let next : suc q + p ≡ q + suc p = omega arith in
-    measure-at columns (suc q) ns p d (omega arith) ∙ ap (λ k. measure (get_or ns p 0) (metrics_at columns k)) next
+    measure-at at (suc q) ns p d (omega arith) ∙ ap (λ k. measure (get_or ns p 0) (at k)) next
 
--- columns in which the same is read from a place on
-pub measures-same : (columns more : List (Vec Metric)) (q : ℕ) (ns : List ℕ) → ((n : ℕ) → q ≤ n → metrics_at more n ≡ metrics_at columns n) → measures_from more q ns ≡ measures_from columns q ns
-measures-same columns more q [] same = refl
-measures-same columns more q (n ∷ ns) same = λ i. measure n (same q (omega arith) i) ∷ measures-same columns more (suc q) ns (λ k l. same k (omega (arith, l))) i
+-- buckets whose metrics are the same from a place on
+pub measures-same : (at more : ℕ → List Metric) (q : ℕ) (ns : List ℕ) → ((n : ℕ) → q ≤ n → more n ≡ at n) → measures_from more q ns ≡ measures_from at q ns
+measures-same at more q [] same = refl
+measures-same at more q (n ∷ ns) same = λ i. measure n (same q (omega arith) i) ∷ measures-same at more (suc q) ns (λ k l. same k (omega (arith, l))) i
 
 -- the bucket at a place changes
-pub measures-set : (columns more : List (Vec Metric)) (q : ℕ) (ns : List ℕ) (p n : ℕ) → p < length ns → ((k : ℕ) → k ≢ q + p → metrics_at more k ≡ metrics_at columns k)
-    → measures_from more q (set ns p n) ≡ set (measures_from columns q ns) p (measure n (metrics_at more (q + p)))
-measures-set columns more q [] p n l others = absurd (omega arith)
-measures-set columns more q (m ∷ ns) zero n l others =
+pub measures-set : (at more : ℕ → List Metric) (q : ℕ) (ns : List ℕ) (p n : ℕ) → p < length ns → ((k : ℕ) → k ≢ q + p → more k ≡ at k)
+    → measures_from more q (set ns p n) ≡ set (measures_from at q ns) p (measure n (more (q + p)))
+measures-set at more q [] p n l others = absurd (omega arith)
+measures-set at more q (m ∷ ns) zero n l others =
     let here : q ≡ q + zero = omega arith in
-    λ i. measure n (metrics_at more (here i)) ∷ measures-same columns more (suc q) ns (λ k l. others k (λ e. absurd (omega (arith, e, l)))) i
-measures-set columns more q (m ∷ ns) (suc p) n l others =
+    λ i. measure n (more (here i)) ∷ measures-same at more (suc q) ns (λ k l. others k (λ e. absurd (omega (arith, e, l)))) i
+measures-set at more q (m ∷ ns) (suc p) n l others =
     let next : suc q + p ≡ q + suc p = omega arith in
-    let rest = measures-set columns more (suc q) ns p n (omega arith) (λ k other. others k (λ e. other (omega (arith, e)))) ∙ ap (λ k. set (measures_from columns (suc q) ns) p (measure n (metrics_at more k))) next in
+    let rest = measures-set at more (suc q) ns p n (omega arith) (λ k other. others k (λ e. other (omega (arith, e)))) ∙ ap (λ k. set (measures_from at (suc q) ns) p (measure n (more k))) next in
     λ i. measure m (others q (λ e. absurd (omega (arith, e))) i) ∷ rest i
 
 -- one more bucket
-pub measures-push : (columns : List (Vec Metric)) (q : ℕ) (ns : List ℕ) (n : ℕ) → measures_from columns q (ns ++ n ∷ []) ≡ measures_from columns q ns ++ measure n (metrics_at columns (q + length ns)) ∷ []
-measures-push columns q [] n = let here : q ≡ q + zero = omega arith in ap (λ k. measure n (metrics_at columns k) ∷ []) here
-measures-push columns q (m ∷ ns) n =
+pub measures-push : (at : ℕ → List Metric) (q : ℕ) (ns : List ℕ) (n : ℕ) → measures_from at q (ns ++ n ∷ []) ≡ measures_from at q ns ++ measure n (at (q + length ns)) ∷ []
+measures-push at q [] n = let here : q ≡ q + zero = omega arith in ap (λ k. measure n (at k) ∷ []) here
+measures-push at q (m ∷ ns) n =
     let next : suc q + length ns ≡ q + suc (length ns) = omega arith in
-    ap (λ ms. measure m (metrics_at columns q) ∷ ms) (measures-push columns (suc q) ns n ∙ ap (λ k. measures_from columns (suc q) ns ++ measure n (metrics_at columns k) ∷ []) next)
+    ap (λ ms. measure m (at q) ∷ ms) (measures-push at (suc q) ns n ∙ ap (λ k. measures_from at (suc q) ns ++ measure n (at k) ∷ []) next)
 
 nothing-more : (p : ℕ) → p ≡ 0 + p
 nothing-more p = omega arith
 
-module _ (columns : List (Vec Metric)) (ns : List ℕ) where
+module _ (at : ℕ → List Metric) (ns : List ℕ) where
   -- the bucket at a place, of all
-  pub bucket-at : (p : ℕ) (d : Measure) → p < length ns → get_or (measures_from columns 0 ns) p d ≡ measure (get_or ns p 0) (metrics_at columns p)
-  bucket-at p d l = measure-at columns 0 ns p d l ∙ ap (λ k. measure (get_or ns p 0) (metrics_at columns k)) (sym (nothing-more p))
+  pub bucket-at : (p : ℕ) (d : Measure) → p < length ns → get_or (measures_from at 0 ns) p d ≡ measure (get_or ns p 0) (at p)
+  bucket-at p d l = measure-at at 0 ns p d l ∙ ap (λ k. measure (get_or ns p 0) (at k)) (sym (nothing-more p))
 
   -- the bucket at a place has other rows
-  pub bucket-set : (more : List (Vec Metric)) (p n : ℕ) → p < length ns → ((k : ℕ) → k ≢ p → metrics_at more k ≡ metrics_at columns k)
-      → measures_from more 0 (set ns p n) ≡ set (measures_from columns 0 ns) p (measure n (metrics_at more p))
+  pub bucket-set : (more : ℕ → List Metric) (p n : ℕ) → p < length ns → ((k : ℕ) → k ≢ p → more k ≡ at k)
+      → measures_from more 0 (set ns p n) ≡ set (measures_from at 0 ns) p (measure n (more p))
   bucket-set more p n l others =
-      measures-set columns more 0 ns p n l (λ k other. others k (λ e. other (e ∙ nothing-more p)))
-      ∙ ap (λ k. set (measures_from columns 0 ns) p (measure n (metrics_at more k))) (sym (nothing-more p))
+      measures-set at more 0 ns p n l (λ k other. others k (λ e. other (e ∙ nothing-more p)))
+      ∙ ap (λ k. set (measures_from at 0 ns) p (measure n (more k))) (sym (nothing-more p))
 
-  pub bucket-push : (n p : ℕ) → p ≡ length ns → measures_from columns 0 (ns ++ n ∷ []) ≡ measures_from columns 0 ns ++ measure n (metrics_at columns p) ∷ []
-  bucket-push n p at = measures-push columns 0 ns n ∙ ap (λ k. measures_from columns 0 ns ++ measure n (metrics_at columns k) ∷ []) (sym (nothing-more (length ns)) ∙ sym at)
+  pub bucket-push : (n p : ℕ) → p ≡ length ns → measures_from at 0 (ns ++ n ∷ []) ≡ measures_from at 0 ns ++ measure n (at p) ∷ []
+  bucket-push n p end = measures-push at 0 ns n ∙ ap (λ k. measures_from at 0 ns ++ measure n (at k) ∷ []) (sym (nothing-more (length ns)) ∙ sym end)
 
 -- a bucket behind the others, with its first row
-pub bucket-begun : (columns begun more : List (Vec Metric)) (ns : List ℕ) (p : ℕ) → p ≡ length ns → ((n : ℕ) → metrics_at begun n ≡ metrics_at columns n) → ((k : ℕ) → k ≢ p → metrics_at more k ≡ metrics_at begun k)
-    → measures_from more 0 (set (ns ++ 0 ∷ []) p (get_or (ns ++ 0 ∷ []) p 0 + 1)) ≡ measures_from columns 0 ns ++ measure 1 (metrics_at more p) ∷ []
-bucket-begun columns begun more ns p at same others =
+pub bucket-begun : (at begun more : ℕ → List Metric) (ns : List ℕ) (p : ℕ) → p ≡ length ns → ((n : ℕ) → begun n ≡ at n) → ((k : ℕ) → k ≢ p → more k ≡ begun k)
+    → measures_from more 0 (set (ns ++ 0 ∷ []) p (get_or (ns ++ 0 ∷ []) p 0 + 1)) ≡ measures_from at 0 ns ++ measure 1 (more p) ∷ []
+bucket-begun at begun more ns p end same others =
     let long : length (ns ++ 0 ∷ []) ≡ length ns + 1 = length-append ns (0 ∷ []) in
-    let one : get_or (ns ++ 0 ∷ []) p 0 + 1 ≡ 1 = ap (λ k. get_or (ns ++ 0 ∷ []) k 0 + 1) at ∙ ap (λ k. k + 1) (get_or-append_seam ns 0 [] 0) in
-    let here : p ≡ length (measures_from columns 0 ns) = at ∙ sym (length-measures columns 0 ns) in
+    let one : get_or (ns ++ 0 ∷ []) p 0 + 1 ≡ 1 = ap (λ k. get_or (ns ++ 0 ∷ []) k 0 + 1) end ∙ ap (λ k. k + 1) (get_or-append_seam ns 0 [] 0) in
+    let here : p ≡ length (measures_from at 0 ns) = end ∙ sym (length-measures at 0 ns) in
     ap (λ k. measures_from more 0 (set (ns ++ 0 ∷ []) p k)) one
-    ∙ bucket-set begun (ns ++ 0 ∷ []) more p 1 (omega (arith, long, at)) others
-    ∙ ap (λ ms. set ms p (measure 1 (metrics_at more p))) (measures-same columns begun 0 (ns ++ 0 ∷ []) (λ n l. same n) ∙ bucket-push columns ns 0 p at)
-    ∙ ap (λ k. set (measures_from columns 0 ns ++ measure 0 (metrics_at columns p) ∷ []) k (measure 1 (metrics_at more p))) here
-    ∙ set-append_seam (measures_from columns 0 ns) (measure 0 (metrics_at columns p)) [] (measure 1 (metrics_at more p))
+    ∙ bucket-set begun (ns ++ 0 ∷ []) more p 1 (omega (arith, long, end)) others
+    ∙ ap (λ ms. set ms p (measure 1 (more p))) (measures-same at begun 0 (ns ++ 0 ∷ []) (λ n l. same n) ∙ bucket-push at ns 0 p end)
+    ∙ ap (λ k. set (measures_from at 0 ns ++ measure 0 (at p) ∷ []) k (measure 1 (more p))) here
+    ∙ set-append_seam (measures_from at 0 ns) (measure 0 (at p)) [] (measure 1 (more p))
 
 -- the next metric takes the values of the row
 pub next-metric : (aggs : List Agg) (row : PlacedRow) (ms : List Metric) (i : ℕ) (a : Agg) (m : Metric) → slice_get aggs i ≡ Some a → slice_get (metrics_with (take i aggs) row ms) i ≡ Some m
@@ -230,3 +230,8 @@ coded-seen (code ∷ codes) (g ∷ gs) (m ∷ ms) same =
     let first : seen_growing g ≡ seen_measure m = cc same in
     let rest : map seen_growing gs ≡ map seen_measure ms = cc same in
     λ i. record { key = key.Whole code; count = (first i).0; covered = 0; children = (first i).1 } ∷ coded-seen codes gs ms rest i
+
+-- what callers see is told by the counts, and by what the metrics have taken at each place
+pub shown-same : (shard : Columns) (r : Ready) (codes : List ℤ) (ns more : List ℕ) (at now : ℕ → List Metric) → more ≡ ns → ((n : ℕ) → now n ≡ at n) → shown_measured shard r codes more now ≡ shown_measured shard r codes ns at
+shown-same shard r codes ns more at now counts same =
+    ap (λ ms. shown_measures (decoders shard (out-Ready r).children) (key_at shard r) codes ms) (ap (measures_from now 0) counts ∙ measures-same at now 0 ns (λ n l. same n))

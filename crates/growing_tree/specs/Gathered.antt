@@ -1,6 +1,5 @@
 -- What a level of a growing tree shows to what puts rows into it (Elasticsearch Reference 8, 'Bucket aggregations').
 use Rattle.std.specs.Prelude.{ℕ, ℤ, List, map}
-use Rattle.std.specs.Global.{Vec}
 use Rattle.agg_model.specs.declared.aggregation.Agg.{Agg}
 use Rattle.agg_model.specs.declared.key.Key.{Key}
 use Rattle.agg_model.specs.declared.partial.Bucket.{Bucket}
@@ -45,8 +44,8 @@ module _ (shard : Columns) where
   shown_keyed r = keyed_buckets (decoders (out-Ready r).children) (key_at r)
 
   -- the buckets of codes below which there are metrics alone
-  abbrev pub shown_measured : Ready → List ℤ → List ℕ → List (Vec Metric) → List Bucket
-  shown_measured r codes counts columns = sorted_by_key (map (decoded_bucket (decoders (out-Ready r).children) (key_at r)) (measured_buckets codes (measures_from columns 0 counts)))
+  abbrev pub shown_measured : Ready → List ℤ → List ℕ → (ℕ → List Metric) → List Bucket
+  shown_measured r codes counts at = sorted_by_key (map (decoded_bucket (decoders (out-Ready r).children) (key_at r)) (measured_buckets codes (measures_from at 0 counts)))
 
   -- the buckets that exist from the start
   abbrev pub shown_fixed : Ready → List Growing → List Bucket

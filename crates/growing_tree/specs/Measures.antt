@@ -24,13 +24,13 @@ pub record Measure : Type 0 where
   pub count : ℕ
   pub metrics : List Metric
 
--- the buckets from this place on, by the rows of each
-abbrev pub measures_from : List (Vec Metric) → ℕ → List ℕ → List Measure
-measures_from columns place [] = []
-measures_from columns place (n ∷ ns) = record { count = n; metrics = metrics_at columns place } ∷ measures_from columns (suc place) ns
+-- the buckets from this place on, by the rows of each, and by what their metrics have taken at a place
+abbrev pub measures_from : (ℕ → List Metric) → ℕ → List ℕ → List Measure
+measures_from at place [] = []
+measures_from at place (n ∷ ns) = record { count = n; metrics = at place } ∷ measures_from at (suc place) ns
 
 abbrev pub measures_of : Measured → List Measure
-measures_of m = measures_from m.columns.items 0 m.counts.items
+measures_of m = measures_from (metrics_at m.columns.items) 0 m.counts.items
 
 -- metrics with the values of one more row
 abbrev pub metrics_with : List Agg → PlacedRow → List Metric → List Metric

@@ -15,6 +15,7 @@ mod kinds;
 mod lone_rows;
 mod measured;
 mod number;
+mod placing;
 mod preparing;
 mod ready;
 mod sums;

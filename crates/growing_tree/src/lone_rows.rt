@@ -11,21 +11,18 @@ ghost use Rattle.shard_columns.specs.Built.{IsShard};
 ghost use Rattle.growth_laws.specs.Gathering.{gathered, gathered_buckets, gathered_children, put_rows};
 ghost use Rattle.growing_tree.specs.Codes.{HasFixedKeys};
 ghost use Rattle.growing_tree.specs.Decoded.{decoded};
-ghost use Rattle.growing_tree.specs.Gathered.{decoders, gatherers, key_at, rows_at, shown_children, shown_fixed, shown_level, shown_measured};
+ghost use Rattle.growing_tree.specs.Gathered.{decoders, gatherers, key_at, rows_at, shown_children, shown_fixed, shown_level};
 ghost use Rattle.growing_tree.specs.Readiness.{IsReadyFor, is_keyed, is_metric};
 ghost use Rattle.growing_tree.specs.Shown.{HasGathered, IsAlike, put_all};
-ghost use Rattle.growing_tree.specs.Trees.{IsAligned, IsIndexed};
+ghost use Rattle.growing_tree.specs.Trees.{IsAligned};
 ghost use Rattle.growing_tree.specs.declared.ready.Ready.{out-Ready};
 
-use crate::beginning::bucket_bytes;
 use crate::kinds::{has_fixed_keys, lone_code, place_of, row_codes, take_one};
-use crate::measured::{begin_measured, take_measured};
-use crate::number::Taken;
+use crate::placing::put_one_measured;
 use crate::ready::Ready;
 use crate::sums::sum;
 use crate::tree::{Growing, Level, Tree};
 use agg_model::{Agg, List};
-use bucket_places::{Place, Places};
 use shard_columns::Shard;
 use std::alloc::{AllocError, Global};
 
@@ -102,46 +99,6 @@ fn take_in_bucket(
     Ok(())
 }
 
-// One more row in the bucket of a code, among the buckets of codes.
-fn put_one_measured(
-    agg: &Agg,
-    ready: &Ready,
-    shard: &Shard,
-    row: u32,
-    code: i64,
-    places: &mut Places,
-    counts: &mut Vec<u64>,
-    columns: &mut Vec<Vec<Taken>>,
-) -> Result<u64, AllocError>
-    requires ready { IsReadyFor shard.now agg.now ready.now }
-    requires metrics { IsTrue (list_all (λ a. is_metric (out-Agg a).kind) (out-Agg agg.now).children) }
-    requires in_range { row < length shard.now.rows }
-    ensures buckets { OnOk result (shown_measured shard.now ready.now places.new counts.new.items columns.new.items
-        ≡ put_rows (gatherers shard.now (out-Agg agg.now).children) (row_of shard.now.rows row ∷ [])
-        (key_at shard.now ready.now code)
-        (shown_measured shard.now ready.now places.old counts.old.items columns.old.items)) }
-    ensures cost { IfOk result (λ added. sum_by bytes (shown_measured shard.now ready.now places.new counts.new.items columns.new.items)
-        ≡ sum_by bytes (shown_measured shard.now ready.now places.old counts.old.items columns.old.items) + added) }
-    ensures aligned { IsIndexed places.old counts.old.items → IsIndexed places.new counts.new.items }
-{
-    let found = places.find_or_add(code)?;
-    match found {
-        Place::Found(place) => {
-            take_measured(&agg.children, shard, row, place, counts, columns)?;
-            Ok(0)
-        }
-        Place::Added(place) => {
-            if place != counts.len() {
-                return Err(AllocError);
-            }
-            let begun = bucket_bytes(shard, &agg.kind, ready, code)?;
-            begin_measured(agg.children.len(), counts, columns)?;
-            take_measured(&agg.children, shard, row, place, counts, columns)?;
-            Ok(begun)
-        }
-    }
-}
-
 // One more row in the bucket that exists from the start under this number, whose cost stays.
 fn put_one_fixed(
     agg: &Agg,
@@ -198,16 +155,7 @@ fn put_one(
 {
     match level {
         Level::Measured(measured) => {
-            let more = put_one_measured(
-                agg,
-                ready,
-                shard,
-                row,
-                code,
-                &mut measured.places,
-                &mut measured.counts,
-                &mut measured.columns,
-            )?;
+            let more = put_one_measured(agg, ready, shard, row, code, measured)?;
             Ok(more)
         }
         Level::Fixed(buckets) => {

@@ -23,15 +23,15 @@ loop-place-preserved c =
     let children : c.in_ok-children.children.items ≡ map Number (metrics_at columns place) = c.in_ok-children.ensures ∙ ap (λ cs. map Number (metrics_at cs place)) c.as_slice.ensures.value in
     ap (map seen_growing) c.in_ok-push.ensures.items ∙ map-append seen_growing done (_ ∷ [])
     ∙ (λ j. c.loop-place.invariant j ++ (n, children j) ∷ [])
-    ∙ sym (ap (λ ns. map seen_measure (measures_from columns 0 ns)) (take-more counts place n n_is)
-    ∙ ap (map seen_measure) (bucket-push columns (take place counts) n place (sym long))
-    ∙ map-append seen_measure (measures_from columns 0 (take place counts)) (measure n (metrics_at columns place) ∷ []))
+    ∙ sym (ap (λ ns. map seen_measure (measures_from (metrics_at columns) 0 ns)) (take-more counts place n n_is)
+    ∙ ap (map seen_measure) (bucket-push (metrics_at columns) (take place counts) n place (sym long))
+    ∙ map-append seen_measure (measures_from (metrics_at columns) 0 (take place counts)) (measure n (metrics_at columns place) ∷ []))
 
 pub returns-clause-same : goal.returns-clause-same
 returns-clause-same c =
     let m = c.args.measured in
     let over : length m.counts.items ≤ c.loop-place.place = omega (arith, c.loop-place-test.false, c.len-place-end.ensures, m.counts.ok) in
-    let all = c.loop-place.invariant ∙ ap (λ ns. map seen_measure (measures_from m.columns.items 0 ns)) (take-full m.counts.items c.loop-place.place over) in
+    let all = c.loop-place.invariant ∙ ap (λ ns. map seen_measure (measures_from (metrics_at m.columns.items) 0 ns)) (take-full m.counts.items c.loop-place.place over) in
     ap (λ bs. Keyed bs 0 0 0) (coded-seen m.places c.loop-place.buckets.items (measures_of m) all)
 
 pub returns-clause-aligned : goal.returns-clause-aligned
@@ -39,7 +39,7 @@ returns-clause-aligned c h =
     let m = c.args.measured in
     let gs = c.loop-place.buckets.items in
     let over : length m.counts.items ≤ c.loop-place.place = omega (arith, c.loop-place-test.false, c.len-place-end.ensures, m.counts.ok) in
-    let all = c.loop-place.invariant ∙ ap (λ ns. map seen_measure (measures_from m.columns.items 0 ns)) (take-full m.counts.items c.loop-place.place over) in
-    let same : length gs ≡ length m.counts.items = sym (length-map gs seen_growing) ∙ ap (λ (xs : List (ℕ × List Node)). length xs) all ∙ length-map (measures_of m) seen_measure ∙ length-measures m.columns.items 0 m.counts.items in
+    let all = c.loop-place.invariant ∙ ap (λ ns. map seen_measure (measures_from (metrics_at m.columns.items) 0 ns)) (take-full m.counts.items c.loop-place.place over) in
+    let same : length gs ≡ length m.counts.items = sym (length-map gs seen_growing) ∙ ap (λ (xs : List (ℕ × List Node)). length xs) all ∙ length-map (measures_of m) seen_measure ∙ length-measures (metrics_at m.columns.items) 0 m.counts.items in
     let few = h.few in
     record { few = omega (arith, same, few); distinct = h.distinct }
