@@ -9,6 +9,7 @@ use Rattle.list_laws.proofs.Booleans.{both}
 use Rattle.agg_model.specs.declared.key.Key.{Key}
 use Rattle.agg_model.specs.declared.key.Key.TheVariants as key
 use Rattle.agg_model.specs.declared.partial.Node.{Node}
+use Rattle.agg_model.specs.declared.partial.Node.TheVariants as node
 use Rattle.agg_evaluation.specs.KeyOrder.{key_cmp}
 use Rattle.agg_evaluation.specs.Orders.{bucket_key}
 use Rattle.agg_evaluation.specs.Trees.{is_ascending}
@@ -17,10 +18,11 @@ use Rattle.agg_evaluation.proofs.SortedLists.{ascending-sorted}
 use Rattle.growing_tree.specs.Decoded.{decoded_bucket}
 use Rattle.growing_tree.specs.Grouped.{HasOwnKeys}
 use Rattle.growing_tree.specs.Shown.{level_buckets}
-use Rattle.growing_tree.specs.Trees.{IsAligned, coded_buckets, numbered_buckets}
+use Rattle.growing_tree.specs.Measures.{measures_of}
+use Rattle.growing_tree.specs.Trees.{IsAligned, coded_buckets, measured_buckets, numbered_buckets}
 use Rattle.growing_tree.specs.declared.tree.Growing.{Growing}
 use Rattle.growing_tree.specs.declared.tree.Level.{Level}
-use Rattle.growing_tree.specs.declared.tree.Level.TheVariants.{Keyed, Fixed, Number}
+use Rattle.growing_tree.specs.declared.tree.Level.TheVariants.{Keyed, Measured, Fixed, Number}
 use Rattle.growing_tree.proofs.Putting.{distinct}
 
 module _ (ds : List (Node → Node)) (key_of : ℤ → Key) where
@@ -35,6 +37,7 @@ module _ (ds : List (Node → Node)) (key_of : ℤ → Key) where
   numbered-up n (b ∷ bs) = both _ _ (below n (suc n) bs (omega arith)) (numbered-up (suc n) bs)
 
   pub level-up : HasOwnKeys key_of → (l : Level) → IsAligned l → T (is_ascending (map bucket_key (level_buckets ds key_of l)))
-  level-up own (Keyed k) h = ascending-sorted bucket_key (map (decoded_bucket ds key_of) (coded_buckets k.places k.buckets.items)) (distinct [] [] ds key_of own k.places k.buckets.items h.distinct)
+  level-up own (Keyed k) h = ascending-sorted bucket_key (map (decoded_bucket ds key_of) (coded_buckets k.places k.buckets.items)) (distinct (λ g. g.count) (λ g. g.children.items) [] [] ds key_of own k.places k.buckets.items h.distinct)
+  level-up own (Measured m) h = ascending-sorted bucket_key (map (decoded_bucket ds key_of) (measured_buckets m.places (measures_of m))) (distinct (λ m. m.count) (λ m. map node.Number m.metrics) [] [] ds key_of own m.places (measures_of m) h.distinct)
   level-up own (Fixed bs) h = numbered-up 0 bs.items
   level-up own (Number m) h = tt

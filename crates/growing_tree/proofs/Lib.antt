@@ -21,3 +21,5 @@ pub mod Turns
 pub mod Rises
 pub mod Each
 pub mod AllMetrics
+pub mod MeasuredBuckets
+pub mod Hits

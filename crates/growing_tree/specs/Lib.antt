@@ -1,4 +1,5 @@
 -- Trees that grow.
+pub mod Measures
 pub mod Trees
 pub mod TreeFalls
 pub mod Taken
@@ -9,6 +10,7 @@ pub mod Readiness
 pub mod Shown
 pub mod Grouped
 pub mod Gathered
+pub mod Hits
 pub mod GatheredEach
 pub mod Finished
 pub mod Frequent

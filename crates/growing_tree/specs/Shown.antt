@@ -9,10 +9,11 @@ use Rattle.agg_evaluation.specs.Rows.{PlacedRow}
 use Rattle.agg_evaluation.specs.Shard.{sorted_by_key}
 use Rattle.growing_tree.specs.Decoded.{decoded_bucket, decoded_children}
 use Rattle.growth_laws.specs.Gathering.{Gatherer, gathered_children, gathered_metric, put_rows}
-use Rattle.growing_tree.specs.Trees.{coded_buckets, numbered_buckets}
+use Rattle.growing_tree.specs.Measures.{measures_of}
+use Rattle.growing_tree.specs.Trees.{coded_buckets, measured_buckets, numbered_buckets}
 use Rattle.growing_tree.specs.declared.tree.Growing.{Growing}
 use Rattle.growing_tree.specs.declared.tree.Level.{Level}
-use Rattle.growing_tree.specs.declared.tree.Level.TheVariants.{Keyed, Fixed, Number}
+use Rattle.growing_tree.specs.declared.tree.Level.TheVariants.{Keyed, Measured, Fixed, Number}
 
 -- `decoders` are those of the children, and `key_of` gives the keys of codes
 module _ (decoders : List (Node → Node)) (key_of : ℤ → Key) where
@@ -26,12 +27,14 @@ module _ (decoders : List (Node → Node)) (key_of : ℤ → Key) where
 
   abbrev pub level_buckets : Level → List Bucket
   level_buckets (Keyed k) = keyed_buckets k.places k.buckets.items
+  level_buckets (Measured m) = sorted_by_key (map (decoded_bucket decoders key_of) (measured_buckets m.places (measures_of m)))
   level_buckets (Fixed bs) = fixed_buckets bs.items
   level_buckets (Number m) = []
 
 -- a node of the form of the level, with these buckets
 abbrev pub node_with : Level → List Bucket → Node
 node_with (Keyed k) bs = node.Keyed bs 0 0 0
+node_with (Measured m) bs = node.Keyed bs 0 0 0
 node_with (Fixed gs) bs = node.Fixed bs
 node_with (Number m) bs = node.Number m
 

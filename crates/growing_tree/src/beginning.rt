@@ -2,6 +2,7 @@
 ghost use Rattle.std.specs.Prelude.{◌≡◌, ◌+◌, [], IfOk, length, map};
 ghost use Rattle.std.specs.Option.{option_map_or};
 ghost use Rattle.agg_model.specs.declared.aggregation.Agg.{out-Agg};
+ghost use Rattle.agg_model.specs.declared.partial.Node.TheVariants.{Keyed as KeyedNode};
 ghost use Rattle.agg_evaluation.specs.Cost.{key_bytes};
 ghost use Rattle.agg_evaluation.specs.Whole.{empty_node};
 ghost use Rattle.shard_columns.specs.Columns.{Columns};
@@ -9,9 +10,11 @@ ghost use Rattle.growing_tree.specs.Codes.{code_key};
 ghost use Rattle.growing_tree.specs.Decoded.{decoded, decoded_children};
 ghost use Rattle.growing_tree.specs.Readiness.{IsKindReady};
 ghost use Rattle.growing_tree.specs.Shown.{AreEmpty};
+ghost use Rattle.growing_tree.specs.Trees.{IsAligned, level_node};
 ghost use Rattle.growing_tree.specs.declared.ready.Ready.{out-Ready};
 
-use crate::kinds::code_bytes;
+use crate::kinds::{are_metrics, code_bytes};
+use crate::measured::{Measured, no_columns};
 use crate::number::Taken;
 use crate::ready::{Ready, Table};
 use crate::sums::sum;
@@ -110,6 +113,25 @@ fn begin_buckets(
     Ok(buckets)
 }
 
+// No bucket of keys that rows bring.
+fn begin_keyed(alloc: Global, places: Places, aggs: &List<Agg>) -> Result<Level, AllocError>
+    requires none { places ≡ [] }
+    ensures node { IfOk result (λ level. level_node level ≡ KeyedNode [] 0 0 0) }
+    ensures aligned { IfOk result IsAligned }
+{
+    if are_metrics(aggs) {
+        return Ok(Level::Measured(Measured {
+            places,
+            counts: Vec::new(alloc),
+            columns: no_columns(alloc, aggs.len())?,
+        }));
+    }
+    Ok(Level::Keyed(Keyed {
+        places,
+        buckets: Vec::new(alloc),
+    }))
+}
+
 /// The tree over no row: no bucket where rows bring the keys, each bucket that exists from the start with a count of 0, and the
 /// metric of no value.
 ///
@@ -123,12 +145,8 @@ pub fn begin(alloc: Global, agg: &Agg, ready: &Ready) -> Result<Tree, AllocError
     match &agg.kind {
         Kind::Terms { .. } | Kind::Histogram { .. } | Kind::Composite { .. } => {
             let places = no_codes(alloc, ready.table)?;
-            Ok(Tree {
-                level: Level::Keyed(Keyed {
-                    places,
-                    buckets: Vec::new(alloc),
-                }),
-            })
+            let level = begin_keyed(alloc, places, &agg.children)?;
+            Ok(Tree { level })
         }
         Kind::Sum { .. }
         | Kind::Min { .. }

@@ -13,7 +13,8 @@ ghost use Rattle.growing_tree.specs.Decoded.{decoded, decoded_children};
 ghost use Rattle.growing_tree.specs.Finished.{finished_bucket, finished_with};
 ghost use Rattle.growing_tree.specs.Readiness.{AreReadyFor, IsKindReady, IsReadyFor};
 ghost use Rattle.growing_tree.specs.CodedBuckets.{coded_bucket};
-ghost use Rattle.growing_tree.specs.Trees.{numbered_buckets};
+ghost use Rattle.growing_tree.specs.Trees.{IsAligned, level_node, numbered_buckets};
+ghost use Rattle.growing_tree.specs.declared.tree.Level.TheVariants.{Keyed as KeyedLevel};
 ghost use Rattle.growing_tree.specs.declared.ready.Ready.{out-Ready};
 
 use crate::coded::{Coded, sort_by_code, with_codes};
@@ -21,7 +22,8 @@ use crate::frequent::keep_frequent;
 use crate::kinds::{is_terms, place_of};
 use crate::ready::{Ready, ReadyKind};
 use crate::sums::sum;
-use crate::tree::{Growing, Level, Tree};
+use crate::tree::{Growing, Keyed, Level, Tree};
+use crate::with_trees::with_trees;
 use agg_model::{Agg, Bucket, Key, Kind, List, Node};
 use bucket_order::sort_by_key;
 use histogram_agg::key as key_of_interval;
@@ -196,6 +198,33 @@ fn finish_fixed(
     Ok(finished)
 }
 
+// The buckets of keys that rows bring.
+#[cycle(finish)]
+fn finish_keyed(
+    alloc: Global,
+    agg: &Agg,
+    ready: &Ready,
+    shard: &Shard,
+    keyed: Keyed,
+) -> Result<Node, AllocError>
+    requires ready { IsReadyFor shard.now agg.now ready.now }
+    requires built { IsShard shard.now }
+    requires aligned { IsAligned (KeyedLevel keyed) }
+    ensures node { IfOk result (λ node. node ≡ cut_tree agg.now (decoded shard.now ready.now (level_node (KeyedLevel keyed)))) }
+{
+    // Codes ascend as their keys do, but for that of a word for missing values, and are compared at once: a sort by key finds next
+    // to nothing to do.
+    let all = with_codes(alloc, keyed)?;
+    let total = total_count(all.as_slice())?;
+    let mut coded = keep_frequent(&agg.kind, all);
+    sort_by_code(&agg.kind, &mut coded)?;
+    let buckets = finish_coded(alloc, agg, ready, shard, coded)?;
+    if is_terms(&agg.kind) {
+        return trim_some(alloc, agg, total, buckets);
+    }
+    finish_level(alloc, agg, total, buckets)
+}
+
 /// What a shard answers to an aggregation whose rows are all in the tree: keys for codes, ascending by key, and the terms of each
 /// level cut to the shard size, the lowest first. Everything is moved. It takes time by the buckets, times the logarithm of those
 /// of a level.
@@ -216,18 +245,10 @@ pub fn finish(
 {
     let Tree { level } = tree;
     match level {
-        Level::Keyed(keyed) => {
-            // Codes ascend as their keys do, but for that of a word for missing values, and are compared at once: a sort by key
-            // finds next to nothing to do.
-            let all = with_codes(alloc, keyed)?;
-            let total = total_count(all.as_slice())?;
-            let mut coded = keep_frequent(&agg.kind, all);
-            sort_by_code(&agg.kind, &mut coded)?;
-            let buckets = finish_coded(alloc, agg, ready, shard, coded)?;
-            if is_terms(&agg.kind) {
-                return trim_some(alloc, agg, total, buckets);
-            }
-            finish_level(alloc, agg, total, buckets)
+        Level::Keyed(keyed) => finish_keyed(alloc, agg, ready, shard, keyed),
+        Level::Measured(measured) => {
+            let keyed = with_trees(alloc, measured)?;
+            finish_keyed(alloc, agg, ready, shard, keyed)
         }
         Level::Fixed(buckets) => Ok(Node::Fixed {
             buckets: finish_fixed(alloc, agg, ready, shard, buckets)?,

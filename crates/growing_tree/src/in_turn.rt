@@ -18,6 +18,7 @@ ghost use Rattle.growing_tree.specs.declared.ready.Ready.{out-Ready};
 use crate::gathering::{count, gather, put_row};
 use crate::kinds::{are_metrics, has_buckets, is_keyed};
 use crate::lone_rows::{put_alone, take_in_tree};
+use crate::placing::put_block;
 use crate::ready::{Ready, ReadyKind};
 use crate::sums::sum;
 use crate::tree::{Level, Tree};
@@ -84,6 +85,12 @@ fn put_each(
     ensures form { OnOk result (IsAlike level.old level.new) }
     ensures aligned { IsAligned level.old → IsAligned level.new }
 {
+    if let Level::Measured(measured) = level {
+        if !metrics {
+            return Err(AllocError);
+        }
+        return put_block(alloc, agg, ready, shard, rows, spare, measured, added);
+    }
     for place in 0..rows.len() {
         let more = put_next(alloc, agg, ready, shard, rows[place], metrics, spare, level)?;
         let next = sum(added[place], more)?;

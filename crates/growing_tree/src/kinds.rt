@@ -63,7 +63,7 @@ pub(crate) fn has_buckets(level: &Level) -> bool
     ensures { IsTrue result → HasBuckets level.now }
 {
     match level {
-        Level::Keyed(_) | Level::Fixed(_) => true,
+        Level::Keyed(_) | Level::Measured(_) | Level::Fixed(_) => true,
         Level::Number(_) => false,
     }
 }
@@ -173,7 +173,7 @@ pub(crate) fn take_rows(
             }
             Ok(())
         }
-        Level::Keyed(_) | Level::Fixed(_) => Err(AllocError),
+        Level::Keyed(_) | Level::Measured(_) | Level::Fixed(_) => Err(AllocError),
     }
 }
 
@@ -194,7 +194,7 @@ pub(crate) fn take_one(
             take_row(kind, shard, row, taken)?;
             Ok(())
         }
-        Level::Keyed(_) | Level::Fixed(_) => Err(AllocError),
+        Level::Keyed(_) | Level::Measured(_) | Level::Fixed(_) => Err(AllocError),
     }
 }
 
@@ -218,8 +218,13 @@ fn is_metric_kind(kind: &Kind) -> bool
     )
 }
 
-// The values of one more row.
-fn take_row(kind: &Kind, shard: &Shard, row: u32, taken: &mut Taken) -> Result<(), AllocError>
+/// The values of one more row.
+pub(crate) fn take_row(
+    kind: &Kind,
+    shard: &Shard,
+    row: u32,
+    taken: &mut Taken,
+) -> Result<(), AllocError>
     requires metric { IsTrue (is_metric kind.now) }
     requires in_range { row < length shard.now.rows }
     ensures { OnOk result (taken.new ≡ metric_with kind.now (row_of shard.now.rows row) taken.old) }

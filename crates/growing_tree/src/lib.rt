@@ -13,11 +13,14 @@ mod groups;
 mod in_turn;
 mod kinds;
 mod lone_rows;
+mod measured;
 mod number;
+mod placing;
 mod preparing;
 mod ready;
 mod sums;
 mod tree;
+mod with_trees;
 
 pub use beginning::{begin, begin_trees, bucket_bytes};
 pub use finishing::{finish, finish_children};

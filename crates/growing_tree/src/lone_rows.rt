@@ -11,19 +11,18 @@ ghost use Rattle.shard_columns.specs.Built.{IsShard};
 ghost use Rattle.growth_laws.specs.Gathering.{gathered, gathered_buckets, gathered_children, put_rows};
 ghost use Rattle.growing_tree.specs.Codes.{HasFixedKeys};
 ghost use Rattle.growing_tree.specs.Decoded.{decoded};
-ghost use Rattle.growing_tree.specs.Gathered.{decoders, gatherers, key_at, rows_at, shown_children, shown_fixed, shown_keyed, shown_level};
+ghost use Rattle.growing_tree.specs.Gathered.{decoders, gatherers, key_at, rows_at, shown_children, shown_fixed, shown_level};
 ghost use Rattle.growing_tree.specs.Readiness.{IsReadyFor, is_keyed, is_metric};
 ghost use Rattle.growing_tree.specs.Shown.{HasGathered, IsAlike, put_all};
-ghost use Rattle.growing_tree.specs.Trees.{IsAligned, IsIndexed};
+ghost use Rattle.growing_tree.specs.Trees.{IsAligned};
 ghost use Rattle.growing_tree.specs.declared.ready.Ready.{out-Ready};
 
-use crate::beginning::{begin_bucket, bucket_bytes};
 use crate::kinds::{has_fixed_keys, lone_code, place_of, row_codes, take_one};
+use crate::placing::put_one_measured;
 use crate::ready::Ready;
 use crate::sums::sum;
 use crate::tree::{Growing, Level, Tree};
 use agg_model::{Agg, List};
-use bucket_places::{Place, Places};
 use shard_columns::Shard;
 use std::alloc::{AllocError, Global};
 
@@ -100,56 +99,6 @@ fn take_in_bucket(
     Ok(())
 }
 
-// One more row in the bucket of a code, among the buckets of codes.
-fn put_one_coded(
-    alloc: Global,
-    agg: &Agg,
-    ready: &Ready,
-    shard: &Shard,
-    row: u32,
-    code: i64,
-    places: &mut Places,
-    buckets: &mut Vec<Growing>,
-) -> Result<u64, AllocError>
-    requires ready { IsReadyFor shard.now agg.now ready.now }
-    requires metrics { IsTrue (list_all (λ a. is_metric (out-Agg a).kind) (out-Agg agg.now).children) }
-    requires in_range { row < length shard.now.rows }
-    ensures buckets { OnOk result (shown_keyed shard.now ready.now places.new buckets.new.items
-        ≡ put_rows (gatherers shard.now (out-Agg agg.now).children) (row_of shard.now.rows row ∷ [])
-        (key_at shard.now ready.now code)
-        (shown_keyed shard.now ready.now places.old buckets.old.items)) }
-    ensures cost { IfOk result (λ added. sum_by bytes (shown_keyed shard.now ready.now places.new buckets.new.items)
-        ≡ sum_by bytes (shown_keyed shard.now ready.now places.old buckets.old.items) + added) }
-    ensures aligned { IsIndexed places.old buckets.old.items → IsIndexed places.new buckets.new.items }
-{
-    let found = places.find_or_add(code)?;
-    match found {
-        Place::Found(place) => {
-            if place >= buckets.len() {
-                return Err(AllocError);
-            }
-            take_in_bucket(
-                &agg.children,
-                &ready.children,
-                shard,
-                row,
-                &mut buckets[place],
-            )?;
-            Ok(0)
-        }
-        Place::Added(place) => {
-            if place != buckets.len() {
-                return Err(AllocError);
-            }
-            let begun = bucket_bytes(shard, &agg.kind, ready, code)?;
-            let mut bucket = begin_bucket(alloc, &agg.children, &ready.children)?;
-            take_in_bucket(&agg.children, &ready.children, shard, row, &mut bucket)?;
-            buckets.push(bucket)?;
-            Ok(begun)
-        }
-    }
-}
-
 // One more row in the bucket that exists from the start under this number, whose cost stays.
 fn put_one_fixed(
     agg: &Agg,
@@ -185,7 +134,6 @@ fn put_one_fixed(
 
 // One more row in the bucket of a code.
 fn put_one(
-    alloc: Global,
     agg: &Agg,
     ready: &Ready,
     shard: &Shard,
@@ -206,17 +154,8 @@ fn put_one(
     ensures aligned { IsAligned level.old → IsAligned level.new }
 {
     match level {
-        Level::Keyed(keyed) => {
-            let more = put_one_coded(
-                alloc,
-                agg,
-                ready,
-                shard,
-                row,
-                code,
-                &mut keyed.places,
-                &mut keyed.buckets,
-            )?;
+        Level::Measured(measured) => {
+            let more = put_one_measured(agg, ready, shard, row, code, measured)?;
             Ok(more)
         }
         Level::Fixed(buckets) => {
@@ -226,13 +165,12 @@ fn put_one(
             put_one_fixed(agg, ready, shard, row, code, buckets)?;
             Ok(0)
         }
-        Level::Number(_) => Err(AllocError),
+        Level::Keyed(_) | Level::Number(_) => Err(AllocError),
     }
 }
 
 // One more row in the buckets of its codes, one after another.
 fn put_one_at(
-    alloc: Global,
     agg: &Agg,
     ready: &Ready,
     shard: &Shard,
@@ -254,7 +192,7 @@ fn put_one_at(
 {
     let mut added = 0;
     for place in 0..codes.len() {
-        let more = put_one(alloc, agg, ready, shard, row, codes[place], level)?;
+        let more = put_one(agg, ready, shard, row, codes[place], level)?;
         added = sum(added, more)?;
     }
     Ok(added)
@@ -285,14 +223,14 @@ pub(crate) fn put_alone(
 {
     match lone_code(shard, &agg.kind, &ready.kind, row) {
         Some(Some(code)) => {
-            let more = put_one(alloc, agg, ready, shard, row, code, level)?;
+            let more = put_one(agg, ready, shard, row, code, level)?;
             Ok(more)
         }
         Some(None) => Ok(0),
         None => {
             let mut codes = spare.pop().unwrap_or(Vec::new(alloc));
             row_codes(shard, &agg.kind, &ready.kind, row, &mut codes)?;
-            let more = put_one_at(alloc, agg, ready, shard, row, codes.as_slice(), level)?;
+            let more = put_one_at(agg, ready, shard, row, codes.as_slice(), level)?;
             spare.push(codes)?;
             Ok(more)
         }

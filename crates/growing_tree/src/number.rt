@@ -63,6 +63,15 @@ impl Taken {
         self.metric
     }
 
+    /// The same metric once more.
+    pub(crate) fn copy(&self) -> Self
+        ensures { result ≡ self.now }
+    {
+        Taken {
+            metric: self.metric,
+        }
+    }
+
     /// Takes the values of a field in a row, or what stands for them where it has none, in time by the values of the row and
     /// without memory. Where it has taken more than 2^62 values, that is answered as want of memory.
     pub fn take_row(

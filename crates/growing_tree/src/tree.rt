@@ -1,5 +1,6 @@
 //! The tree of one aggregation while rows are added.
 
+use crate::measured::Measured;
 use crate::number::Taken;
 use bucket_places::Places;
 use std::marker::Model;
@@ -17,6 +18,8 @@ pub struct Tree {
 pub(crate) enum Level {
     /// Buckets that exist from the first row of their key.
     Keyed(Keyed),
+    /// Such buckets, below which there are metrics alone, or nothing.
+    Measured(Measured),
     /// Buckets that exist from the start, by number.
     Fixed(Vec<Growing>),
     Number(Taken),

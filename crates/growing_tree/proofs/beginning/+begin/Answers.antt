@@ -56,13 +56,10 @@ begin_buckets-loop-alloc-preserved t c = record {
   few = let l = c.in_ok-push.ensures.len in let o = c.push.new.self.ok in let b = c.loop-alloc.buckets.ok in omega (arith, l, o, b, c.loop-alloc-test.true, c.len.ensures);
 }
 
-begun-keyed : (shard : Columns) (r : Ready) (a : Agg) (codes : List ℤ) (gs : List Growing) → codes ≡ [] → empty_node a ≡ Keyed [] 0 0 0 → decoded shard r (Keyed (coded_buckets codes gs) 0 0 0) ≡ empty_node a
-begun-keyed shard r a codes gs none e = ap (λ cs. decoded shard r (Keyed (coded_buckets cs gs) 0 0 0)) none ∙ decoded-out shard r _ _ (out-Keyed [] 0 0 0) ∙ sym e
-
-pub begin-returns-in_ok-places-in-Terms : goal.begin-returns-in_ok-places-in-Terms
-begin-returns-in_ok-places-in-Terms t c shard =
-    begun-keyed shard c.args.ready.now c.args.agg.now c.in_ok-places-in-Terms.places c.new-in-Terms.result.items c.in_ok-places-in-Terms.ensures
-    (⊎_elim (λ h. empty-level c.args.agg.now _ h.9) (⊎_elim (λ h. empty-level c.args.agg.now _ h.9) (λ h. empty-level c.args.agg.now _ h.3)) c.in-Terms.is)
+pub begin-returns-in_ok-level-in-Terms : goal.begin-returns-in_ok-level-in-Terms
+begin-returns-in_ok-level-in-Terms t c shard =
+    ap (decoded shard c.args.ready.now) c.in_ok-level-in-Terms.ensures.node ∙ decoded-out shard c.args.ready.now _ _ (out-Keyed [] 0 0 0)
+    ∙ sym (⊎_elim (λ h. empty-level c.args.agg.now _ h.9) (⊎_elim (λ h. empty-level c.args.agg.now _ h.9) (λ h. empty-level c.args.agg.now _ h.3)) c.in-Terms.is)
 
 pub begin-returns-in-Sum : goal.begin-returns-in-Sum
 begin-returns-in-Sum t c shard =

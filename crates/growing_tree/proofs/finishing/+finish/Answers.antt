@@ -22,6 +22,7 @@ use Rattle.growing_tree.specs.Finished.{finished_bucket, finished_children, fini
 use Rattle.growing_tree.specs.CodedBuckets.{code_order, coded_bucket}
 use Rattle.growing_tree.specs.Trees.{IsAligned, coded_buckets, level_node, numbered_buckets}
 use Rattle.growing_tree.specs.declared.ready.Ready.{out-Ready}
+use Rattle.growing_tree.specs.declared.tree.Level.TheVariants.{Keyed as KeyedLevel}
 use Rattle.growing_tree.proofs.AggSizes.{children_less, item-most}
 use Rattle.growing_tree.proofs.Codes.{codes-own}
 use Rattle.growing_tree.proofs.Cuts.{child-finished, drop-full, fixed-finished, keyed-finished, number-finished, numbered-more}
@@ -131,75 +132,73 @@ finish_bucket-finish_children-requires t c =
 pub finish_coded-key_of_code-requires : goal.finish_coded-key_of_code-requires
 finish_coded-key_of_code-requires t c = let h = (level-ready c.args.shard.now c.args.agg.now c.args.ready.now c.requires.ready).kind in record { ready = h }
 
-pub finish-finish_level-requires : goal.finish-finish_level-requires
-finish-finish_level-requires t c =
+pub finish_keyed-finish_level-requires : goal.finish_keyed-finish_level-requires
+finish_keyed-finish_level-requires t c =
     let a = c.args.agg.now in
     let r = c.args.ready.now in
     let shard = c.args.shard.now in
-    let rows = rows-within shard a r (code_order (out-Agg a).kind) c.in_ok-all-in-Keyed.all.items c.keep_frequent-coded.result.items c.keep_frequent-coded.ensures in
-    let total = c.in_ok-total-in-Keyed.ensures in
-    omega (arith, rows, total, ap (sum_by bucket_count) (c.in_ok-buckets-in-Keyed.ensures ∙ ap (λ cs. map (finished_bucket shard a r) (map coded_bucket cs)) c.in_ok-sort_by_code-in-Keyed.ensures), ap (sum_by (λ (x : Coded). x.bucket.count)) c.as_slice.ensures.value)
+    let rows = rows-within shard a r (code_order (out-Agg a).kind) c.in_ok-all.all.items c.keep_frequent-coded.result.items c.keep_frequent-coded.ensures in
+    let total = c.in_ok-total.ensures in
+    omega (arith, rows, total, ap (sum_by bucket_count) (c.in_ok-buckets.ensures ∙ ap (λ cs. map (finished_bucket shard a r) (map coded_bucket cs)) c.in_ok-sort_by_code.ensures), ap (sum_by (λ (x : Coded). x.bucket.count)) c.as_slice.ensures.value)
 
-pub finish-trim_some-requires : goal.finish-trim_some-requires
-finish-trim_some-requires t c =
+pub finish_keyed-trim_some-requires : goal.finish_keyed-trim_some-requires
+finish_keyed-trim_some-requires t c =
     let a = c.args.agg.now in
     let r = c.args.ready.now in
     let shard = c.args.shard.now in
-    let rows = rows-within shard a r (code_order (out-Agg a).kind) c.in_ok-all-in-Keyed.all.items c.keep_frequent-coded.result.items c.keep_frequent-coded.ensures in
-    let total = c.in_ok-total-in-Keyed.ensures in
-    omega (arith, rows, total, ap (sum_by bucket_count) (c.in_ok-buckets-in-Keyed.ensures ∙ ap (λ cs. map (finished_bucket shard a r) (map coded_bucket cs)) c.in_ok-sort_by_code-in-Keyed.ensures), ap (sum_by (λ (x : Coded). x.bucket.count)) c.as_slice.ensures.value)
+    let rows = rows-within shard a r (code_order (out-Agg a).kind) c.in_ok-all.all.items c.keep_frequent-coded.result.items c.keep_frequent-coded.ensures in
+    let total = c.in_ok-total.ensures in
+    omega (arith, rows, total, ap (sum_by bucket_count) (c.in_ok-buckets.ensures ∙ ap (λ cs. map (finished_bucket shard a r) (map coded_bucket cs)) c.in_ok-sort_by_code.ensures), ap (sum_by (λ (x : Coded). x.bucket.count)) c.as_slice.ensures.value)
 
-pub finish-returns-then-is_terms : goal.finish-returns-then-is_terms
-finish-returns-then-is_terms t c =
+pub finish_keyed-returns-then-is_terms : goal.finish_keyed-returns-then-is_terms
+finish_keyed-returns-then-is_terms t c =
     let a = c.args.agg.now in
     let r = c.args.ready.now in
     let shard = c.args.shard.now in
-    let keyed = c.in-Keyed.keyed in
+    let keyed = c.args.keyed in
     let bs = coded_buckets keyed.places keyed.buckets.items in
-    let all = c.in_ok-all-in-Keyed.all.items in
+    let all = c.in_ok-all.all.items in
     let finish = finished_bucket shard a r in
     let by = code_order (out-Agg a).kind in
     let own = codes-own shard (out-Agg a).kind (out-Ready r).kind (level-ready shard a r c.requires.ready).kind in
-    let distinct : IsDistinct int_eq keyed.places = (subst IsAligned c.in-Keyed.is c.tree.invariant).distinct in
-    let tree_is : Keyed bs 0 0 0 ≡ c.args.tree = sym (ap level_node c.in-Keyed.is) ∙ c.tree.view_is in
-    let all_is : map coded_bucket all ≡ bs = c.in_ok-all-in-Keyed.ensures in
+    let distinct : IsDistinct int_eq keyed.places = c.requires.aligned.distinct in
+    let all_is : map coded_bucket all ≡ bs = c.in_ok-all.ensures in
     let apart : AreApart (map bucket_key (map (λ x. finish (coded_bucket x)) all)) =
     subst (λ xs. AreApart (map bucket_key xs)) (ap (map finish) (sym all_is) ∙ map-map finish coded_bucket all) (keys-apart shard a r own keyed.places keyed.buckets.items distinct) in
-    let total_is : c.in_ok-total-in-Keyed.total ≡ sum_by bucket_count bs =
-    c.in_ok-total-in-Keyed.ensures ∙ ap (sum_by (λ (x : Coded). x.bucket.count)) c.as_slice.ensures.value ∙ sym (sum_by-map bucket_count coded_bucket all) ∙ ap (sum_by bucket_count) all_is in
-    let first : trimmed_some a c.in_ok-total-in-Keyed.total c.in_ok-buckets-in-Keyed.buckets.items ≡ trimmed_some a c.in_ok-total-in-Keyed.total (sorted_by_key c.in_ok-buckets-in-Keyed.buckets.items) =
-    subst (λ bs. trimmed_some a c.in_ok-total-in-Keyed.total bs ≡ trimmed_some a c.in_ok-total-in-Keyed.total (sorted_by_key bs)) (sym (c.in_ok-buckets-in-Keyed.ensures ∙ ap (λ cs. map finish (map coded_bucket cs)) c.in_ok-sort_by_code-in-Keyed.ensures))
-    (terms-cut shard a r by c.in_ok-total-in-Keyed.total all c.keep_frequent-coded.result.items (sym c.is_terms.ensures ∙ c.if-is_terms.true) apart c.keep_frequent-coded.ensures) in
-    let buckets_are : sorted_by_key c.in_ok-buckets-in-Keyed.buckets.items ≡ sorted_by_key (map finish (map coded_bucket (sorted by c.keep_frequent-coded.result.items))) =
-    ap sorted_by_key (c.in_ok-buckets-in-Keyed.ensures ∙ ap (λ cs. map finish (map coded_bucket cs)) c.in_ok-sort_by_code-in-Keyed.ensures) in
-    let is : trimmed_some a c.in_ok-total-in-Keyed.total c.in_ok-buckets-in-Keyed.buckets.items ≡ cut_tree a (decoded shard r c.args.tree) =
-    first ∙ ap (trimmed_some a c.in_ok-total-in-Keyed.total) buckets_are ∙ suffices-cut shard a r by c.in_ok-total-in-Keyed.total all c.keep_frequent-coded.result.items apart c.keep_frequent-coded.ensures
-    ∙ (λ i. trimmed_some a (total_is i) (sorted_by_key (map finish (all_is i)))) ∙ sym (keyed-finished shard a r bs) ∙ ap (λ n. cut_tree a (decoded shard r n)) tree_is in
+    let total_is : c.in_ok-total.total ≡ sum_by bucket_count bs =
+    c.in_ok-total.ensures ∙ ap (sum_by (λ (x : Coded). x.bucket.count)) c.as_slice.ensures.value ∙ sym (sum_by-map bucket_count coded_bucket all) ∙ ap (sum_by bucket_count) all_is in
+    let first : trimmed_some a c.in_ok-total.total c.in_ok-buckets.buckets.items ≡ trimmed_some a c.in_ok-total.total (sorted_by_key c.in_ok-buckets.buckets.items) =
+    subst (λ bs. trimmed_some a c.in_ok-total.total bs ≡ trimmed_some a c.in_ok-total.total (sorted_by_key bs)) (sym (c.in_ok-buckets.ensures ∙ ap (λ cs. map finish (map coded_bucket cs)) c.in_ok-sort_by_code.ensures))
+    (terms-cut shard a r by c.in_ok-total.total all c.keep_frequent-coded.result.items (sym c.is_terms.ensures ∙ c.if-is_terms.true) apart c.keep_frequent-coded.ensures) in
+    let buckets_are : sorted_by_key c.in_ok-buckets.buckets.items ≡ sorted_by_key (map finish (map coded_bucket (sorted by c.keep_frequent-coded.result.items))) =
+    ap sorted_by_key (c.in_ok-buckets.ensures ∙ ap (λ cs. map finish (map coded_bucket cs)) c.in_ok-sort_by_code.ensures) in
+    let is : trimmed_some a c.in_ok-total.total c.in_ok-buckets.buckets.items ≡ cut_tree a (decoded shard r (level_node (KeyedLevel keyed))) =
+    first ∙ ap (trimmed_some a c.in_ok-total.total) buckets_are ∙ suffices-cut shard a r by c.in_ok-total.total all c.keep_frequent-coded.result.items apart c.keep_frequent-coded.ensures
+    ∙ (λ i. trimmed_some a (total_is i) (sorted_by_key (map finish (all_is i)))) ∙ sym (keyed-finished shard a r bs) in
     record { node = subst (λ (m : Node). IfOk c.trim_some.result (λ n. n ≡ m)) is c.trim_some.ensures }
 
-pub finish-returns-else-is_terms : goal.finish-returns-else-is_terms
-finish-returns-else-is_terms t c =
+pub finish_keyed-returns : goal.finish_keyed-returns
+finish_keyed-returns t c =
     let a = c.args.agg.now in
     let r = c.args.ready.now in
     let shard = c.args.shard.now in
-    let keyed = c.in-Keyed.keyed in
+    let keyed = c.args.keyed in
     let bs = coded_buckets keyed.places keyed.buckets.items in
-    let all = c.in_ok-all-in-Keyed.all.items in
+    let all = c.in_ok-all.all.items in
     let finish = finished_bucket shard a r in
     let by = code_order (out-Agg a).kind in
     let own = codes-own shard (out-Agg a).kind (out-Ready r).kind (level-ready shard a r c.requires.ready).kind in
-    let distinct : IsDistinct int_eq keyed.places = (subst IsAligned c.in-Keyed.is c.tree.invariant).distinct in
-    let tree_is : Keyed bs 0 0 0 ≡ c.args.tree = sym (ap level_node c.in-Keyed.is) ∙ c.tree.view_is in
-    let all_is : map coded_bucket all ≡ bs = c.in_ok-all-in-Keyed.ensures in
+    let distinct : IsDistinct int_eq keyed.places = c.requires.aligned.distinct in
+    let all_is : map coded_bucket all ≡ bs = c.in_ok-all.ensures in
     let apart : AreApart (map bucket_key (map (λ x. finish (coded_bucket x)) all)) =
     subst (λ xs. AreApart (map bucket_key xs)) (ap (map finish) (sym all_is) ∙ map-map finish coded_bucket all) (keys-apart shard a r own keyed.places keyed.buckets.items distinct) in
-    let total_is : c.in_ok-total-in-Keyed.total ≡ sum_by bucket_count bs =
-    c.in_ok-total-in-Keyed.ensures ∙ ap (sum_by (λ (x : Coded). x.bucket.count)) c.as_slice.ensures.value ∙ sym (sum_by-map bucket_count coded_bucket all) ∙ ap (sum_by bucket_count) all_is in
-    let buckets_are : sorted_by_key c.in_ok-buckets-in-Keyed.buckets.items ≡ sorted_by_key (map finish (map coded_bucket (sorted by c.keep_frequent-coded.result.items))) =
-    ap sorted_by_key (c.in_ok-buckets-in-Keyed.ensures ∙ ap (λ cs. map finish (map coded_bucket cs)) c.in_ok-sort_by_code-in-Keyed.ensures) in
-    let is : trimmed_some a c.in_ok-total-in-Keyed.total (sorted_by_key c.in_ok-buckets-in-Keyed.buckets.items) ≡ cut_tree a (decoded shard r c.args.tree) =
-    ap (trimmed_some a c.in_ok-total-in-Keyed.total) buckets_are ∙ suffices-cut shard a r by c.in_ok-total-in-Keyed.total all c.keep_frequent-coded.result.items apart c.keep_frequent-coded.ensures
-    ∙ (λ i. trimmed_some a (total_is i) (sorted_by_key (map finish (all_is i)))) ∙ sym (keyed-finished shard a r bs) ∙ ap (λ n. cut_tree a (decoded shard r n)) tree_is in
+    let total_is : c.in_ok-total.total ≡ sum_by bucket_count bs =
+    c.in_ok-total.ensures ∙ ap (sum_by (λ (x : Coded). x.bucket.count)) c.as_slice.ensures.value ∙ sym (sum_by-map bucket_count coded_bucket all) ∙ ap (sum_by bucket_count) all_is in
+    let buckets_are : sorted_by_key c.in_ok-buckets.buckets.items ≡ sorted_by_key (map finish (map coded_bucket (sorted by c.keep_frequent-coded.result.items))) =
+    ap sorted_by_key (c.in_ok-buckets.ensures ∙ ap (λ cs. map finish (map coded_bucket cs)) c.in_ok-sort_by_code.ensures) in
+    let is : trimmed_some a c.in_ok-total.total (sorted_by_key c.in_ok-buckets.buckets.items) ≡ cut_tree a (decoded shard r (level_node (KeyedLevel keyed))) =
+    ap (trimmed_some a c.in_ok-total.total) buckets_are ∙ suffices-cut shard a r by c.in_ok-total.total all c.keep_frequent-coded.result.items apart c.keep_frequent-coded.ensures
+    ∙ (λ i. trimmed_some a (total_is i) (sorted_by_key (map finish (all_is i)))) ∙ sym (keyed-finished shard a r bs) in
     record { node = subst (λ (m : Node). IfOk c.finish_level.result (λ n. n ≡ m)) is c.finish_level.ensures }
 
 pub finish-returns-in_ok-finish_fixed-in-Fixed : goal.finish-returns-in_ok-finish_fixed-in-Fixed

@@ -141,9 +141,9 @@ put_coded-returns-in_ok-more-in-Found-clause-buckets t c =
     let code = c.args.code in
     let same : to_z w64 (of_z w64 code) ≡ code = to_z-of_z w64 code (search rules) in
     let l : c.in-Found.place < length c.args.buckets.now.items = omega (arith, c.if-place-len.false, c.len.ensures, c.args.buckets.now.ok) in
-    found-buckets (gatherers shard (out-Agg a).children) (rows_at shard c.args.rows.now) (decoders shard (out-Ready r).children) (key_at shard r) code (to_z w64 (of_z w64 code)) same
+    found-buckets (λ g. g.count) (λ g. g.children.items) (gatherers shard (out-Agg a).children) (rows_at shard c.args.rows.now) (decoders shard (out-Ready r).children) (key_at shard r) code (to_z w64 (of_z w64 code)) same
     c.args.places.now c.find_or_add.new.self c.args.buckets.now.items c.in_ok-found.found c.in_ok-found.ensures.place c.in_ok-found.ensures.distinct
-    (codes-own shard (out-Agg a).kind (out-Ready r).kind (level-ready shard a r c.requires.ready).kind) c.in-Found.place c.index_mut.result.now c.gather_bucket.new.bucket c.in-Found.is l c.index_mut.ensures.value c.in_ok-more-in-Found.ensures.bucket
+    (codes-own shard (out-Agg a).kind (out-Ready r).kind (level-ready shard a r c.requires.ready).kind) c.in-Found.place c.index_mut.result.now c.gather_bucket.new.bucket c.in-Found.is l c.index_mut.ensures.value (record { count = c.in_ok-more-in-Found.ensures.bucket.count; children = c.in_ok-more-in-Found.ensures.bucket.children })
 
 pub put_coded-returns-in_ok-more-in-Found-clause-cost : goal.put_coded-returns-in_ok-more-in-Found-clause-cost
 put_coded-returns-in_ok-more-in-Found-clause-cost t c =
@@ -153,7 +153,7 @@ put_coded-returns-in_ok-more-in-Found-clause-cost t c =
     let code = c.args.code in
     let same : to_z w64 (of_z w64 code) ≡ code = to_z-of_z w64 code (search rules) in
     let l : c.in-Found.place < length c.args.buckets.now.items = omega (arith, c.if-place-len.false, c.len.ensures, c.args.buckets.now.ok) in
-    found-cost (gatherers shard (out-Agg a).children) (rows_at shard c.args.rows.now) (decoders shard (out-Ready r).children) (key_at shard r) code (to_z w64 (of_z w64 code)) same
+    found-cost (λ g. g.count) (λ g. g.children.items) (gatherers shard (out-Agg a).children) (rows_at shard c.args.rows.now) (decoders shard (out-Ready r).children) (key_at shard r) code (to_z w64 (of_z w64 code)) same
     c.args.places.now c.find_or_add.new.self c.args.buckets.now.items c.in_ok-found.found c.in_ok-found.ensures.place c.in_ok-found.ensures.distinct
     c.in-Found.place c.index_mut.result.now c.gather_bucket.new.bucket c.in_ok-more-in-Found.more c.in-Found.is l c.index_mut.ensures.value c.in_ok-more-in-Found.ensures.cost
 
@@ -168,10 +168,10 @@ put_coded-returns-in_ok-added-in-Added-clause-buckets t c =
     let same : to_z w64 (of_z w64 code) ≡ code = to_z-of_z w64 code (search rules) in
     let l : c.in-Added.place ≡ length c.args.buckets.now.items = omega (arith, c.if-place-len-2.false, c.len-in-Added.ensures, c.args.buckets.now.ok) in
     ap (shown_keyed shard r c.find_or_add.new.self) c.in_ok-push-in-Added.ensures.items
-    ∙ added-buckets (gatherers shard (out-Agg a).children) (rows_at shard c.args.rows.now) ds key_of code (to_z w64 (of_z w64 code)) same
+    ∙ added-buckets (λ g. g.count) (λ g. g.children.items) (gatherers shard (out-Agg a).children) (rows_at shard c.args.rows.now) ds key_of code (to_z w64 (of_z w64 code)) same
     c.args.places.now c.find_or_add.new.self c.args.buckets.now.items c.in_ok-found.found c.in_ok-found.ensures.place c.in_ok-found.ensures.distinct
     (codes-own shard (out-Agg a).kind (out-Ready r).kind (level-ready shard a r c.requires.ready).kind) c.in-Added.place c.in_ok-bucket-in-Added.bucket c.gather_bucket-in-Added.new.bucket c.in-Added.is l
-    c.in_ok-bucket-in-Added.ensures.count (c.in_ok-bucket-in-Added.ensures.children shard ∙ empties-are shard.rows (out-Agg a).children) c.in_ok-more-in-Added.ensures.bucket
+    c.in_ok-bucket-in-Added.ensures.count (c.in_ok-bucket-in-Added.ensures.children shard ∙ empties-are shard.rows (out-Agg a).children) (record { count = c.in_ok-more-in-Added.ensures.bucket.count; children = c.in_ok-more-in-Added.ensures.bucket.children })
 
 pub put_coded-returns-in_ok-added-in-Added-clause-cost : goal.put_coded-returns-in_ok-added-in-Added-clause-cost
 put_coded-returns-in_ok-added-in-Added-clause-cost t c =
@@ -185,7 +185,7 @@ put_coded-returns-in_ok-added-in-Added-clause-cost t c =
     let l : c.in-Added.place ≡ length c.args.buckets.now.items = omega (arith, c.if-place-len-2.false, c.len-in-Added.ensures, c.args.buckets.now.ok) in
     let begun : c.in_ok-begun-in-Added.begun ≡ 128 + key_bytes (key_of code) + (out-Ready r).child_bytes = c.in_ok-begun-in-Added.ensures ∙ ap (λ x. 128 + key_bytes (key_of x) + (out-Ready r).child_bytes) same in
     ap (λ bs. sum_by bytes (shown_keyed shard r c.find_or_add.new.self bs)) c.in_ok-push-in-Added.ensures.items
-    ∙ added-cost (gatherers shard (out-Agg a).children) (rows_at shard c.args.rows.now) ds key_of code (to_z w64 (of_z w64 code)) same
+    ∙ added-cost (λ g. g.count) (λ g. g.children.items) (gatherers shard (out-Agg a).children) (rows_at shard c.args.rows.now) ds key_of code (to_z w64 (of_z w64 code)) same
     c.args.places.now c.find_or_add.new.self c.args.buckets.now.items c.in_ok-found.found c.in_ok-found.ensures.place c.in_ok-found.ensures.distinct
     c.in-Added.place c.in_ok-begun-in-Added.begun (out-Ready r).child_bytes c.in_ok-more-in-Added.more c.in_ok-bucket-in-Added.bucket c.gather_bucket-in-Added.new.bucket c.in-Added.is l begun
     ((level-ready shard a r c.requires.ready).child_bytes ∙ ap (sum_by node_cost) (sym (c.in_ok-bucket-in-Added.ensures.children shard))) c.in_ok-more-in-Added.ensures.cost

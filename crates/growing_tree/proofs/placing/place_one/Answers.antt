@@ -1,0 +1,1 @@
+use Rattle.growing_tree.proofs.placing.place_one.Goals as goal

@@ -1,0 +1,1 @@
+use Rattle.growing_tree.proofs.placing.put_block.Goals as goal
