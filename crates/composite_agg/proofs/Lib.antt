@@ -16,3 +16,5 @@ pub mod RunSteps
 mod PageExample
 mod OnlyKeys
 mod LaterKeys
+mod WordPlaces
+mod CodedSpots

@@ -296,3 +296,9 @@ by_source row field (Some i) =
 
 pub source-is : (row : PlacedRow) (s : CompositeSource) → source_keys row s ≡ or_null s.missing_bucket (distinct_keys (flat_map (part_keys s) (values_of s.field row)))
 source-is row s = ap (or_null s.missing_bucket) (by_source row s.field s.interval)
+
+-- one value gives one part where the source has no interval
+pub few-parts : (s : CompositeSource) (vs : List Scalar) → s.interval ≡ None → length vs < 2 → length vs ≡ length (distinct_keys (flat_map (part_keys s) vs))
+few-parts s [] none few = refl
+few-parts s (v ∷ []) none few = sym (ap (λ (o : Option ℕ). length (distinct_keys (option_map_or (λ interval. interval_key interval 0 v) o (scalar_key v ∷ []) ++ []))) none)
+few-parts s (v ∷ w ∷ vs) none few = absurd (omega (arith, few))

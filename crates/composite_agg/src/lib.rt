@@ -3,6 +3,7 @@
 #![tactic(auto)]
 
 mod behind;
+pub mod coded;
 mod first_keys;
 mod keyed;
 pub mod laws;
@@ -15,7 +16,7 @@ mod row_keys;
 pub mod runs;
 mod swapping;
 
-pub use behind::are_behind;
+pub use behind::{are_behind, are_behind_by};
 pub use first_keys::FirstKeys;
 pub use keyed::HasKey;
 pub use offered::Offered;

@@ -236,8 +236,13 @@ fn value_key_count(shard: &Shard, row: u32, source: &CompositeSource) -> u64
     requires positive { IsPositive source.now }
     ensures { result ≡ length (distinct_keys (flat_map (part_keys source.now) (values_of source.now.field (row_of shard.now.rows row)))) }
 {
+    let values = shard.value_count(row, source.field);
+    if values < 2 && source.interval.is_none() {
+        // One value gives one part, whatever it is.
+        return u64::from(values);
+    }
     let mut count = 0;
-    for place in 0..shard.value_count(row, source.field) {
+    for place in 0..values {
         if new_part(shard, row, source, place).is_some() {
             count += 1;
         }

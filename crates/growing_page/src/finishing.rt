@@ -33,6 +33,7 @@ fn finish_bucket(
         count,
         children,
         bytes: _,
+        code: _,
     } = bucket;
     Ok(Bucket {
         key,
@@ -74,7 +75,11 @@ pub fn finish_page(
     requires composite { IsTrue (is_composite (out-Agg agg.now).kind) }
     ensures { IfOk result (λ node. node ≡ cut_tree agg.now (page_node (decoders shard.now ready.now) page)) }
 {
-    let Page { held: _, runs } = page;
+    let Page {
+        held: _,
+        runs,
+        guesses: _,
+    } = page;
     let buckets = join(alloc, runs)?;
     let mut finished = finish_buckets(alloc, &agg.children, ready, shard, buckets)?;
     sort_by_key(&mut finished)?;

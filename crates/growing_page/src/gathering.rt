@@ -12,7 +12,7 @@ ghost use Rattle.agg_evaluation.specs.Rows.{row_of};
 ghost use Rattle.agg_evaluation.specs.Shard.{sorted_by_key};
 ghost use Rattle.composite_agg.specs.FirstPages.{empty_page, is_composite};
 ghost use Rattle.composite_agg.specs.InOrder.{IsInOrder};
-ghost use Rattle.composite_agg.specs.Runs.{AreFilled, IsGapFor, IsSpotOf};
+ghost use Rattle.composite_agg.specs.Runs.{AreFilled, IsGapFor, IsSpotOf, in_runs};
 ghost use Rattle.composite_agg.specs.Sources.{IsComposite};
 ghost use Rattle.growing_tree.specs.Readiness.{AreReadyFor};
 ghost use Rattle.growth_laws.specs.BucketBytes.{bucket_bytes};
@@ -24,8 +24,9 @@ ghost use Rattle.growing_page.specs.GrowingPages.{IsCosted, IsPageOf, buckets_of
 use crate::costs::{bytes_of_bucket, sum_of};
 use crate::page::{Held, Page};
 use agg_model::{Agg, Key, Kind, List};
-use composite_agg::runs::{Spot, enter, find_spot, is_outside, last_key};
-use composite_agg::{are_behind, keys};
+use composite_agg::coded::{code_of, find_spot_by};
+use composite_agg::runs::{Spot, enter, is_outside, last_key};
+use composite_agg::{are_behind_by, keys};
 use growing_tree::{Ready, begin_trees, gather_children};
 use shard_columns::Shard;
 use std::alloc::{AllocError, Global};
@@ -65,27 +66,35 @@ fn is_refused_by(kind: &Kind, page: &Page, key: &Key) -> bool
     }
 }
 
-// Whether the page is full and all keys of a row come after its last bucket, as those of most rows do. No key is built to tell it.
-fn are_all_refused(shard: &Shard, row: u32, kind: &Kind, page: &Page) -> bool
+// Whether a page of these buckets is full and all keys of a row come after the last one, as those of most rows do. No key is
+// built to tell it, and no word of the row is read where the last key's words are at the guesses.
+fn are_all_refused(
+    shard: &Shard,
+    row: u32,
+    kind: &Kind,
+    held: usize,
+    runs: &[Vec<Held>],
+    guesses: &mut [u32],
+) -> bool
     requires built { IsShard shard.now }
     requires in_range { row < length shard.now.rows }
     requires composite { IsComposite kind.now }
-    requires order { IsInOrder held_key (sources_of kind.now) (buckets_of page.now) }
-    requires filled { AreFilled page.now.runs.items }
-    requires held { page.now.held ≡ length (buckets_of page.now) }
-    ensures { IsTrue result → T (list_all (is_refused (empty_page kind.now) (buckets_of page.now))
+    requires order { IsInOrder held_key (sources_of kind.now) (in_runs runs.now) }
+    requires filled { AreFilled runs.now }
+    requires held { held ≡ length (in_runs runs.now) }
+    ensures { IsTrue result → T (list_all (is_refused (empty_page kind.now) (in_runs runs.now))
         (keys_of_row shard.now.rows kind.now (row_of shard.now.rows row))) }
 {
-    match (kind, last_key(page.runs.as_slice())) {
+    match (kind, last_key(runs)) {
         (Kind::Composite { size, .. }, Some(last)) => {
-            page.held >= *size as usize && are_behind(shard, row, kind, last)
+            held >= *size as usize && are_behind_by(shard, row, kind, last, guesses)
         }
         _ => false,
     }
 }
 
 // The spot of the bucket of a key, or else where one would stand.
-fn find(kind: &Kind, page: &Page, key: &Key) -> Result<Spot, Spot>
+fn find(kind: &Kind, page: &Page, key: &Key, code: u64) -> Result<Spot, Spot>
     requires composite { IsTrue (is_composite kind.now) }
     requires order { IsInOrder held_key (sources_of kind.now) (buckets_of page.now) }
     requires filled { AreFilled page.now.runs.items }
@@ -95,8 +104,19 @@ fn find(kind: &Kind, page: &Page, key: &Key) -> Result<Spot, Spot>
     ensures absent { IfErr result (IsGapFor held_key (sources_of kind.now) page.now.runs.items key.now) }
 {
     match kind {
-        Kind::Composite { sources, .. } => find_spot(sources, page.runs.as_slice(), key),
+        Kind::Composite { sources, .. } => find_spot_by(sources, page.runs.as_slice(), key, code),
         _ => unreachable!(),
+    }
+}
+
+// The code of a key of these rows, which all have it.
+fn code_for(shard: &Shard, rows: &[u32], kind: &Kind, key: &Key) -> u64
+    requires built { IsShard shard.now }
+    requires in_range { All (λ n. n < length shard.now.rows) rows.now }
+{
+    match rows {
+        [row, ..] => code_of(shard, *row, kind, key),
+        [] => 0,
     }
 }
 
@@ -109,6 +129,7 @@ fn new_bucket(
     rows: &[u32],
     spare: &mut Vec<Vec<i64>>,
     key: Key,
+    code: u64,
 ) -> Result<Held, AllocError>
     requires ready { AreReadyFor shard.now aggs.now ready.now }
     requires built { IsShard shard.now }
@@ -126,6 +147,7 @@ fn new_bucket(
         count: rows.len() as u64,
         children,
         bytes: sum_of(bytes, added)?,
+        code,
     })
 }
 
@@ -197,14 +219,15 @@ fn put_key(
             removed: 0,
         });
     }
-    match find(&agg.kind, page, &key) {
+    let code = code_for(shard, rows, &agg.kind, &key);
+    match find(&agg.kind, page, &key, code) {
         Ok(spot) => {
             let bucket = &mut page.runs[spot.run][spot.at];
             let added = grow(alloc, &agg.children, ready, shard, rows, spare, bucket)?;
             Ok(Change { added, removed: 0 })
         }
         Err(spot) => {
-            let bucket = new_bucket(alloc, &agg.children, ready, shard, rows, spare, key)?;
+            let bucket = new_bucket(alloc, &agg.children, ready, shard, rows, spare, key, code)?;
             let added = bucket.bytes;
             let size = size_of_composite(&agg.kind);
             let left = enter(size, &mut page.held, &mut page.runs, spot, bucket)?;
@@ -312,7 +335,15 @@ pub fn gather_root(
     ensures cost { IfOk result (λ change. node_cost (page_node (decoders shard.now ready.now) page.new) + change.removed
         ≡ node_cost (page_node (decoders shard.now ready.now) page.old) + change.added) }
 {
-    if are_all_refused(shard, row, &agg.kind, page) {
+    let guesses = page.guesses.as_mut_slice();
+    if are_all_refused(
+        shard,
+        row,
+        &agg.kind,
+        page.held,
+        page.runs.as_slice(),
+        guesses,
+    ) {
         return Ok(Change {
             added: 0,
             removed: 0,

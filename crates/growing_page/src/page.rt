@@ -9,6 +9,7 @@ ghost use Rattle.growing_page.specs.GrowingPages.{IsPageOf, page_node};
 
 use agg_model::{Key, Kind};
 use composite_agg::HasKey;
+use composite_agg::coded::HasCode;
 use growing_tree::Tree;
 use std::alloc::{AllocError, Global};
 
@@ -20,6 +21,8 @@ pub(crate) struct Held {
     pub(crate) children: Vec<Tree>,
     /// What the bucket costs, with all below it.
     pub(crate) bytes: u64,
+    /// A number that rises with the keys, by which buckets are found.
+    pub(crate) code: u64,
 }
 
 impl HasKey for Held {
@@ -30,6 +33,12 @@ impl HasKey for Held {
     }
 }
 
+impl HasCode for Held {
+    fn code(&self) -> u64 {
+        self.code
+    }
+}
+
 /// The buckets that a composite keeps of some rows: at most `size`, in the order of its sources, behind `after`. They stand in
 /// runs of neighbours, so that one that enters moves few others.
 #[derive(Drop)]
@@ -37,6 +46,8 @@ pub struct Page {
     /// The number of buckets.
     pub(crate) held: usize,
     pub(crate) runs: Vec<Vec<Held>>,
+    /// For each source, where the dictionary of its field had the word of a last key: a guess for the next one, which is often the same.
+    pub(crate) guesses: Vec<u32>,
 }
 
 impl Page {
@@ -49,9 +60,10 @@ impl Page {
             (out-Agg agg).kind ≡ kind.now → page_node ds page ≡ empty_node agg) }
     {
         match kind {
-            Kind::Composite { .. } => Ok(Page {
+            Kind::Composite { sources, .. } => Ok(Page {
                 held: 0,
                 runs: Vec::new(alloc),
+                guesses: vec![in alloc; 0; sources.len()]?,
             }),
             _ => unreachable!(),
         }

@@ -1,0 +1,176 @@
+//! Numbers that stand for keys, by which a key is found among many with few looks at keys themselves. They are guesses, which
+//! no contract rests on.
+ghost use Rattle.std.specs.Prelude.{◌≡◌, ◌<◌, IfErr, IfOk, IsTrue, T, length};
+ghost use Rattle.std.specs.List.{list_all};
+ghost use Rattle.agg_evaluation.specs.CompositeKeys.{is_composite_of};
+ghost use Rattle.composite_agg.specs.InOrder.{IsInOrder};
+ghost use Rattle.composite_agg.specs.Runs.{AreFilled, IsGapFor, IsSpotOf, in_runs};
+ghost use Rattle.shard_columns.specs.Built.{IsShard};
+
+use crate::behind::only_ordinal;
+use crate::keyed::HasKey;
+use crate::places::is_before;
+use crate::runs::{Spot, find_spot};
+use agg_model::{CompositeSource, Key, Kind, List};
+use bucket_order::compare_composites;
+use shard_columns::Shard;
+use std::cmp::Ordering;
+
+/// What has a composite key and its code.
+pub trait HasCode: HasKey {
+    /// The code.
+    fn code(&self) -> u64;
+}
+
+// The code of a whole number: those of 64 bits rise with it.
+fn code_of_whole(number: i128) -> u64 {
+    let raised = number
+        .saturating_add(i128::from(i64::MAX))
+        .saturating_add(1);
+    if raised < 0 {
+        0
+    } else {
+        u64::try_from(raised).unwrap_or(u64::MAX)
+    }
+}
+
+// The code of the part of a row's key at a source.
+fn code_of_part(shard: &Shard, row: u32, source: &CompositeSource, part: &Key) -> u64
+    requires built { IsShard shard.now }
+    requires in_range { row < length shard.now.rows }
+{
+    match part {
+        Key::Whole(number) => code_of_whole(*number),
+        Key::Flag(flag) => u64::from(*flag),
+        Key::Word(word) => {
+            let place = match only_ordinal(shard, row, source) {
+                Some(own) => Some(own),
+                None => shard.find_word(source.field, word.as_str().as_bytes()),
+            };
+            u64::from(place.unwrap_or(0))
+        }
+        Key::Null | Key::Fixed(_) | Key::Many(_) => 0,
+    }
+}
+
+/// The code of a key that a row has: the place of its first part's word in the dictionary of the field, or what its number
+/// gives. Codes of keys in the order of the sources seldom fall, and keys of one first part have one.
+pub fn code_of(shard: &Shard, row: u32, kind: &Kind, key: &Key) -> u64
+    requires built { IsShard shard.now }
+    requires in_range { row < length shard.now.rows }
+{
+    match (kind, key) {
+        (Kind::Composite { sources, .. }, Key::Many(parts)) => {
+            match (sources.get(0), parts.get(0)) {
+                (Some(source), Some(part)) => {
+                    let code = code_of_part(shard, row, source, part);
+                    if source.descending { !code } else { code }
+                }
+                _ => 0,
+            }
+        }
+        _ => 0,
+    }
+}
+
+// Whether an item comes before a key of this code: only among items of the same code is a key read.
+fn is_coded_before<T: HasCode>(
+    sources: &List<CompositeSource>,
+    item: &T,
+    key: &Key,
+    code: u64,
+) -> bool {
+    match item.code().cmp(&code) {
+        Ordering::Less => true,
+        Ordering::Equal => is_before(sources, item.key(), key),
+        Ordering::Greater => false,
+    }
+}
+
+fn ends_coded_before<T: HasCode>(
+    sources: &List<CompositeSource>,
+    items: &[T],
+    key: &Key,
+    code: u64,
+) -> bool {
+    match items.last() {
+        Some(last) => is_coded_before(sources, last, key, code),
+        None => true,
+    }
+}
+
+// Where the codes say that a key stands.
+fn guess_spot<T: HasCode>(
+    sources: &List<CompositeSource>,
+    runs: &[Vec<T>],
+    key: &Key,
+    code: u64,
+) -> Spot {
+    let run = runs.partition_point(|run| ends_coded_before(sources, run.as_slice(), key, code));
+    let at = match runs.get(run) {
+        Some(run) => run
+            .as_slice()
+            .partition_point(|item| is_coded_before(sources, item, key, code)),
+        None => 0,
+    };
+    Spot { run, at }
+}
+
+// Whether the item at a spot has the key.
+fn is_spot_of<T: HasKey>(
+    sources: &List<CompositeSource>,
+    runs: &[Vec<T>],
+    key: &Key,
+    spot: Spot,
+) -> bool
+    requires parts { IsTrue (list_all (λ x. is_composite_of (length sources.now) (T.key_of x)) (in_runs runs.now)) }
+    requires key_parts { IsTrue (is_composite_of (length sources.now) key.now) }
+    ensures { IsTrue result → IsSpotOf T.key_of runs.now key.now spot }
+{
+    if spot.run >= runs.len() || spot.at >= runs[spot.run].len() {
+        return false;
+    }
+    compare_composites(sources, runs[spot.run][spot.at].key(), key) == Ordering::Equal
+}
+
+// Whether a key would stand at a spot, between two neighbours in one run.
+fn is_gap_for<T: HasKey>(
+    sources: &List<CompositeSource>,
+    runs: &[Vec<T>],
+    key: &Key,
+    spot: Spot,
+) -> bool
+    requires order { IsInOrder T.key_of sources.now (in_runs runs.now) }
+    ensures { IsTrue result → IsGapFor T.key_of sources.now runs.now key.now spot }
+{
+    if spot.run >= runs.len() || spot.at == 0 || spot.at >= runs[spot.run].len() {
+        return false;
+    }
+    is_before(sources, runs[spot.run][spot.at - 1].key(), key)
+        && is_before(sources, key, runs[spot.run][spot.at].key())
+}
+
+/// The same as `find_spot`, with the key's code. Where the codes tell the spot it takes a comparison of keys or three, and else
+/// the binary search by keys.
+pub fn find_spot_by<T: HasCode>(
+    sources: &List<CompositeSource>,
+    runs: &[Vec<T>],
+    key: &Key,
+    code: u64,
+) -> Result<Spot, Spot>
+    requires order { IsInOrder T.key_of sources.now (in_runs runs.now) }
+    requires filled { AreFilled runs.now }
+    requires parts { IsTrue (list_all (λ x. is_composite_of (length sources.now) (T.key_of x)) (in_runs runs.now)) }
+    requires key_parts { IsTrue (is_composite_of (length sources.now) key.now) }
+    ensures found { IfOk result (IsSpotOf T.key_of runs.now key.now) }
+    ensures absent { IfErr result (IsGapFor T.key_of sources.now runs.now key.now) }
+{
+    let guess = guess_spot(sources, runs, key, code);
+    if is_spot_of(sources, runs, key, guess) {
+        return Ok(guess);
+    }
+    if is_gap_for(sources, runs, key, guess) {
+        return Err(guess);
+    }
+    find_spot(sources, runs, key)
+}
