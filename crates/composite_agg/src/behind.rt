@@ -24,21 +24,11 @@ use std::cmp::Ordering;
 /// Whether all keys of a row come after a key, in the order of the sources, as its values tell where it has one at most at each
 /// source that decides. It takes no memory, and time in proportion to the sources. A row with more values is not looked into:
 /// the answer is no, and says nothing.
-pub fn are_behind(shard: &Shard, row: u32, kind: &Kind, key: &Key) -> bool
-    requires built { IsShard shard.now }
-    requires in_range { row < length shard.now.rows }
-    requires composite { IsComposite kind.now }
-    ensures { IsTrue result → T (list_all (λ k. is_lt (page_cmp (empty_page kind.now).sources key.now k))
-        (keys_of_row shard.now.rows kind.now (row_of shard.now.rows row))) }
-{
-    let mut none = [];
-    are_behind_by(shard, row, kind, key, none.as_mut_slice())
-}
-
-/// The same, with a guess for each source, in their order: the place of the key's word in the dictionary of the source's field.
-/// Rows whose one value is a word are told by its place there, which reads no word but the key's own. A guess may be any number.
-/// One that is wrong is put right by binary search, so that it serves until the word of the key changes.
-pub fn are_behind_by(shard: &Shard, row: u32, kind: &Kind, key: &Key, guesses: &mut [u32]) -> bool
+///
+/// There is a guess for each source, in their order: the place of the key's word in the dictionary of the source's field. Rows
+/// whose one value is a word are told by its place there, which reads no word but the key's own. A guess may be any number, and
+/// there may be fewer: one that is wrong is put right by binary search, so that it serves until the word of the key changes.
+pub fn are_behind(shard: &Shard, row: u32, kind: &Kind, key: &Key, guesses: &mut [u32]) -> bool
     requires built { IsShard shard.now }
     requires in_range { row < length shard.now.rows }
     requires composite { IsComposite kind.now }

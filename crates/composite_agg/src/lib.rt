@@ -16,7 +16,7 @@ mod row_keys;
 pub mod runs;
 mod swapping;
 
-pub use behind::{are_behind, are_behind_by};
+pub use behind::are_behind;
 pub use first_keys::FirstKeys;
 pub use keyed::HasKey;
 pub use offered::Offered;

@@ -26,7 +26,7 @@ use crate::page::{Held, Page};
 use agg_model::{Agg, Key, Kind, List};
 use composite_agg::coded::{code_of, find_spot_by};
 use composite_agg::runs::{Spot, enter, is_outside, last_key};
-use composite_agg::{are_behind_by, keys};
+use composite_agg::{are_behind, keys};
 use growing_tree::{Ready, begin_trees, gather_children};
 use shard_columns::Shard;
 use std::alloc::{AllocError, Global};
@@ -87,7 +87,7 @@ fn are_all_refused(
 {
     match (kind, last_key(runs)) {
         (Kind::Composite { size, .. }, Some(last)) => {
-            held >= *size as usize && are_behind_by(shard, row, kind, last, guesses)
+            held >= *size as usize && are_behind(shard, row, kind, last, guesses)
         }
         _ => false,
     }

@@ -18,4 +18,4 @@ returns-then-held-size c says =
     let most : c.in-Composite-Some.size ≤ length hs = search rules in
     let many : nat_le c.in-Composite-Some.size (length hs) ≡ true = grind (arith, nat_tests) in
     let full = ap (λ (j : Kind). nat_le (empty_page j).size (length hs)) c.in-Composite-Some.is-0 ∙ many in
-    all-kept-out (sources_of k) (empty_page k).size (empty_page k).after hs c.in-Composite-Some.last.now c.requires.order is_last full (keys c.args.shard.now.rows k (row_of c.args.shard.now.rows c.args.row)) (c.are_behind_by.ensures says)
+    all-kept-out (sources_of k) (empty_page k).size (empty_page k).after hs c.in-Composite-Some.last.now c.requires.order is_last full (keys c.args.shard.now.rows k (row_of c.args.shard.now.rows c.args.row)) (c.are_behind.ensures says)

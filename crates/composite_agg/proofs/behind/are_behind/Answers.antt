@@ -12,7 +12,7 @@ use Rattle.bucket_order.specs.Composites.{any_parts_cmp}
 use Rattle.composite_agg.specs.FirstPages.{empty_page}
 use Rattle.composite_agg.specs.InOrder.{page_cmp}
 use Rattle.composite_agg.proofs.LaterKeys.{all-keys}
-use Rattle.composite_agg.proofs.behind.are_behind_by.Goals as goal
+use Rattle.composite_agg.proofs.behind.are_behind.Goals as goal
 
 pub returns-in-Composite-Many : goal.returns-in-Composite-Many
 returns-in-Composite-Many c says =
