@@ -89,9 +89,9 @@ span-held hs k d rise low =
     (find-some hs (get_or hs k d).row k d low refl (λ j before same. let up = rises-by (λ (h : Held). h.row) hs rise j k d before low in absurd (omega (arith, up, same))))
 
 -- the most that is held is the most that any of so many rows has
-most-of-rows : (d : Draft) (rows : ℕ) (counts : List ℕ) → IsShaped rows d → length counts ≡ rows → ((n : ℕ) → n < rows → get_or counts n 0 ≡ span_size (span_in d.held.items n)) → most_held d ≡ greatest_of counts
+most-of-rows : (d : Draft) (rows : ℕ) (counts : List ℕ) → IsShaped rows d → length counts ≡ rows → ((n : ℕ) → n < rows → get_or counts n 0 ≡ span_size (span_in d.held n)) → most_held d ≡ greatest_of counts
 most-of-rows d rows counts shaped size same =
-    let hs = d.held.items in
+    let hs = d.held in
     let none : Held = record { row = 0; span = no_span } in
     let up : greatest_of (map held_count hs) ≤ greatest_of counts =
     greatest-least (map held_count hs) (greatest_of counts) (λ k low.
@@ -106,11 +106,11 @@ most-of-rows d rows counts shaped size same =
     omega (arith, up, down)
 
 -- how many values a draft has in a row
-draft-count : (show : ℕ → Scalar) (d : Draft) (rows n : ℕ) → IsShaped rows d → length (draft_values show d n) ≡ span_size (span_in d.held.items n)
+draft-count : (show : ℕ → Scalar) (d : Draft) (rows n : ℕ) → IsShaped rows d → length (draft_values show d n) ≡ span_size (span_in d.held n)
 draft-count show d rows n shaped =
-    let part = span-part (typed_len d.typed) d.held.items n shaped.within in
+    let part = span-part (typed_len d.typed) d.held n shaped.within in
     let size = scalars-len show d.typed in
-    length-cut (scalars show d.typed) (span_in d.held.items n) (part.0, omega (arith, part.1, size))
+    length-cut (scalars show d.typed) (span_in d.held n) (part.0, omega (arith, part.1, size))
 
 abbrev pub field_count : ℕ → Laid → ℕ
 field_count f l = length (found_values f l.values.now)

@@ -98,13 +98,13 @@ all-taken-of-kind k t (v ∷ vs) typed_is all =
 pub record AreNew (kinds : List FieldKind) (drafts : List Draft) : Type 0 where
   pub sizes : length drafts ≡ length kinds
   pub typed : (f : ℕ) (k : FieldKind) (d : Draft) → slice_get kinds f ≡ Some k → slice_get drafts f ≡ Some d → is_typed k d.typed ≡ true
-  pub held : (f : ℕ) (d : Draft) → slice_get drafts f ≡ Some d → d.held.items ≡ []
+  pub held : (f : ℕ) (d : Draft) → slice_get drafts f ≡ Some d → d.held ≡ []
   pub none : (f : ℕ) (d : Draft) → slice_get drafts f ≡ Some d → typed_len d.typed ≡ 0
 
 pub AreNew-none : AreNew [] []
 AreNew-none = record { sizes = refl; typed = λ f k d is at. absurd (cc at); held = λ f d at. absurd (cc at); none = λ f d at. absurd (cc at) }
 
-pub AreNew-push : (kinds : List FieldKind) (drafts : List Draft) (k : FieldKind) (d : Draft) → AreNew kinds drafts → is_typed k d.typed ≡ true → d.held.items ≡ [] → typed_len d.typed ≡ 0 → AreNew (kinds ++ k ∷ []) (drafts ++ d ∷ [])
+pub AreNew-push : (kinds : List FieldKind) (drafts : List Draft) (k : FieldKind) (d : Draft) → AreNew kinds drafts → is_typed k d.typed ≡ true → d.held ≡ [] → typed_len d.typed ≡ 0 → AreNew (kinds ++ k ∷ []) (drafts ++ d ∷ [])
 AreNew-push kinds drafts k d new typed_is no_rows none =
     let size = new.sizes in
     record {
@@ -121,7 +121,7 @@ AreNew-push kinds drafts k d new typed_is no_rows none =
       ];
       held = λ f e at. elim (slice_get-last drafts d e f at) [
         | inl front ↦ new.held f e front
-        | inr last ↦ ap (λ (x : Draft). x.held.items) (sym last.1) ∙ no_rows
+        | inr last ↦ ap (λ (x : Draft). x.held) (sym last.1) ∙ no_rows
       ];
       none = λ f e at. elim (slice_get-last drafts d e f at) [
         | inl front ↦ new.none f e front
@@ -129,7 +129,7 @@ AreNew-push kinds drafts k d new typed_is no_rows none =
       ];
     }
 
-pub AreNew-next : (kinds : List FieldKind) (drafts : List Draft) (n : ℕ) (k none : FieldKind) (d : Draft) → AreNew (take n kinds) drafts → is_typed k d.typed ≡ true → d.held.items ≡ [] → typed_len d.typed ≡ 0 → n < length kinds → k ≡ get_or kinds n none →
+pub AreNew-next : (kinds : List FieldKind) (drafts : List Draft) (n : ℕ) (k none : FieldKind) (d : Draft) → AreNew (take n kinds) drafts → is_typed k d.typed ≡ true → d.held ≡ [] → typed_len d.typed ≡ 0 → n < length kinds → k ≡ get_or kinds n none →
     AreNew (take (n + 1) kinds) (drafts ++ d ∷ [])
 AreNew-next kinds drafts n k none d new typed_is no_rows no_values below is =
     subst (λ (ks : List FieldKind). AreNew ks (drafts ++ d ∷ [])) (sym (take-next kinds n k below (is ∙ get_or-any kinds n none k below))) (AreNew-push (take n kinds) drafts k d new typed_is no_rows no_values)

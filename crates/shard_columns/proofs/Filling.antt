@@ -44,7 +44,7 @@ use Rattle.shard_columns.proofs.Storing.{Keeps, Shows-before, map-take}
 use Rattle.std.proofs.lemmas.List.Sums.{sum_by-take-le}
 use Rattle.agg_model.specs.declared.mapping.FieldKind.TheVariants.{Keyword}
 
-IsShaped-empty : (d : Draft) → d.held.items ≡ [] → IsShaped 0 d
+IsShaped-empty : (d : Draft) → d.held ≡ [] → IsShaped 0 d
 unfolding WithinReach
 IsShaped-empty d none = record {
   rising = subst (λ (hs : List Held). IsStrictlyIncreasing (map (λ h. h.row) hs)) (sym none) (λ k low. absurd (omega (arith, low)));

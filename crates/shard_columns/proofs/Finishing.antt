@@ -50,23 +50,16 @@ pub spread-next : (hs : List Held) (k : ℕ) (none : Held) (now : List Span) (n 
 spread-next hs k none now n rise below inside so_far = spread-more hs k (get_or hs k none) now n rise below (get_or-any hs k none (get_or hs k none) below) inside so_far
 
 module _ (ranks : List ℕ) (rows : ℕ) (d : Draft) (typed : Typed) (shaped : IsShaped rows d) (are : AreRankedAll ranks d.typed typed) where
-  finished-by : (s : Spans) → Rises s → ((n : ℕ) → span_of s n ≡ span_in d.held.items n) → IsFinished ranks d (record { spans = s; typed = typed })
+  pub finished-by : (s : Spans) → Rises s → ((n : ℕ) → span_of s n ≡ span_in d.held n) → IsFinished ranks d (record { spans = s; typed = typed })
   finished-by s rises same = record {
     sound = record {
       rising = rises;
-      within = λ n. (let part = span-part (typed_len d.typed) d.held.items n shaped.within in let size = are.size in
+      within = λ n. (let part = span-part (typed_len d.typed) d.held n shaped.within in let size = are.size in
           (omega (arith, part.0, ap (λ (x : Span). x.start) (same n), ap (λ (x : Span). x.end) (same n)), omega (arith, part.1, size, ap (λ (x : Span). x.end) (same n))));
     };
     kind = are.kind;
-    values = λ show n. ap (λ (x : Span). cut (scalars show typed) x) (same n) ∙ ap (λ (xs : List Scalar). cut xs (span_in d.held.items n)) (are.same show);
+    values = λ show n. ap (λ (x : Span). cut (scalars show typed) x) (same n) ∙ ap (λ (xs : List Scalar). cut xs (span_in d.held n)) (are.same show);
   }
-
-  pub finished-some : (held : Vec Held Global) → held ≡ d.held → IsFinished ranks d (record { spans = spans.OfSome held; typed = typed })
-  finished-some held is =
-      finished-by (spans.OfSome held) (subst (λ (hs : Vec Held Global). IsStrictlyIncreasing (map (λ h. h.row) hs.items)) (sym is) shaped.rising) (λ n. ap (λ (hs : Vec Held Global). span_in hs.items n) is)
-
-  pub finished-each : (each : Vec Span Global) → ((n : ℕ) → get_or each.items n no_span ≡ span_in d.held.items n) → IsFinished ranks d (record { spans = spans.OfEach each; typed = typed })
-  finished-each each same = finished-by (spans.OfEach each) tt same
 
 pub slice_get-between : {X : Type 0} (xs ys : List X) (x : X) → slice_get (xs ++ x ∷ ys) (length xs) ≡ Some x
 slice_get-between [] ys x = refl

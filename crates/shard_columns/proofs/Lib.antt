@@ -10,6 +10,7 @@ pub mod Filling
 pub mod Growing
 pub mod Presenting
 pub mod Counting
+pub mod OneEach
 pub mod Ascending
 pub mod Noting
 pub mod Ranking

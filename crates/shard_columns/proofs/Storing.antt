@@ -145,10 +145,10 @@ find-last [] h n none same = find-one n h None (eqb h.row n) refl same
 find-last (g ∷ hs) h n none same = find-later (eqb g.row n) g h (find (λ (h : Held). eqb h.row n) hs) (find (λ (h : Held). eqb h.row n) (hs ++ h ∷ [])) none (λ e. find-last hs h n e same)
 
 -- a row that is not there yet has nothing
-pub find-fresh : (rows : ℕ) (d : Draft) → IsShaped rows d → (n : ℕ) → rows ≤ n → find (λ (h : Held). eqb h.row n) d.held.items ≡ None
+pub find-fresh : (rows : ℕ) (d : Draft) → IsShaped rows d → (n : ℕ) → rows ≤ n → find (λ (h : Held). eqb h.row n) d.held ≡ None
 find-fresh rows d shaped n past =
     let h : Held = record { row = 0; span = no_span } in
-    find-none d.held.items n h (λ k below same. let low = shaped.below k h below in absurd (omega (arith, low, same, past)))
+    find-none d.held n h (λ k below same. let low = shaped.below k h below in absurd (omega (arith, low, same, past)))
 
 pub draft-fresh : (show : ℕ → Scalar) (rows : ℕ) (d : Draft) → IsShaped rows d → (n : ℕ) → rows ≤ n → draft_values show d n ≡ []
 draft-fresh show rows d shaped n past = ap (λ (o : Option Held). cut (scalars show d.typed) (option_map_or (λ h. h.span) o no_span)) (find-fresh rows d shaped n past)
@@ -162,10 +162,10 @@ module _ (numbers : WordNumbers) (field row : ℕ) (old new : Draft) (values : L
   unfolding last
   draft-other show rows n shows shaped other =
       let before = scalars (show field) old.typed in
-      let span : span_in new.held.items n ≡ span_in old.held.items n =
-      ap (λ (hs : List Held). span_in hs n) adds.held ∙ ap (λ (o : Option Held). option_map_or (λ h. h.span) o no_span) (find-other old.held.items last n (λ same. other (sym same))) in
-      let part = span-part (typed_len old.typed) old.held.items n shaped.within in
-      let s = span_in old.held.items n in
+      let span : span_in new.held n ≡ span_in old.held n =
+      ap (λ (hs : List Held). span_in hs n) adds.held ∙ ap (λ (o : Option Held). option_map_or (λ h. h.span) o no_span) (find-other old.held last n (λ same. other (sym same))) in
+      let part = span-part (typed_len old.typed) old.held n shaped.within in
+      let s = span_in old.held n in
       ap (λ (t : Span). cut (scalars (show field) new.typed) t) span
       ∙ (ap (λ (xs : List Scalar). cut xs s) (adds.typed.shown show shows)
       ∙ slice_range-stays before values s.start s.end (let size = scalars-len (show field) old.typed in omega (arith, size, part.1)))
@@ -176,8 +176,8 @@ module _ (numbers : WordNumbers) (field row : ℕ) (old new : Draft) (values : L
   draft-here show shows shaped =
       let before = scalars (show field) old.typed in
       let size = scalars-len (show field) old.typed in
-      let span : span_in new.held.items row ≡ last.span =
-      ap (λ (hs : List Held). span_in hs row) adds.held ∙ ap (λ (o : Option Held). option_map_or (λ h. h.span) o no_span) (find-last old.held.items last row (find-fresh row old shaped row (omega arith)) refl) in
+      let span : span_in new.held row ≡ last.span =
+      ap (λ (hs : List Held). span_in hs row) adds.held ∙ ap (λ (o : Option Held). option_map_or (λ h. h.span) o no_span) (find-last old.held last row (find-fresh row old shaped row (omega arith)) refl) in
       ap (λ (t : Span). cut (scalars (show field) new.typed) t) span
       ∙ (ap (λ (xs : List Scalar). slice_range xs (typed_len old.typed) (typed_len new.typed)) (adds.typed.shown show shows)
       ∙ (ap (λ (k : ℕ). slice_range (before ++ values) k (typed_len new.typed)) (sym size)
@@ -201,7 +201,7 @@ module _ (numbers : WordNumbers) (field row : ℕ) (old new : Draft) (values : L
   pub IsShaped-push : IsShaped row old → IsShaped (row + 1) new
   unfolding last
   IsShaped-push shaped =
-      let hs = old.held.items in
+      let hs = old.held in
       let rows = map (λ (h : Held). h.row) hs in
       let grown = adds.typed.grown in
       let size = length-map hs (λ (h : Held). h.row) in

@@ -14,6 +14,7 @@ use Rattle.shard_columns.specs.Values.{cut, span_of, typed_len, is_typed, ranked
 
 -- few rows ascend
 abbrev pub Rises : Spans → Type 0
+Rises (spans.OneEach count) = Unit {0}
 Rises (spans.OfEach each) = Unit {0}
 Rises (spans.OfSome held) = IsStrictlyIncreasing (map (λ h. h.row) held.items)
 

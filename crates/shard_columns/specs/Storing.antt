@@ -20,7 +20,7 @@ pub record AddsTyped (numbers : WordNumbers) (field : ℕ) (old new : Typed) (va
 
 -- so are those of a row
 pub record AddsHeld (numbers : WordNumbers) (field : ℕ) (old new : Draft) (row : ℕ) (values : List Scalar) : Type 0 where
-  pub held : new.held.items ≡ old.held.items ++ record { row = row; span = record { start = typed_len old.typed; end = typed_len new.typed } } ∷ []
+  pub held : new.held ≡ old.held ++ record { row = row; span = record { start = typed_len old.typed; end = typed_len new.typed } } ∷ []
   pub typed : AddsTyped numbers field old.typed new.typed values
 
 -- the values of fields of these kinds
@@ -30,7 +30,7 @@ pub record HasKinds (kinds : List FieldKind) (drafts : Drafts) : Type 0 where
 -- nothing is held
 pub record IsEmpty (drafts : Drafts) : Type 0 where
   pub count : drafts.count ≡ 0
-  pub held : (f : ℕ) (d : Draft) → slice_get drafts.columns.items f ≡ Some d → d.held.items ≡ []
+  pub held : (f : ℕ) (d : Draft) → slice_get drafts.columns.items f ≡ Some d → d.held ≡ []
   pub typed : (f : ℕ) (d : Draft) → slice_get drafts.columns.items f ≡ Some d → typed_len d.typed ≡ 0
 
 -- the values of each field are of its type

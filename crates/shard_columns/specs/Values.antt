@@ -1,5 +1,5 @@
 -- Values in flat arrays, one for each field, with the spans of the rows that have any.
-use Rattle.std.specs.Prelude.{◌≡◌, ℕ, zero, suc, ◌+◌, ◌-◌, pos, ◌<◌, ◌≤◌, Bool, true, false, List, [], ◌∷◌, ◌++◌, map, length, slice_index_or, slice_range, Contains, find, flat_map, if◌then◌else◌, ◌==◌, slice_get, sum_by, nat_le}
+use Rattle.std.specs.Prelude.{◌≡◌, ℕ, zero, suc, ◌+◌, ◌-◌, pos, ◌<◌, ◌≤◌, Bool, true, false, List, [], ◌∷◌, ◌++◌, map, length, slice_index_or, slice_range, Contains, find, flat_map, if◌then◌else◌, ◌==◌, slice_get, sum_by, nat_le, nat_lt}
 use Rattle.std.specs.Option.{option_map_or}
 use Rattle.std.specs.List.{range_with_len}
 use Rattle.std.specs.List.Sorted.{IsStrictlyIncreasing}
@@ -9,6 +9,7 @@ use Rattle.agg_model.specs.declared.row.Scalar.{Scalar}
 use Rattle.agg_model.specs.declared.row.Scalar.TheVariants as scalar
 use Rattle.agg_model.specs.declared.row.FieldValues.{FieldValues}
 use Rattle.agg_evaluation.specs.Ceiling.{greatest_of}
+use Rattle.shard_columns.specs.Ones.{one_span}
 use Rattle.shard_columns.specs.declared.values.Typed.{Typed}
 use Rattle.shard_columns.specs.declared.values.Typed.TheVariants as typed
 use Rattle.shard_columns.specs.declared.values.Span.{Span}
@@ -71,6 +72,7 @@ abbrev pub span_in : List Held → ℕ → Span
 span_in held row = option_map_or (λ h. h.span) (find (λ h. h.row == row) held) no_span
 
 abbrev pub span_of : Spans → ℕ → Span
+span_of (spans.OneEach count) row = if nat_lt row count then one_span row else no_span
 span_of (spans.OfEach each) row = slice_index_or each.items row no_span
 span_of (spans.OfSome held) row = span_in held.items row
 
@@ -80,11 +82,11 @@ held_count h = h.span.end - h.span.start
 
 -- the most that one row has
 abbrev pub most_held : Draft → ℕ
-most_held d = greatest_of (map held_count d.held.items)
+most_held d = greatest_of (map held_count d.held)
 
 -- the values of a row
 abbrev pub draft_values : (ℕ → Scalar) → Draft → ℕ → List Scalar
-draft_values show d row = cut (scalars show d.typed) (span_in d.held.items row)
+draft_values show d row = cut (scalars show d.typed) (span_in d.held row)
 
 abbrev pub column_values : (ℕ → Scalar) → Column → ℕ → List Scalar
 column_values show c row = cut (scalars show c.typed) (span_of c.spans row)
@@ -148,9 +150,9 @@ WithinReach n (h ∷ hs) = IsPart n h.span × WithinReach n hs
 
 -- rows ascend below a number, and their values lie within the array
 pub record IsShaped (rows : ℕ) (d : Draft) : Type 0 where
-  pub rising : IsStrictlyIncreasing (map (λ h. h.row) d.held.items)
-  pub below : (k : ℕ) (h : Held) → k < length d.held.items → (slice_index_or d.held.items k h).row < rows
-  pub within : WithinReach (typed_len d.typed) d.held.items
+  pub rising : IsStrictlyIncreasing (map (λ h. h.row) d.held)
+  pub below : (k : ℕ) (h : Held) → k < length d.held → (slice_index_or d.held k h).row < rows
+  pub within : WithinReach (typed_len d.typed) d.held
 
 -- how many values these fields have, all together
 abbrev pub total_count : List FieldValues → ℕ

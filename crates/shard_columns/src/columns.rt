@@ -1,17 +1,23 @@
 // The finished columns: where the values of each row lie, and how they are lent.
-ghost use Rattle.std.specs.Prelude.{◌≡◌, ◌<◌, ℕ, IfOk, IfSome, IfNone, Some, None, length, map, slice_get, slice_index_or};
+ghost use Rattle.std.specs.Prelude.{◌≡◌, ◌<◌, nat_lt, if◌then◌else◌, ℕ, IfOk, IfSome, IfNone, Some, None, length, map, slice_get, slice_index_or};
 ghost use Rattle.std.specs.List.Sorted.{IsStrictlyIncreasing};
+ghost use Rattle.shard_columns.specs.Ones.{one_span as one_span_value};
 ghost use Rattle.shard_columns.specs.Values.{span_in, span_of, no_span as no_span_value, IsShaped};
-ghost use Rattle.shard_columns.specs.Columnar.{IsColumn, IsFinished, AreFinished, AreShapedAll, wholes_part, ordinals_part, flags_part};
+ghost use Rattle.shard_columns.specs.Columnar.{IsColumn, IsFinished, AreFinished, Rises, AreShapedAll, wholes_part, ordinals_part, flags_part};
 
+use crate::held_rows::HeldRows;
 use crate::search::find_held;
 use crate::values::{Draft, Held, Span, Typed, rank_all};
 use std::alloc::{AllocError, Global};
 
-/// Where the values of rows are: a span for each row, or for the few rows that have any, ascending by row.
+/// Where the values of rows are.
 #[derive(Drop)]
 pub enum Spans {
+    /// So many rows, from 0 on, have one value each, at the place of the row.
+    OneEach(u32),
+    /// A span for each row.
     OfEach(Vec<Span>),
+    /// A span for each of the few rows that have any, ascending by row.
     OfSome(Vec<Held>),
 }
 
@@ -26,6 +32,20 @@ fn no_span() -> Span
     ensures { result ≡ no_span_value }
 {
     Span { start: 0, end: 0 }
+}
+
+// Where the value of a row is, if it is among so many that have one each.
+fn one_span(row: u32, count: u32) -> Span
+    ensures { result ≡ if nat_lt row count then one_span_value row else no_span_value }
+{
+    if row < count {
+        Span {
+            start: row,
+            end: row + 1,
+        }
+    } else {
+        no_span()
+    }
 }
 
 fn no_spans(alloc: Global, rows: usize) -> Result<Vec<Span>, AllocError>
@@ -55,17 +75,30 @@ fn spread(alloc: Global, held: &[Held], rows: usize) -> Result<Vec<Span>, AllocE
 // A span for each row takes at most 64 bytes for each row that has values.
 const ROWS_FOR_EACH: usize = 8;
 
+// Where the values of so many rows are.
+fn spans_of(alloc: Global, held: HeldRows, rows: usize) -> Result<Spans, AllocError>
+    requires rise { IsStrictlyIncreasing (map (λ h. h.row) held) }
+    requires below { (k : ℕ) (d : _) → k < length held → (slice_index_or held k d).row < rows }
+    ensures rises { IfOk result Rises }
+    ensures spans { IfOk result (λ spans. (n : ℕ) → span_of spans n ≡ span_in held n) }
+{
+    if let Some(count) = held.ones() {
+        return Ok(Spans::OneEach(count));
+    }
+    let held = held.into_vec(alloc)?;
+    if held.len() < rows / ROWS_FOR_EACH {
+        return Ok(Spans::OfSome(held));
+    }
+    Ok(Spans::OfEach(spread(alloc, held.as_slice(), rows)?))
+}
+
 fn finished(alloc: Global, draft: Draft, ranks: &[usize], rows: usize) -> Result<Column, AllocError>
     requires { IsShaped rows draft }
     ensures { IfOk result (λ column. IsFinished ranks.now draft column) }
 {
     let Draft { held, mut typed } = draft;
     rank_all(&mut typed, ranks);
-    let spans = if held.len() < rows / ROWS_FOR_EACH {
-        Spans::OfSome(held)
-    } else {
-        Spans::OfEach(spread(alloc, held.as_slice(), rows)?)
-    };
+    let spans = spans_of(alloc, held, rows)?;
     Ok(Column { spans, typed })
 }
 
@@ -100,6 +133,7 @@ pub fn span_at(column: &Column, row: u32) -> Span
     ensures { result ≡ span_of column.now.spans row }
 {
     match &column.spans {
+        Spans::OneEach(count) => one_span(row, *count),
         Spans::OfEach(spans) => match spans.get(row as usize) {
             Some(span) => *span,
             None => no_span(),

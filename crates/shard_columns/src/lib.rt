@@ -5,6 +5,7 @@
 mod columns;
 mod contexts;
 mod draft;
+mod held_rows;
 mod ids;
 mod index;
 mod layout;

@@ -5,10 +5,11 @@ ghost use Rattle.std.specs.List.Sorted.{IsStrictlyIncreasing};
 ghost use Rattle.agg_model.specs.declared.row.Scalar.TheVariants.{Word};
 ghost use Rattle.shard_columns.specs.Lent.{wholes_in, flags_in};
 ghost use Rattle.agg_evaluation.specs.Ceiling.{greatest_of};
-ghost use Rattle.shard_columns.specs.Values.{Reader, words_in, words_for, FieldsBelow, total_count, typed_len, is_typed, is_taken, ranked, AreRankedAll, held_count, most_held};
+ghost use Rattle.shard_columns.specs.Values.{Reader, words_in, words_for, FieldsBelow, total_count, typed_len, is_typed, is_taken, ranked, AreRankedAll, most_held};
 ghost use Rattle.shard_columns.specs.Words.{of_field, IsNumbered, Notes, Shows};
 ghost use Rattle.shard_columns.specs.Storing.{HasKinds, IsEmpty, AddsTyped, AddsHeld, AreTaken, AreBounded, AreShaped, AddsRowValues};
 
+use crate::held_rows::HeldRows;
 use crate::words::WordNumbers;
 use agg_model::{FieldKind, FieldValues, List, Scalar};
 use std::alloc::{AllocError, Global};
@@ -38,7 +39,7 @@ pub struct Held {
 /// The values of one field so far. Words have numbers for now.
 #[derive(Drop)]
 pub struct Draft {
-    pub held: Vec<Held>,
+    pub held: HeldRows,
     pub typed: Typed,
 }
 
@@ -175,7 +176,7 @@ impl Drafts {
         let mut columns = Vec::new(alloc);
         for kind in kinds {
             columns.push(Draft {
-                held: Vec::new(alloc),
+                held: HeldRows::new(alloc),
                 typed: no_values(alloc, *kind),
             })?;
         }
@@ -208,24 +209,13 @@ impl Drafts {
     }
 }
 
-// The greatest number of values of one of these rows, 0 where there is none.
-fn most_of(held: &[Held]) -> u32
-    ensures { result ≡ greatest_of (map held_count held.now) }
-{
-    let mut most = 0;
-    for one in held {
-        most = most.max(one.span.end.saturating_sub(one.span.start));
-    }
-    most
-}
-
 /// For each field the greatest number of values that one row has.
 pub fn most_of_each(alloc: Global, drafts: &[Draft]) -> Result<Vec<u32>, AllocError>
     ensures { IfOk result (λ all. all.items ≡ map most_held drafts.now) }
 {
     let mut all = Vec::with_capacity(alloc, drafts.len())?;
     for draft in drafts {
-        all.push(most_of(draft.held.as_slice()))?;
+        all.push(draft.held.most())?;
     }
     Ok(all)
 }

@@ -3,7 +3,7 @@ use Rattle.shard_columns.specs.Values.{held_count, no_span}
 use Rattle.shard_columns.specs.declared.values.Held.{Held}
 use Rattle.shard_columns.proofs.Counting.{greatest-more}
 use Rattle.shard_columns.proofs.Storing.{get_or-any}
-use Rattle.shard_columns.proofs.values.most_of.Goals as goal
+use Rattle.shard_columns.proofs.held_rows.most_of.Goals as goal
 
 pub loop-one-preserved : goal.loop-one-preserved
 loop-one-preserved c =
