@@ -11,6 +11,7 @@ pub mod Growing
 pub mod Presenting
 pub mod Counting
 pub mod OneEach
+pub mod EachRoot
 pub mod Ascending
 pub mod Noting
 pub mod Ranking

@@ -83,12 +83,12 @@ T-same : (m n : ℕ) → m ≡ n → T (eqb m n)
 T-same m n e = subst T (sym (eq-eqb m n e)) tt
 
 module _ (s : Inside) (v : Columns) (view : columns_of s ≡ v) (sound : IsSound s) where
-  place-is : (n : ℕ) (e : Entry) → n < length v.rows → e ≡ get_or s.rows.items n e → (row_of v.rows n).place ≡ place_at (take n v.rows) e.document e.origin
+  place-is : (n : ℕ) (e : Entry) → n < length v.rows → e ≡ get_or s.rows n e → (row_of v.rows n).place ≡ place_at (take n v.rows) e.document e.origin
   place-is n e below is =
       let values = vals s in
-      let pairs = zip s.rows.items values in
+      let pairs = zip s.rows values in
       let d : Entry × List FieldValues = (e, []) in
-      let firsts : map (λ (p : Entry × List FieldValues). p.0) pairs ≡ s.rows.items = zip-first (λ (e : Entry). e) s.rows.items values (aligned s) ∙ map-itself s.rows.items in
+      let firsts : map (λ (p : Entry × List FieldValues). p.0) pairs ≡ s.rows = zip-first (λ (e : Entry). e) s.rows values (aligned s) ∙ map-itself s.rows in
       let n_pairs : n < length pairs = omega (arith, in-range s v view sound n below, ap length firsts, length-map pairs (λ (p : Entry × List FieldValues). p.0)) in
       let entry_is : (get_or pairs n d).0 ≡ e = sym (get_or-map (λ (p : Entry × List FieldValues). p.0) pairs n d e n_pairs) ∙ (ap (λ (es : List Entry). get_or es n e) firsts ∙ sym is) in
       let at = placed-at s.ids [] pairs n d n_pairs in
@@ -106,7 +106,7 @@ module _ (s : Inside) (v : Columns) (view : columns_of s ≡ v) (sound : IsSound
   odd-at = subst (λ (rs : List PlacedRow). (n : ℕ) → n < length rs → length (row_of rs n).place % 2 ≡ 1) (rows-are s v view sound) sound.odd
 
   -- the entry of a nested row names the row around it
-  pub around : (n : ℕ) (e : Entry) (p path number : ℕ) → n < length v.rows → e ≡ get_or s.rows.items n e → e.origin ≡ Nested p path number →
+  pub around : (n : ℕ) (e : Entry) (p path number : ℕ) → n < length v.rows → e ≡ get_or s.rows n e → e.origin ≡ Nested p path number →
       (p < n) × ((row_of v.rows n).place ≡ (row_of v.rows p).place ++ path ∷ number ∷ [])
   around n e p path number below is origin =
       let place : (row_of v.rows n).place ≡ (row_of (take n v.rows) p).place ++ path ∷ number ∷ [] = place-is n e below is ∙ ap (place_at (take n v.rows) e.document) origin in
@@ -129,7 +129,7 @@ module _ (s : Inside) (v : Columns) (view : columns_of s ≡ v) (sound : IsSound
       let b = leb_yes down in
       omega (arith, a, b)
 
-  pub enclosed-nested : (n : ℕ) (e : Entry) (p path number : ℕ) → n < length v.rows → e ≡ get_or s.rows.items n e → e.origin ≡ Nested p path number →
+  pub enclosed-nested : (n : ℕ) (e : Entry) (p path number : ℕ) → n < length v.rows → e ≡ get_or s.rows n e → e.origin ≡ Nested p path number →
       (m : ℕ) → m < length v.rows → is_within (row_of v.rows n) (row_of v.rows m) ≡ (eqb m n || is_within (row_of v.rows p) (row_of v.rows m))
   enclosed-nested n e p path number below is origin m m_below =
       let known = around n e p path number below is origin in
@@ -150,7 +150,7 @@ module _ (s : Inside) (v : Columns) (view : columns_of s ≡ v) (sound : IsSound
         | inr t ↦ begins-extended outer (path ∷ number ∷ []) x t
       ]))
 
-  pub enclosed-root : (n : ℕ) (e : Entry) → n < length v.rows → e ≡ get_or s.rows.items n e → e.origin ≡ Root →
+  pub enclosed-root : (n : ℕ) (e : Entry) → n < length v.rows → e ≡ get_or s.rows n e → e.origin ≡ Root →
       (m : ℕ) → m < length v.rows → is_within (row_of v.rows n) (row_of v.rows m) ≡ (eqb m n || false)
   enclosed-root n e below is origin m m_below =
       let place : (row_of v.rows n).place ≡ e.document ∷ [] = place-is n e below is ∙ ap (place_at (take n v.rows) e.document) origin in

@@ -88,7 +88,7 @@ roots-push documents d laid added ends more count roots count_is adds more_is gr
     (subst (λ (ls : List Laid). AddsRow ls (laid ++ added) d.root (record { document = count; origin = Root })) whole (adds laid (ap length whole ∙ aligned))) in
     RootsLaid-push laid (laid ++ added) ends more documents d roots here more_is (omega (arith, aligned, grown, length-append laid added))
 
-module _ (m : Mapping) (documents : List Document) (d : Document) (old : ShardDraft) (added : List Laid) (more : List ℕ) (count first : ℕ) (held : IsDraftOf m documents old) (admits : Admits m documents d) (count_is : count ≡ length documents) (first_is : first ≡ length old.rows.items)
+module _ (m : Mapping) (documents : List Document) (d : Document) (old : ShardDraft) (added : List Laid) (more : List ℕ) (count first : ℕ) (held : IsDraftOf m documents old) (admits : Admits m documents d) (count_is : count ≡ length documents) (first_is : first ≡ length old.rows)
     (adds : AddsRowBehind (length old.ends.items) [] added d.root (record { document = count; origin = Root })) (more_is : more ≡ old.ends.items ++ row_ends d.root (length old.ends.items)) (grown : length added + length old.ends.items ≡ length {A = Laid} [] + length more) where
   roots : RootsLaid (held.laid ++ added) more (documents ++ d ∷ [])
   roots = roots-push documents d held.laid added old.ends.items more count held.roots count_is adds more_is grown
@@ -109,7 +109,7 @@ module _ (m : Mapping) (documents : List Document) (d : Document) (old : ShardDr
   }
 
   -- the draft with one more document
-  pub draft-push : (new : ShardDraft) → new.kinds.items ≡ old.kinds.items → new.ends.items ≡ more → new.rows.items ≡ old.rows.items ++ entries_of_laid added → new.ids ≡ old.ids ++ d.id ∷ [] →
+  pub draft-push : (new : ShardDraft) → new.kinds.items ≡ old.kinds.items → new.ends.items ≡ more → new.rows ≡ old.rows ++ entries_of_laid added → new.ids ≡ old.ids ++ d.id ∷ [] →
       HoldsBehind first added old.numbers old.drafts new.numbers new.drafts → IsDraftOf m (documents ++ d ∷ []) new
   draft-push new kinds ends rows ids holds = record {
     few = held.few;
@@ -133,13 +133,13 @@ storable-draft m documents draft held =
     subst (λ (ks : List FieldKind). AreStorable ks held.laid) (sym held.kinds_are)
     (storable-laid m documents held.laid (documents_given m documents held.few held.light held.fit) held.fit (flat-draft m documents draft held))
 
-pub count-laid : (m : Mapping) (documents : List Document) (draft : ShardDraft) (held : IsDraftOf m documents draft) → length draft.rows.items ≡ length held.laid
+pub count-laid : (m : Mapping) (documents : List Document) (draft : ShardDraft) (held : IsDraftOf m documents draft) → length draft.rows ≡ length held.laid
 count-laid m documents draft held = ap length held.entries ∙ length-map held.laid (λ (l : Laid). l.entry)
 
 pub rows-draft : (m : Mapping) (documents : List Document) (draft : ShardDraft) (words : List Words) (columns : List Column) (held : IsDraftOf m documents draft) → IsStoredFrom draft.numbers draft.drafts words columns →
-    placed draft.ids [] (zip draft.rows.items (row_values (by_words words) columns (length draft.rows.items))) ≡ rows_of_documents documents
+    placed draft.ids [] (zip draft.rows (row_values (by_words words) columns (length draft.rows))) ≡ rows_of_documents documents
 rows-draft m documents draft words columns held stored =
-    let entries = draft.rows.items in
+    let entries = draft.rows in
     let values = row_values (by_words words) columns (length entries) in
     let values_are : values ≡ values_of_laid held.laid =
     ap (row_values (by_words words) columns) (count-laid m documents draft held) ∙ stored.rows_are draft.kinds.items held.laid held.holds (storable-draft m documents draft held) in

@@ -72,23 +72,23 @@ child-row rows context outer place ns are there =
     )
 
 abbrev pub vals : Inside → List (List FieldValues)
-vals s = row_values (by_words s.words.items) s.columns.items (length s.rows.items)
+vals s = row_values (by_words s.words.items) s.columns.items (length s.rows)
 
-pub aligned : (s : Inside) → length (vals s) ≡ length s.rows.items
-aligned s = length-map (range_with_len 0 (length s.rows.items)) (λ n. present_from (λ f. held_values (by_words s.words.items) s.columns.items f n) 0 (length s.columns.items)) ∙ range-length 0 (length s.rows.items)
+pub aligned : (s : Inside) → length (vals s) ≡ length s.rows
+aligned s = length-map (range_with_len 0 (length s.rows)) (λ n. present_from (λ f. held_values (by_words s.words.items) s.columns.items f n) 0 (length s.columns.items)) ∙ range-length 0 (length s.rows)
 
 module _ (s : Inside) (v : Columns) (view : columns_of s ≡ v) (sound : IsSound s) where
   pub rows-are : placed_rows s ≡ v.rows
   rows-are = ap (λ (c : Columns). c.rows) view
 
-  pub len-is : length s.rows.items ≡ length v.rows
-  len-is = sym (size-is s.ids s.rows.items (vals s) (aligned s)) ∙ ap length rows-are
+  pub len-is : length s.rows ≡ length v.rows
+  len-is = sym (size-is s.ids s.rows (vals s) (aligned s)) ∙ ap length rows-are
 
-  pub in-range : (n : ℕ) → n < length v.rows → n < length s.rows.items
+  pub in-range : (n : ℕ) → n < length v.rows → n < length s.rows
   in-range n below = subst (λ (k : ℕ). n < k) (sym len-is) below
 
-  pub context-is : (n : ℕ) (e : Entry) → n < length v.rows → e ≡ get_or s.rows.items n e → (row_of v.rows n).context ≡ context_of e.origin
-  context-is n e below is = ap (λ (rs : List PlacedRow). (row_of rs n).context) (sym rows-are) ∙ context-at s.ids s.rows.items (vals s) n e (aligned s) (in-range n below) is
+  pub context-is : (n : ℕ) (e : Entry) → n < length v.rows → e ≡ get_or s.rows n e → (row_of v.rows n).context ≡ context_of e.origin
+  context-is n e below is = ap (λ (rs : List PlacedRow). (row_of rs n).context) (sym rows-are) ∙ context-at s.ids s.rows (vals s) n e (aligned s) (in-range n below) is
 
   pub most-is : (field : ℕ) → get_or s.most.items field 0 ≡ most_values field v.rows
   most-is field = sound.most field ∙ ap (most_values field) rows-are
@@ -99,26 +99,26 @@ module _ (s : Inside) (v : Columns) (view : columns_of s ≡ v) (sound : IsSound
   pub context-small : (n : ℕ) → (row_of v.rows n).context ≤ 1000
   context-small n = omega (arith, ap (λ (rs : List PlacedRow). (row_of rs n).context) rows-are, sound.contexts n, sound.few_paths)
 
-  pub id-is : (n : ℕ) (e : Entry) → n < length v.rows → e ≡ get_or s.rows.items n e → (row_of v.rows n).id ≡ get_or s.ids e.document []
-  id-is n e below is = ap (λ (rs : List PlacedRow). (row_of rs n).id) (sym rows-are) ∙ id-at s.ids s.rows.items (vals s) n e (aligned s) (in-range n below) is
+  pub id-is : (n : ℕ) (e : Entry) → n < length v.rows → e ≡ get_or s.rows n e → (row_of v.rows n).id ≡ get_or s.ids e.document []
+  id-is n e below is = ap (λ (rs : List PlacedRow). (row_of rs n).id) (sym rows-are) ∙ id-at s.ids s.rows (vals s) n e (aligned s) (in-range n below) is
 
-  same-contexts : map (λ r. r.context) v.rows ≡ map (λ e. context_of e.origin) s.rows.items
-  same-contexts = ap (map (λ (r : PlacedRow). r.context)) (sym rows-are) ∙ contexts-are s.ids s.rows.items (vals s) (aligned s)
+  same-contexts : map (λ r. r.context) v.rows ≡ map (λ e. context_of e.origin) s.rows
+  same-contexts = ap (map (λ (r : PlacedRow). r.context)) (sym rows-are) ∙ contexts-are s.ids s.rows (vals s) (aligned s)
 
   pub enclosed-are : AreEnclosed v.rows s.ends.items
   enclosed-are = subst (λ (rs : List PlacedRow). AreEnclosed rs s.ends.items) rows-are sound.enclosed
 
-  pub numbers-ascend : (context : ℕ) (ns : List ℕ) → ns ≡ numbers_at context 0 s.rows.items → IsStrictlyIncreasing ns
-  numbers-ascend context ns are = subst IsStrictlyIncreasing (sym are) (numbers-rise context 0 s.rows.items)
+  pub numbers-ascend : (context : ℕ) (ns : List ℕ) → ns ≡ numbers_at context 0 s.rows → IsStrictlyIncreasing ns
+  numbers-ascend context ns are = subst IsStrictlyIncreasing (sym are) (numbers-rise context 0 s.rows)
 
   -- the rows of a context within a row, by their numbers
-  pub beneath-are : (context n : ℕ) (ns : List ℕ) → n < length v.rows → ns ≡ numbers_at context 0 s.rows.items →
+  pub beneath-are : (context n : ℕ) (ns : List ℕ) → n < length v.rows → ns ≡ numbers_at context 0 s.rows →
       beneath v.rows context (row_of v.rows n) ≡ map (row_of v.rows) (filter (λ j. nat_le n j && nat_lt j (get_or s.ends.items n 0)) ns)
   beneath-are context n ns below are =
-      rows-beneath v.rows context (row_of v.rows n) (λ j. nat_le n j && nat_lt j (get_or s.ends.items n 0)) 0 [] v.rows s.rows.items (λ j j_below. enclosed-are.within n j below j_below) refl refl same-contexts
+      rows-beneath v.rows context (row_of v.rows n) (λ j. nat_le n j && nat_lt j (get_or s.ends.items n 0)) 0 [] v.rows s.rows (λ j j_below. enclosed-are.within n j below j_below) refl refl same-contexts
       ∙ ap (λ (xs : List ℕ). map (row_of v.rows) (filter (λ j. nat_le n j && nat_lt j (get_or s.ends.items n 0)) xs)) (sym are)
 
-  module _ (context n : ℕ) (ns : List ℕ) (below : n < length v.rows) (are : ns ≡ numbers_at context 0 s.rows.items) (stop : ℕ) (stop_is : stop ≡ get_or s.ends.items n stop) (found : List ℕ)
+  module _ (context n : ℕ) (ns : List ℕ) (below : n < length v.rows) (are : ns ≡ numbers_at context 0 s.rows) (stop : ℕ) (stop_is : stop ≡ get_or s.ends.items n stop) (found : List ℕ)
       (between : found ≡ filter (λ j. nat_le n j && nat_lt j stop) ns) where
     pub children-are : map (row_of v.rows) found ≡ beneath v.rows context (row_of v.rows n)
     children-are =
@@ -128,30 +128,30 @@ module _ (s : Inside) (v : Columns) (view : columns_of s ≡ v) (sound : IsSound
     pub child-number : (k : ℕ) → k < length found → get_or found k 0 < length v.rows
     child-number k low =
         let all : (j : ℕ) → j < length ns → get_or ns j 0 < length v.rows = λ j j_low.
-        (let at = numbers-below context 0 s.rows.items j 0 (subst (λ (xs : List ℕ). j < length xs) are j_low) in
+        (let at = numbers-below context 0 s.rows j 0 (subst (λ (xs : List ℕ). j < length xs) are j_low) in
         omega (arith, at, ap (λ (xs : List ℕ). get_or xs j 0) are, len-is)) in
         subst (λ (xs : List ℕ). get_or xs k 0 < length v.rows) (sym between) (filter-below (λ j. nat_le n j && nat_lt j stop) ns (length v.rows) all k (subst (λ (xs : List ℕ). k < length xs) between low))
 
   -- the numbers that the shard keeps for a context
-  pub numbers-are : (context : ℕ) (numbers : List (List ℕ)) (ns : List ℕ) → numbers ≡ s.numbers.items → ns ≡ get_or numbers context [] → ns ≡ numbers_at context 0 s.rows.items
+  pub numbers-are : (context : ℕ) (numbers : List (List ℕ)) (ns : List ℕ) → numbers ≡ s.numbers.items → ns ≡ get_or numbers context [] → ns ≡ numbers_at context 0 s.rows
   numbers-are context numbers ns same is = is ∙ (ap (λ (xs : List (List ℕ)). get_or xs context []) same ∙ sound.numbered.numbers_are context)
 
-  module _ (ns : List ℕ) (ns_are : ns ≡ numbers_at 0 0 s.rows.items) where
+  module _ (ns : List ℕ) (ns_are : ns ≡ numbers_at 0 0 s.rows) where
     roots-are : map (row_of v.rows) ns ≡ roots v.rows
-    roots-are = ap (map (row_of v.rows)) ns_are ∙ rows-numbered v.rows 0 0 [] v.rows s.rows.items refl refl same-contexts
+    roots-are = ap (map (row_of v.rows)) ns_are ∙ rows-numbered v.rows 0 0 [] v.rows s.rows refl refl same-contexts
 
     pub roots-len : length ns ≡ length (roots v.rows)
     roots-len = sym (length-map ns (row_of v.rows)) ∙ ap length roots-are
 
     pub roots-few : length ns < 2 ^ 32
-    roots-few = omega (arith, numbers-few 0 0 s.rows.items, ap length ns_are, len-is, rows-few)
+    roots-few = omega (arith, numbers-few 0 0 s.rows, ap length ns_are, len-is, rows-few)
 
     pub root-in : (n : ℕ) → n < length (roots v.rows) → n < length ns
     root-in n below = subst (λ (k : ℕ). n < k) (sym roots-len) below
 
     pub root-number : (n : ℕ) → n < length (roots v.rows) → get_or ns n 0 < length v.rows
     root-number n below =
-        let at = numbers-below 0 0 s.rows.items n 0 (subst (λ (xs : List ℕ). n < length xs) ns_are (root-in n below)) in
+        let at = numbers-below 0 0 s.rows n 0 (subst (λ (xs : List ℕ). n < length xs) ns_are (root-in n below)) in
         omega (arith, at, ap (λ (xs : List ℕ). get_or xs n 0) ns_are, len-is)
 
     pub root-row : (n : ℕ) → n < length (roots v.rows) → slice_get (roots v.rows) n ≡ Some (row_of v.rows (get_or ns n 0))
@@ -162,12 +162,12 @@ module _ (s : Inside) (v : Columns) (view : columns_of s ≡ v) (sound : IsSound
   row-fields n below =
       let fields : ℕ → List FieldValues = λ k. present_from (λ f. held_values (by_words s.words.items) s.columns.items f k) 0 (length s.columns.items) in
       let below' : n < length (placed_rows s) = subst (λ (rs : List PlacedRow). n < length rs) (sym rows-are) below in
-      let count = length s.rows.items in
+      let count = length s.rows in
       let size = range-length 0 count in
       let low = in-range n below in
       ap (λ (rs : List PlacedRow). (row_of rs n).values) (sym rows-are)
       ∙ (sym (get_or-map (λ (r : PlacedRow). r.values) (placed_rows s) n no_row [] below')
-      ∙ (ap (λ (vs : List (List FieldValues)). get_or vs n []) (values-are s.ids s.rows.items (vals s) (aligned s))
+      ∙ (ap (λ (vs : List (List FieldValues)). get_or vs n []) (values-are s.ids s.rows (vals s) (aligned s))
       ∙ (get_or-map fields (range_with_len 0 count) n 0 [] (omega (arith, low, size)) ∙ ap fields (range-at 0 count n low ∙ (let e : 0 + n ≡ n = omega arith in e)))))
 
   pub values-held : (n field : ℕ) → n < length v.rows → values_of field (row_of v.rows n) ≡ held_values (by_words s.words.items) s.columns.items field n

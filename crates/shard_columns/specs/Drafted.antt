@@ -77,7 +77,7 @@ pub record IsDraftOf (m : Mapping) (documents : List Document) (draft : ShardDra
   pub kinds_are : draft.kinds.items ≡ map (λ f. f.kind) m.fields
   pub laid : List Laid
   pub roots : RootsLaid laid draft.ends.items documents
-  pub entries : draft.rows.items ≡ entries_of_laid laid
+  pub entries : draft.rows ≡ entries_of_laid laid
   pub ids : draft.ids ≡ ids_of documents
   pub holds : Holds draft.kinds.items laid draft.numbers draft.drafts
 

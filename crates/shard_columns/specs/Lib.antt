@@ -2,6 +2,7 @@ pub mod Layout
 pub mod Ids
 pub mod Ends
 pub mod Ones
+pub mod Roots
 pub mod Values
 pub mod Lent
 pub mod Columnar

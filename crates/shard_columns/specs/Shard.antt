@@ -19,7 +19,7 @@ use Rattle.agg_model.specs.declared.mapping.FieldKind.{FieldKind}
 use Rattle.agg_evaluation.specs.RowsWeight.{rows_weight}
 
 abbrev pub placed_rows : Inside → List PlacedRow
-placed_rows s = placed s.ids [] (zip s.rows.items (row_values (by_words s.words.items) s.columns.items (length s.rows.items)))
+placed_rows s = placed s.ids [] (zip s.rows (row_values (by_words s.words.items) s.columns.items (length s.rows)))
 
 abbrev pub columns_of : Inside → Columns
 columns_of s = record { kinds = s.kinds.items; contexts = s.contexts.items; parents = s.parents.items; rows = placed_rows s }
@@ -28,7 +28,7 @@ pub record IsSound (s : Inside) : Type 0 where
   pub columns : (f : ℕ) (c : Column) → slice_get s.columns.items f ≡ Some c → IsColumn c
   pub typed : (f : ℕ) (k : FieldKind) (c : Column) → slice_get s.kinds.items f ≡ Some k → slice_get s.columns.items f ≡ Some c → is_typed k c.typed ≡ true
   pub column_sizes : length s.columns.items ≡ length s.kinds.items
-  pub numbered : AreNumbered (length s.parents.items + 1) s.rows.items s.numbers.items
+  pub numbered : AreNumbered (length s.parents.items + 1) s.rows s.numbers.items
   pub few_paths : length s.parents.items ≤ MAX_PATHS
   pub contexts : (n : ℕ) → (row_of (placed_rows s) n).context ≤ length s.parents.items
   pub enclosed : AreEnclosed (placed_rows s) s.ends.items

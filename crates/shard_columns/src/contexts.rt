@@ -3,6 +3,7 @@ ghost use Rattle.std.specs.Prelude.{◌≡◌, ◌<◌, ◌^◌, IfOk, [], lengt
 ghost use Rattle.shard_columns.specs.Layout.{context_of};
 ghost use Rattle.shard_columns.specs.Contexts.{ContextsBelow, AreNumbered};
 
+use crate::entries::Entries;
 use crate::layout::{Entry, Origin};
 use agg_model::List;
 use std::alloc::{AllocError, Global};
@@ -31,15 +32,16 @@ fn no_numbers(alloc: Global, count: usize) -> Result<Vec<List<u32>>, AllocError>
 pub fn numbers_by_context(
     alloc: Global,
     count: usize,
-    rows: &[Entry],
+    rows: &Entries,
 ) -> Result<Vec<List<u32>>, AllocError>
     requires contexts { ContextsBelow count rows.now }
     requires few { length rows.now < 2 ^ 32 }
     ensures { IfOk result (λ numbers. AreNumbered count rows.now numbers.items) }
 {
     let mut numbers = no_numbers(alloc, count)?;
-    for (number, row) in rows.iter().enumerate() {
-        numbers[context(row)].push(number as u32)?;
+    for place in 0..rows.len() {
+        let number = place as u32;
+        numbers[context(&rows.at(number))].push(number)?;
     }
     Ok(numbers)
 }

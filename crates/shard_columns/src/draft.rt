@@ -5,6 +5,7 @@ ghost use Rattle.agg_model.specs.Contexts.{parents_before};
 ghost use Rattle.shard_columns.specs.Layout.{entries_of_laid};
 ghost use Rattle.shard_columns.specs.Drafted.{CanHold, HoldsBehind, IsDraftOf, CanTake, Takes};
 
+use crate::entries::Entries;
 use crate::ids::Ids;
 use crate::layout::{Entry, Laid, Origin, lay_row};
 use crate::values::Drafts;
@@ -18,7 +19,7 @@ use std::alloc::{AllocError, Global};
 pub struct ShardDraft {
     pub(crate) kinds: Vec<FieldKind>,
     pub(crate) ids: Ids,
-    pub(crate) rows: Vec<Entry>,
+    pub(crate) rows: Entries,
     pub(crate) ends: Vec<u32>,
     pub(crate) numbers: WordNumbers,
     pub(crate) drafts: Drafts,
@@ -46,8 +47,8 @@ fn push_values(
     Ok(())
 }
 
-fn push_entries(entries: &mut Vec<Entry>, rows: &[Laid]) -> Result<(), AllocError>
-    ensures { OnOk result (entries.new.items ≡ entries.old.items ++ entries_of_laid rows.now) }
+fn push_entries(entries: &mut Entries, rows: &[Laid]) -> Result<(), AllocError>
+    ensures { OnOk result (entries.new ≡ entries.old ++ entries_of_laid rows.now) }
 {
     for row in rows {
         entries.push(row.entry)?;
@@ -68,7 +69,7 @@ impl ShardDraft {
         Ok(ShardDraft {
             kinds,
             ids: Ids::new(alloc)?,
-            rows: Vec::new(alloc),
+            rows: Entries::new(alloc),
             ends: Vec::new(alloc),
             numbers,
             drafts,
@@ -86,7 +87,7 @@ impl ShardDraft {
             document: self.ids.len() as u32,
             origin: Origin::Root,
         };
-        let mut rows = Vec::new(*self.rows.allocator());
+        let mut rows = Vec::new(*self.ends.allocator());
         lay_row(&mut rows, &mut self.ends, &document.root, entry)?;
         let rows = rows.as_slice();
         push_values(&mut self.drafts, &mut self.numbers, first, rows)?;

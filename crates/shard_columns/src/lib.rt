@@ -5,6 +5,7 @@
 mod columns;
 mod contexts;
 mod draft;
+mod entries;
 mod held_rows;
 mod ids;
 mod index;

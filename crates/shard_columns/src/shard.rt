@@ -20,8 +20,9 @@ ghost use Rattle.shard_columns.specs.Cell.{scalar_of};
 use crate::columns::{Column, column_at, columns, flags_at, ordinals_at, span_at, wholes_at};
 use crate::contexts::{context, numbers_by_context, numbers_of};
 use crate::draft::ShardDraft;
+use crate::entries::Entries;
 use crate::ids::Ids;
-use crate::layout::{Entry, Origin};
+use crate::layout::Origin;
 use crate::search::{Part, find_word, numbers_between};
 use crate::values::{Drafts, Typed, most_of_each};
 use crate::words::{WordNumbers, all_bytes, dictionaries, longest_of_each};
@@ -38,7 +39,7 @@ pub struct Shard {
     contexts: Vec<u32>,
     parents: Vec<u32>,
     ids: Ids,
-    rows: Vec<Entry>,
+    rows: Entries,
     ends: Vec<u32>,
     numbers: Vec<List<u32>>,
     words: Vec<List<Text>>,
@@ -162,7 +163,7 @@ impl ShardDraft {
         } = self;
         let stored = store(alloc, numbers, drafts, rows.len())?;
         let nested = mapping.nested.as_slice();
-        let numbers = numbers_by_context(alloc, nested.len() + 1, rows.as_slice())?;
+        let numbers = numbers_by_context(alloc, nested.len() + 1, &rows)?;
         let contexts = contexts(alloc, mapping.fields.as_slice())?;
         let parents = parents(alloc, nested)?;
         let Stored {
@@ -243,7 +244,7 @@ impl Shard {
         requires { row < length self.now.rows }
         ensures { result ≡ (row_of self.now.rows row).context }
     {
-        context(&self.rows[row as usize]) as u32
+        context(&self.rows.at(row)) as u32
     }
 
     /// The kind of a field of the mapping, which each of its values has.
@@ -263,7 +264,7 @@ impl Shard {
         ensures beneath { IfSome result (λ p. IsDirectlyBeneath (row_of self.now.rows row) (row_of self.now.rows p)) }
         ensures enclosed { IsEnclosedBy self.now.rows row result }
     {
-        match self.rows[row as usize].origin {
+        match self.rows.at(row).origin {
             Origin::Root => None,
             Origin::Nested { parent, .. } => Some(parent),
         }
@@ -287,14 +288,15 @@ impl Shard {
 
     // How many rows before this one are no roots. Where the mapping has one nested path, so many of its rows are before this one.
     fn nested_before(&self, row: u32) -> usize {
-        let roots = match self.rows.get(row as usize) {
-            Some(entry) => match entry.origin {
-                Origin::Root => entry.document as usize,
-                Origin::Nested { .. } => entry.document as usize + 1,
-            },
-            None => numbers_of(self.numbers.as_slice(), 0).len(),
-        };
-        (row as usize).saturating_sub(roots)
+        if row as usize >= self.rows.len() {
+            return (row as usize).saturating_sub(numbers_of(self.numbers.as_slice(), 0).len());
+        }
+        let entry = self.rows.at(row);
+        let before = row.saturating_sub(entry.document) as usize;
+        match entry.origin {
+            Origin::Root => before,
+            Origin::Nested { .. } => before.saturating_sub(1),
+        }
     }
 
     /// The number of rows at a nested path within a row, on all levels; a row at that path counts within itself.
@@ -320,7 +322,7 @@ impl Shard {
         requires { row < length self.now.rows }
         ensures { result.now ≡ (row_of self.now.rows row).id }
     {
-        self.ids.get(self.rows[row as usize].document as usize)
+        self.ids.get(self.rows.at(row).document as usize)
     }
 
     /// The number of values that a row has of a field, 0 where it has none.

@@ -3,4 +3,4 @@ use Rattle.shard_columns.specs.Layout.{entries_of_laid}
 use Rattle.shard_columns.proofs.draft.push_entries.Given as goal
 
 abbrev pub invariant-loop-row : goal.invariant-loop-row
-invariant-loop-row l = l.entries.items ≡ l.fn.entries.items ++ entries_of_laid (take l.row-index l.rows)
+invariant-loop-row l = l.entries ≡ l.fn.entries ++ entries_of_laid (take l.row-index l.rows)

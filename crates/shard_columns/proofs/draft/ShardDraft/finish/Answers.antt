@@ -31,7 +31,7 @@ use Rattle.shard_columns.proofs.draft.ShardDraft.finish.Goals as goal
 pub store-requires : goal.store-requires
 store-requires c =
     let held = c.requires.1 in
-    record { kinds = c.args.self.kinds.items; rows = held.laid; count_is = c.len.ensures ∙ (c.args.self.rows.ok.0 ∙ count-laid c.args.mapping.now c.requires.0 c.args.self held); holds = held.holds }
+    record { kinds = c.args.self.kinds.items; rows = held.laid; count_is = c.len.ensures ∙ (count-laid c.args.mapping.now c.requires.0 c.args.self held); holds = held.holds }
 
 pub numbers_by_context-requires : goal.numbers_by_context-requires
 numbers_by_context-requires c =
@@ -41,11 +41,11 @@ numbers_by_context-requires c =
     let flat = flat-draft m documents c.args.self held in
     let nested_size = ap length c.as_slice-nested.ensures in
     record {
-      contexts = subst (ContextsBelow (length c.as_slice-nested.result.now + 1)) (sym c.as_slice.ensures.value)
-          (contexts-below (ids_of documents) held.laid c.args.self.rows.items (rows_of_documents documents) (length c.as_slice-nested.result.now + 1) held.entries flat
+      contexts =
+          (contexts-below (ids_of documents) held.laid c.args.self.rows (rows_of_documents documents) (length c.as_slice-nested.result.now + 1) held.entries flat
           (λ n. omega (arith, (documents_given m documents held.few held.light held.fit).contexts n, nested_size)));
       few = (let light = held.light in
-          omega (arith, light, rows-light (rows_of_documents documents), ap length c.as_slice.ensures.value, sizes-stored (ids_of documents) held.laid c.args.self.rows.items (rows_of_documents documents) held.entries flat));
+          omega (arith, light, rows-light (rows_of_documents documents), sizes-stored (ids_of documents) held.laid c.args.self.rows (rows_of_documents documents) held.entries flat));
     }
 
 pub invariant_of-result : goal.invariant_of-result
@@ -55,7 +55,7 @@ invariant_of-result c =
     let documents = c.requires.0 in
     let held = c.requires.1 in
     let stored = c.in_ok-stored.ensures.stored in
-    let entries = draft.rows.items in
+    let entries = draft.rows in
     let words = c.in_ok-stored.stored.words.items in
     let columns = c.in_ok-stored.stored.columns.items in
     let values = row_values (by_words words) columns (length entries) in
@@ -77,7 +77,7 @@ invariant_of-result c =
     let rows_laid = all-rows-laid documents (subst T (sym given.paths) tt) in
     let enclosed : AreEnclosed all draft.ends.items =
     subst (AreEnclosed all) (sym held.roots.ends_are) (AreEnclosed-laid [] (λ q. 0 ≤ q) all (each (map root_ends documents) 0) rows_laid) in
-    let contexts_are : c.in_ok-contexts.contexts.items ≡ map (λ f. f.context) m.fields = c.in_ok-contexts.ensures ∙ ap (map (λ (f : Field). f.context)) c.as_slice-2.ensures in
+    let contexts_are : c.in_ok-contexts.contexts.items ≡ map (λ f. f.context) m.fields = c.in_ok-contexts.ensures ∙ ap (map (λ (f : Field). f.context)) c.as_slice.ensures in
     let columns_are : record { kinds = draft.kinds.items; contexts = c.in_ok-contexts.contexts.items; parents = c.in_ok-parents.parents.items; rows = placed draft.ids [] (zip entries values) } ≡ columns_from m documents =
     λ i. record { kinds = kinds_are i; contexts = contexts_are i; parents = parents_are i; rows = rows_are i } in
     let kinds_hold : KindsHold draft.kinds.items all = subst (λ (ks : List FieldKind). KindsHold ks all) (sym kinds_are) given.kinds in
@@ -87,7 +87,7 @@ invariant_of-result c =
       typed = made.typed;
       column_sizes = made.sizes;
       numbered = subst (λ (n : ℕ). AreNumbered n entries c.in_ok-numbers.numbers.items) (let e : length c.as_slice-nested.result.now + 1 ≡ length c.in_ok-parents.parents.items + 1 = omega (arith, nested_size, parents_size) in e)
-          (subst (λ (es : List Entry). AreNumbered (length c.as_slice-nested.result.now + 1) es c.in_ok-numbers.numbers.items) c.as_slice.ensures.value c.in_ok-numbers.ensures);
+          c.in_ok-numbers.ensures;
       few_paths = omega (arith, parents_size, given.few_paths);
       contexts = λ n. omega (arith, ap (λ (rs : List PlacedRow). (row_of rs n).context) rows_are, given.contexts n, parents_size);
       enclosed = subst (λ (rs : List PlacedRow). AreEnclosed rs draft.ends.items) (sym rows_are) enclosed;
@@ -109,6 +109,6 @@ returns c = λ documents held.
     let draft = c.args.self in
     let rows_are = rows-draft m documents draft c.in_ok-stored.stored.words.items c.in_ok-stored.stored.columns.items held c.in_ok-stored.ensures.stored in
     let kinds_are = held.kinds_are in
-    let contexts_are = c.in_ok-contexts.ensures ∙ ap (map (λ (f : _). f.context)) c.as_slice-2.ensures in
+    let contexts_are = c.in_ok-contexts.ensures ∙ ap (map (λ (f : _). f.context)) c.as_slice.ensures in
     let parents_are = c.in_ok-parents.ensures ∙ ap (map (λ (p : _). p.parent)) c.as_slice-nested.ensures in
     λ i. record { kinds = kinds_are i; contexts = contexts_are i; parents = parents_are i; rows = rows_are i }

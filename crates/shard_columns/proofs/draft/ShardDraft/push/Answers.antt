@@ -31,7 +31,7 @@ push_values-requires c =
     (subst (λ (ls : List Laid). AddsRowBehind (length old.ends.items) ls c.lay_row.new.rows.items document.root (record { document = c.len.result; origin = Root })) c.new-rows.ensures.items c.in_ok-lay_row.ensures.rows) in
     let grown : length added + length old.ends.items ≡ length {A = Laid} [] + length c.lay_row.new.ends.items =
     omega (arith, c.in_ok-lay_row.ensures.aligned, ap length c.as_slice-rows.ensures.value, ap length c.new-rows.ensures.items) in
-    can-hold c.requires.0 documents document old added c.lay_row.new.ends.items c.len.result c.len-first.result held c.requires.1.1.1 count (c.len-first.ensures ∙ old.rows.ok.0) adds c.in_ok-lay_row.ensures.ends grown
+    can-hold c.requires.0 documents document old added c.lay_row.new.ends.items c.len.result c.len-first.result held c.requires.1.1.1 count c.len-first.ensures adds c.in_ok-lay_row.ensures.ends grown
 
 pub returns : goal.returns
 returns c = on_ok_weaker c.push.result (λ pushed m documents held admits.
@@ -44,5 +44,5 @@ returns c = on_ok_weaker c.push.result (λ pushed m documents held admits.
     (subst (λ (ls : List Laid). AddsRowBehind (length old.ends.items) ls c.lay_row.new.rows.items document.root (record { document = c.len.result; origin = Root })) c.new-rows.ensures.items c.in_ok-lay_row.ensures.rows) in
     let grown : length added + length old.ends.items ≡ length {A = Laid} [] + length c.lay_row.new.ends.items =
     omega (arith, c.in_ok-lay_row.ensures.aligned, ap length c.as_slice-rows.ensures.value, ap length c.new-rows.ensures.items) in
-    draft-push m documents document old added c.lay_row.new.ends.items c.len.result c.len-first.result held admits count (c.len-first.ensures ∙ old.rows.ok.0) adds c.in_ok-lay_row.ensures.ends grown
+    draft-push m documents document old added c.lay_row.new.ends.items c.len.result c.len-first.result held admits count c.len-first.ensures adds c.in_ok-lay_row.ensures.ends grown
     _ refl refl c.in_ok-push_entries.ensures (pushed ∙ ap (λ (id : List ℕ). old.ids ++ id ∷ []) c.as_str.ensures) c.in_ok-push_values.ensures) c.push.ensures
