@@ -16,6 +16,7 @@ pub mod Counting
 pub mod ReadyLaws
 pub mod EmptyCosts
 pub mod Reordered
+pub mod Choosing
 pub mod Frequents
 pub mod Turns
 pub mod Rises

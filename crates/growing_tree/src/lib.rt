@@ -5,6 +5,7 @@
 #![tactic(auto)]
 
 mod beginning;
+mod chosen;
 mod coded;
 mod finishing;
 mod frequent;
