@@ -22,4 +22,4 @@ pub mod Rises
 pub mod Each
 pub mod AllMetrics
 pub mod MeasuredBuckets
-pub mod Hits
+pub mod Placements

@@ -10,7 +10,7 @@ pub mod Readiness
 pub mod Shown
 pub mod Grouped
 pub mod Gathered
-pub mod Hits
+pub mod Placements
 pub mod GatheredEach
 pub mod Finished
 pub mod Frequent

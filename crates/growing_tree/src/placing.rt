@@ -10,12 +10,12 @@ ghost use Rattle.growth_laws.specs.Gathering.{put_rows};
 ghost use Rattle.shard_columns.specs.Built.{IsShard};
 ghost use Rattle.growing_tree.specs.Gathered.{gatherers, key_at, rows_at, shown_measured};
 ghost use Rattle.growing_tree.specs.GatheredEach.{AreRises, after_each, bytes_after, put_at_keys};
-ghost use Rattle.growing_tree.specs.Hits.{AreHits, counted_hits, shown_hits, taken_hits};
+ghost use Rattle.growing_tree.specs.Placements.{ArePlacements, counts_with, shown_with, taken_with};
 ghost use Rattle.growing_tree.specs.Measures.{metrics_at};
 ghost use Rattle.growing_tree.specs.Readiness.{IsReadyFor, is_metric};
 ghost use Rattle.growing_tree.specs.Shown.{put_all};
 ghost use Rattle.growing_tree.specs.Trees.{IsAligned, IsIndexed};
-ghost use Rattle.growing_tree.specs.declared.placing.Hit.{Hit as AnyHit};
+ghost use Rattle.growing_tree.specs.declared.placing.Placement.{Placement as AnyPlacement};
 ghost use Rattle.growing_tree.specs.declared.ready.Ready.{out-Ready};
 
 use crate::beginning::bucket_bytes;
@@ -31,7 +31,7 @@ use std::alloc::{AllocError, Global};
 
 /// A row that goes into the bucket at a place.
 #[derive(Clone, Copy, Debug, PartialEq, Eq)]
-pub(crate) struct Hit {
+pub(crate) struct Placement {
     pub(crate) row: u32,
     pub(crate) place: usize,
 }
@@ -56,13 +56,15 @@ pub(crate) fn place_for(
     requires metrics { IsTrue (list_all (λ a. is_metric (out-Agg a).kind) (out-Agg agg.now).children) }
     ensures within { IfOk result (λ spot. spot.place < length measured.new.counts.items) }
     ensures more { OnOk result (length measured.old.counts.items ≤ length measured.new.counts.items) }
-    ensures buckets { IfOk result (λ spot. (hits : AnyList AnyHit) (row : ℕ) → All (λ h. h.place < length measured.old.counts.items) hits →
-        shown_hits shard.now agg.now ready.now measured.new (hits ++ record { row = row; place = spot.place } ∷ [])
+    ensures buckets { IfOk result (λ spot. (placements : AnyList AnyPlacement) (row : ℕ)
+        → All (λ p. p.place < length measured.old.counts.items) placements →
+        shown_with shard.now agg.now ready.now measured.new (placements ++ record { row = row; place = spot.place } ∷ [])
         ≡ put_rows (gatherers shard.now (out-Agg agg.now).children) (row_of shard.now.rows row ∷ []) (key_at shard.now ready.now code)
-        (shown_hits shard.now agg.now ready.now measured.old hits)) }
-    ensures cost { IfOk result (λ spot. (hits : AnyList AnyHit) (row : ℕ) → All (λ h. h.place < length measured.old.counts.items) hits →
-        sum_by bytes (shown_hits shard.now agg.now ready.now measured.new (hits ++ record { row = row; place = spot.place } ∷ []))
-        ≡ sum_by bytes (shown_hits shard.now agg.now ready.now measured.old hits) + spot.begun) }
+        (shown_with shard.now agg.now ready.now measured.old placements)) }
+    ensures cost { IfOk result (λ spot. (placements : AnyList AnyPlacement) (row : ℕ)
+        → All (λ p. p.place < length measured.old.counts.items) placements →
+        sum_by bytes (shown_with shard.now agg.now ready.now measured.new (placements ++ record { row = row; place = spot.place } ∷ []))
+        ≡ sum_by bytes (shown_with shard.now agg.now ready.now measured.old placements) + spot.begun) }
     ensures aligned { IsIndexed measured.old.places measured.old.counts.items → IsIndexed measured.new.places measured.new.counts.items }
 {
     let found = measured.places.find_or_add(code)?;
@@ -100,11 +102,11 @@ pub(crate) fn put_one_measured(
     requires ready { IsReadyFor shard.now agg.now ready.now }
     requires metrics { IsTrue (list_all (λ a. is_metric (out-Agg a).kind) (out-Agg agg.now).children) }
     requires in_range { row < length shard.now.rows }
-    ensures buckets { OnOk result (shown_hits shard.now agg.now ready.now measured.new []
+    ensures buckets { OnOk result (shown_with shard.now agg.now ready.now measured.new []
         ≡ put_rows (gatherers shard.now (out-Agg agg.now).children) (row_of shard.now.rows row ∷ []) (key_at shard.now ready.now code)
-        (shown_hits shard.now agg.now ready.now measured.old [])) }
-    ensures cost { IfOk result (λ added. sum_by bytes (shown_hits shard.now agg.now ready.now measured.new [])
-        ≡ sum_by bytes (shown_hits shard.now agg.now ready.now measured.old []) + added) }
+        (shown_with shard.now agg.now ready.now measured.old [])) }
+    ensures cost { IfOk result (λ added. sum_by bytes (shown_with shard.now agg.now ready.now measured.new [])
+        ≡ sum_by bytes (shown_with shard.now agg.now ready.now measured.old []) + added) }
     ensures aligned { IsIndexed measured.old.places measured.old.counts.items → IsIndexed measured.new.places measured.new.counts.items }
 {
     let spot = place_for(agg, ready, shard, code, measured)?;
@@ -127,22 +129,22 @@ fn place_one(
     row: u32,
     code: i64,
     measured: &mut Measured,
-    hits: &mut Vec<Hit>,
+    placements: &mut Vec<Placement>,
 ) -> Result<u64, AllocError>
     requires ready { IsReadyFor shard.now agg.now ready.now }
     requires metrics { IsTrue (list_all (λ a. is_metric (out-Agg a).kind) (out-Agg agg.now).children) }
     requires in_range { row < length shard.now.rows }
-    requires hits { AreHits (length measured.old.counts.items) shard.now hits.old.items }
-    ensures buckets { OnOk result (shown_hits shard.now agg.now ready.now measured.new hits.new.items
+    requires placements { ArePlacements (length measured.old.counts.items) shard.now placements.old.items }
+    ensures buckets { OnOk result (shown_with shard.now agg.now ready.now measured.new placements.new.items
         ≡ put_rows (gatherers shard.now (out-Agg agg.now).children) (row_of shard.now.rows row ∷ []) (key_at shard.now ready.now code)
-        (shown_hits shard.now agg.now ready.now measured.old hits.old.items)) }
-    ensures cost { IfOk result (λ added. sum_by bytes (shown_hits shard.now agg.now ready.now measured.new hits.new.items)
-        ≡ sum_by bytes (shown_hits shard.now agg.now ready.now measured.old hits.old.items) + added) }
-    ensures hits { OnOk result (AreHits (length measured.new.counts.items) shard.now hits.new.items) }
+        (shown_with shard.now agg.now ready.now measured.old placements.old.items)) }
+    ensures cost { IfOk result (λ added. sum_by bytes (shown_with shard.now agg.now ready.now measured.new placements.new.items)
+        ≡ sum_by bytes (shown_with shard.now agg.now ready.now measured.old placements.old.items) + added) }
+    ensures placements { OnOk result (ArePlacements (length measured.new.counts.items) shard.now placements.new.items) }
     ensures aligned { IsIndexed measured.old.places measured.old.counts.items → IsIndexed measured.new.places measured.new.counts.items }
 {
     let spot = place_for(agg, ready, shard, code, measured)?;
-    hits.push(Hit {
+    placements.push(Placement {
         row,
         place: spot.place,
     })?;
@@ -157,24 +159,24 @@ fn place_codes(
     row: u32,
     codes: &[i64],
     measured: &mut Measured,
-    hits: &mut Vec<Hit>,
+    placements: &mut Vec<Placement>,
 ) -> Result<u64, AllocError>
     requires ready { IsReadyFor shard.now agg.now ready.now }
     requires metrics { IsTrue (list_all (λ a. is_metric (out-Agg a).kind) (out-Agg agg.now).children) }
     requires in_range { row < length shard.now.rows }
-    requires hits { AreHits (length measured.old.counts.items) shard.now hits.old.items }
-    ensures buckets { OnOk result (shown_hits shard.now agg.now ready.now measured.new hits.new.items
+    requires placements { ArePlacements (length measured.old.counts.items) shard.now placements.old.items }
+    ensures buckets { OnOk result (shown_with shard.now agg.now ready.now measured.new placements.new.items
         ≡ put_all (λ k. row_of shard.now.rows row ∷ []) (gatherers shard.now (out-Agg agg.now).children)
         (map (key_at shard.now ready.now) codes.now)
-        (shown_hits shard.now agg.now ready.now measured.old hits.old.items)) }
-    ensures cost { IfOk result (λ added. sum_by bytes (shown_hits shard.now agg.now ready.now measured.new hits.new.items)
-        ≡ sum_by bytes (shown_hits shard.now agg.now ready.now measured.old hits.old.items) + added) }
-    ensures hits { OnOk result (AreHits (length measured.new.counts.items) shard.now hits.new.items) }
+        (shown_with shard.now agg.now ready.now measured.old placements.old.items)) }
+    ensures cost { IfOk result (λ added. sum_by bytes (shown_with shard.now agg.now ready.now measured.new placements.new.items)
+        ≡ sum_by bytes (shown_with shard.now agg.now ready.now measured.old placements.old.items) + added) }
+    ensures placements { OnOk result (ArePlacements (length measured.new.counts.items) shard.now placements.new.items) }
     ensures aligned { IsIndexed measured.old.places measured.old.counts.items → IsIndexed measured.new.places measured.new.counts.items }
 {
     let mut added = 0;
     for place in 0..codes.len() {
-        let more = place_one(agg, ready, shard, row, codes[place], measured, hits)?;
+        let more = place_one(agg, ready, shard, row, codes[place], measured, placements)?;
         added = sum(added, more)?;
     }
     Ok(added)
@@ -189,31 +191,39 @@ fn place_row(
     row: u32,
     spare: &mut Vec<Vec<i64>>,
     measured: &mut Measured,
-    hits: &mut Vec<Hit>,
+    placements: &mut Vec<Placement>,
 ) -> Result<u64, AllocError>
     requires ready { IsReadyFor shard.now agg.now ready.now }
     requires metrics { IsTrue (list_all (λ a. is_metric (out-Agg a).kind) (out-Agg agg.now).children) }
     requires built { IsShard shard.now }
     requires in_range { row < length shard.now.rows }
-    requires hits { AreHits (length measured.old.counts.items) shard.now hits.old.items }
-    ensures buckets { OnOk result (shown_hits shard.now agg.now ready.now measured.new hits.new.items
+    requires placements { ArePlacements (length measured.old.counts.items) shard.now placements.old.items }
+    ensures buckets { OnOk result (shown_with shard.now agg.now ready.now measured.new placements.new.items
         ≡ put_at_keys shard.now.rows (gatherers shard.now (out-Agg agg.now).children) (out-Agg agg.now).kind
-        (row_of shard.now.rows row) (shown_hits shard.now agg.now ready.now measured.old hits.old.items)) }
-    ensures cost { IfOk result (λ added. sum_by bytes (shown_hits shard.now agg.now ready.now measured.new hits.new.items)
-        ≡ sum_by bytes (shown_hits shard.now agg.now ready.now measured.old hits.old.items) + added) }
-    ensures hits { OnOk result (AreHits (length measured.new.counts.items) shard.now hits.new.items) }
+        (row_of shard.now.rows row) (shown_with shard.now agg.now ready.now measured.old placements.old.items)) }
+    ensures cost { IfOk result (λ added. sum_by bytes (shown_with shard.now agg.now ready.now measured.new placements.new.items)
+        ≡ sum_by bytes (shown_with shard.now agg.now ready.now measured.old placements.old.items) + added) }
+    ensures placements { OnOk result (ArePlacements (length measured.new.counts.items) shard.now placements.new.items) }
     ensures aligned { IsIndexed measured.old.places measured.old.counts.items → IsIndexed measured.new.places measured.new.counts.items }
 {
     match lone_code(shard, &agg.kind, &ready.kind, row) {
         Some(Some(code)) => {
-            let more = place_one(agg, ready, shard, row, code, measured, hits)?;
+            let more = place_one(agg, ready, shard, row, code, measured, placements)?;
             Ok(more)
         }
         Some(None) => Ok(0),
         None => {
             let mut codes = spare.pop().unwrap_or(Vec::new(alloc));
             row_codes(shard, &agg.kind, &ready.kind, row, &mut codes)?;
-            let more = place_codes(agg, ready, shard, row, codes.as_slice(), measured, hits)?;
+            let more = place_codes(
+                agg,
+                ready,
+                shard,
+                row,
+                codes.as_slice(),
+                measured,
+                placements,
+            )?;
             spare.push(codes)?;
             Ok(more)
         }
@@ -229,27 +239,36 @@ fn place_each(
     rows: &[u32],
     spare: &mut Vec<Vec<i64>>,
     measured: &mut Measured,
-    hits: &mut Vec<Hit>,
+    placements: &mut Vec<Placement>,
     added: &mut Vec<u64>,
 ) -> Result<(), AllocError>
     requires ready { IsReadyFor shard.now agg.now ready.now }
     requires metrics { IsTrue (list_all (λ a. is_metric (out-Agg a).kind) (out-Agg agg.now).children) }
     requires built { IsShard shard.now }
     requires in_range { All (λ n. n < length shard.now.rows) rows.now }
-    requires none { hits.old.items ≡ [] }
+    requires none { placements.old.items ≡ [] }
     requires many { length added.old.items ≡ length rows.now }
-    ensures buckets { OnOk result (shown_hits shard.now agg.now ready.now measured.new hits.new.items ≡ after_each
+    ensures buckets { OnOk result (shown_with shard.now agg.now ready.now measured.new placements.new.items ≡ after_each
         (put_at_keys shard.now.rows (gatherers shard.now (out-Agg agg.now).children) (out-Agg agg.now).kind)
-        (rows_at shard.now rows.now) (shown_hits shard.now agg.now ready.now measured.old [])) }
+        (rows_at shard.now rows.now) (shown_with shard.now agg.now ready.now measured.old [])) }
     ensures rises { OnOk result (AreRises (bytes_after
         (put_at_keys shard.now.rows (gatherers shard.now (out-Agg agg.now).children) (out-Agg agg.now).kind)
-        (rows_at shard.now rows.now) (shown_hits shard.now agg.now ready.now measured.old []))
+        (rows_at shard.now rows.now) (shown_with shard.now agg.now ready.now measured.old []))
         (length rows.now) added.old.items added.new.items) }
-    ensures hits { OnOk result (AreHits (length measured.new.counts.items) shard.now hits.new.items) }
+    ensures placements { OnOk result (ArePlacements (length measured.new.counts.items) shard.now placements.new.items) }
     ensures aligned { IsIndexed measured.old.places measured.old.counts.items → IsIndexed measured.new.places measured.new.counts.items }
 {
     for place in 0..rows.len() {
-        let more = place_row(alloc, agg, ready, shard, rows[place], spare, measured, hits)?;
+        let more = place_row(
+            alloc,
+            agg,
+            ready,
+            shard,
+            rows[place],
+            spare,
+            measured,
+            placements,
+        )?;
         let next = sum(added[place], more)?;
         added[place] = next;
     }
@@ -257,23 +276,23 @@ fn place_each(
 }
 
 // Rows go into the buckets at their places.
-fn take_hits(
+fn take_placed(
     aggs: &List<Agg>,
     shard: &Shard,
-    hits: &[Hit],
+    placements: &[Placement],
     counts: &mut Vec<u64>,
     columns: &mut Vec<Vec<Taken>>,
 ) -> Result<(), AllocError>
     requires metrics { IsTrue (list_all (λ a. is_metric (out-Agg a).kind) aggs.now) }
-    requires in_range { All (λ h. h.row < length shard.now.rows) hits.now }
+    requires in_range { All (λ p. p.row < length shard.now.rows) placements.now }
     ensures many { length counts.new.items ≡ length counts.old.items }
-    ensures counts { OnOk result (counts.new.items ≡ counted_hits hits.now counts.old.items) }
+    ensures counts { OnOk result (counts.new.items ≡ counts_with placements.now counts.old.items) }
     ensures metrics { OnOk result ((n : ℕ) → metrics_at columns.new.items n
-        ≡ taken_hits aggs.now (row_of shard.now.rows) hits.now (metrics_at columns.old.items) n) }
+        ≡ taken_with aggs.now (row_of shard.now.rows) placements.now (metrics_at columns.old.items) n) }
 {
-    for place in 0..hits.len() {
-        let hit = hits[place];
-        take_measured(aggs, shard, hit.row, hit.place, counts, columns)?;
+    for place in 0..placements.len() {
+        let placement = placements[place];
+        take_measured(aggs, shard, placement.row, placement.place, counts, columns)?;
     }
     Ok(())
 }
@@ -295,23 +314,31 @@ pub(crate) fn put_block(
     requires built { IsShard shard.now }
     requires in_range { All (λ n. n < length shard.now.rows) rows.now }
     requires many { length added.old.items ≡ length rows.now }
-    ensures buckets { OnOk result (shown_hits shard.now agg.now ready.now measured.new [] ≡ after_each
+    ensures buckets { OnOk result (shown_with shard.now agg.now ready.now measured.new [] ≡ after_each
         (put_at_keys shard.now.rows (gatherers shard.now (out-Agg agg.now).children) (out-Agg agg.now).kind)
-        (rows_at shard.now rows.now) (shown_hits shard.now agg.now ready.now measured.old [])) }
+        (rows_at shard.now rows.now) (shown_with shard.now agg.now ready.now measured.old [])) }
     ensures rises { OnOk result (AreRises (bytes_after
         (put_at_keys shard.now.rows (gatherers shard.now (out-Agg agg.now).children) (out-Agg agg.now).kind)
-        (rows_at shard.now rows.now) (shown_hits shard.now agg.now ready.now measured.old []))
+        (rows_at shard.now rows.now) (shown_with shard.now agg.now ready.now measured.old []))
         (length rows.now) added.old.items added.new.items) }
     ensures aligned { IsIndexed measured.old.places measured.old.counts.items → IsIndexed measured.new.places measured.new.counts.items }
 {
-    let mut hits = Vec::with_capacity(alloc, rows.len())?;
+    let mut placements = Vec::with_capacity(alloc, rows.len())?;
     place_each(
-        alloc, agg, ready, shard, rows, spare, measured, &mut hits, added,
+        alloc,
+        agg,
+        ready,
+        shard,
+        rows,
+        spare,
+        measured,
+        &mut placements,
+        added,
     )?;
-    take_hits(
+    take_placed(
         &agg.children,
         shard,
-        hits.as_slice(),
+        placements.as_slice(),
         &mut measured.counts,
         &mut measured.columns,
     )?;

@@ -6,7 +6,7 @@ use Rattle.agg_model.specs.declared.aggregation.Agg.{out-Agg}
 use Rattle.agg_evaluation.specs.Rows.{row_of}
 use Rattle.growth_laws.specs.Gathering.{put_rows}
 use Rattle.growing_tree.specs.Gathered.{gatherers, key_at}
-use Rattle.growing_tree.specs.Hits.{shown_hits}
+use Rattle.growing_tree.specs.Placements.{shown_with}
 use Rattle.growing_tree.specs.Shown.{put_all}
 use Rattle.growing_tree.proofs.Steps.{put_all-more, take-more}
 use Rattle.growing_tree.proofs.placing.place_codes.Goals as goal
@@ -28,9 +28,9 @@ loop-place-preserved c =
     let added : c.in_ok-added.added ≡ c.loop-place.added + c.in_ok-more.more = c.in_ok-added.ensures in
     (record {
       buckets = c.in_ok-more.ensures.buckets ∙ (λ i. put_rows gs rows (key_of (same i)) (c.loop-place.invariant.buckets i))
-          ∙ sym (ap (λ ks. put_all (λ k. rows) gs ks (shown_hits shard c.args.agg.now r c.args.measured.now c.args.hits.now.items)) (take-more (map key_of codes) place (key_of code) (slice_get-map key_of codes place ∙ ap (option_map key_of) (slice_get-get_or codes place (pos 0) below)))
-          ∙ put_all-more (λ k. rows) gs (take place (map key_of codes)) (key_of code) (shown_hits shard c.args.agg.now r c.args.measured.now c.args.hits.now.items));
+          ∙ sym (ap (λ ks. put_all (λ k. rows) gs ks (shown_with shard c.args.agg.now r c.args.measured.now c.args.placements.now.items)) (take-more (map key_of codes) place (key_of code) (slice_get-map key_of codes place ∙ ap (option_map key_of) (slice_get-get_or codes place (pos 0) below)))
+          ∙ put_all-more (λ k. rows) gs (take place (map key_of codes)) (key_of code) (shown_with shard c.args.agg.now r c.args.measured.now c.args.placements.now.items));
       cost = omega arith;
-      hits = c.in_ok-more.ensures.hits;
+      placements = c.in_ok-more.ensures.placements;
       aligned = λ h. c.in_ok-more.ensures.aligned (c.loop-place.invariant.aligned h);
     })

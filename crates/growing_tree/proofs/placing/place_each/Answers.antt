@@ -4,8 +4,8 @@ use Rattle.agg_model.specs.declared.aggregation.Agg.{out-Agg}
 use Rattle.agg_evaluation.specs.Rows.{row_of}
 use Rattle.evaluation_laws.proofs.CostLaws.{bytes}
 use Rattle.growing_tree.specs.Gathered.{gatherers, rows_at}
-use Rattle.growing_tree.specs.Hits.{shown_hits}
-use Rattle.growing_tree.specs.declared.placing.Hit.{Hit}
+use Rattle.growing_tree.specs.Placements.{shown_with}
+use Rattle.growing_tree.specs.declared.placing.Placement.{Placement}
 use Rattle.growing_tree.specs.GatheredEach.{bytes_after, put_at_keys}
 use Rattle.growing_tree.proofs.Each.{after-all, after-next}
 use Rattle.growing_tree.proofs.Rises.{all-rose, rising-more, rising-none}
@@ -20,7 +20,7 @@ loop-place-preserved c =
     let row_at = row_of shard.rows in
     let rows = c.args.rows.now in
     let i = c.loop-place.place in
-    let old = shown_hits shard a r c.args.measured.now [] in
+    let old = shown_with shard a r c.args.measured.now [] in
     let now = c.loop-place.added.items in
     let more = c.in_ok-more.more in
     let rising = c.loop-place.invariant.rising in
@@ -35,7 +35,7 @@ loop-place-preserved c =
     record {
       buckets = after;
       rising = rising-more (bytes_after step (rows_at shard rows) old) i more c.in_ok-next.next c.args.added.now.items now rising within up (c.in_ok-next.ensures ∙ ap (λ (k : ℕ). k + more) (get_or_read now i c.index.result.now within c.index.ensures 0));
-      hits = c.in_ok-more.ensures.hits;
+      placements = c.in_ok-more.ensures.placements;
       aligned = λ h. c.in_ok-more.ensures.aligned (c.loop-place.invariant.aligned h);
     }
 
@@ -44,9 +44,9 @@ loop-place-init c =
     let shard = c.args.shard.now in
     let a = c.args.agg.now in
     record {
-      buckets = ap (shown_hits shard a c.args.ready.now c.args.measured.now) c.requires.none;
-      rising = rising-none (bytes_after (put_at_keys shard.rows (gatherers shard (out-Agg a).children) (out-Agg a).kind) (rows_at shard c.args.rows.now) (shown_hits shard a c.args.ready.now c.args.measured.now [])) c.args.added.now.items;
-      hits = λ k d l. absurd (omega (arith, l, ap (λ (xs : List Hit). length xs) c.requires.none));
+      buckets = ap (shown_with shard a c.args.ready.now c.args.measured.now) c.requires.none;
+      rising = rising-none (bytes_after (put_at_keys shard.rows (gatherers shard (out-Agg a).children) (out-Agg a).kind) (rows_at shard c.args.rows.now) (shown_with shard a c.args.ready.now c.args.measured.now [])) c.args.added.now.items;
+      placements = λ k d l. absurd (omega (arith, l, ap (λ (xs : List Placement). length xs) c.requires.none));
       aligned = λ h. h;
     }
 
@@ -55,11 +55,11 @@ returns-clause-buckets c =
     let shard = c.args.shard.now in
     let a = c.args.agg.now in
     let step = put_at_keys shard.rows (gatherers shard (out-Agg a).children) (out-Agg a).kind in
-    c.loop-place.invariant.buckets ∙ after-all step (row_of shard.rows) c.args.rows.now c.loop-place.place (shown_hits shard a c.args.ready.now c.args.measured.now []) (omega (arith, c.loop-place-test.false))
+    c.loop-place.invariant.buckets ∙ after-all step (row_of shard.rows) c.args.rows.now c.loop-place.place (shown_with shard a c.args.ready.now c.args.measured.now []) (omega (arith, c.loop-place-test.false))
 
 pub returns-clause-rises : goal.returns-clause-rises
 returns-clause-rises c =
     let shard = c.args.shard.now in
     let a = c.args.agg.now in
     let step = put_at_keys shard.rows (gatherers shard (out-Agg a).children) (out-Agg a).kind in
-    all-rose (bytes_after step (rows_at shard c.args.rows.now) (shown_hits shard a c.args.ready.now c.args.measured.now [])) c.loop-place.place (length c.args.rows.now) c.args.added.now.items c.loop-place.added.items c.loop-place.invariant.rising (omega (arith, c.loop-place-test.false))
+    all-rose (bytes_after step (rows_at shard c.args.rows.now) (shown_with shard a c.args.ready.now c.args.measured.now [])) c.loop-place.place (length c.args.rows.now) c.args.added.now.items c.loop-place.added.items c.loop-place.invariant.rising (omega (arith, c.loop-place-test.false))

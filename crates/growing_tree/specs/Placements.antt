@@ -8,22 +8,22 @@ use Rattle.shard_columns.specs.Columns.{Columns}
 use Rattle.growing_tree.specs.Gathered.{shown_measured}
 use Rattle.growing_tree.specs.Measures.{metrics_at, metrics_with}
 use Rattle.growing_tree.specs.declared.measured.Measured.{Measured}
-use Rattle.growing_tree.specs.declared.placing.Hit.{Hit}
+use Rattle.growing_tree.specs.declared.placing.Placement.{Placement}
 use Rattle.growing_tree.specs.declared.ready.Ready.{Ready}
 
 -- the rows of each bucket, once these are among them
-abbrev pub counted_hits : List Hit → List ℕ → List ℕ
-counted_hits hits counts = fold (λ ns h. slice_set ns h.place (slice_index_or ns h.place 0 + 1)) counts hits
+abbrev pub counts_with : List Placement → List ℕ → List ℕ
+counts_with placements counts = fold (λ ns p. slice_set ns p.place (slice_index_or ns p.place 0 + 1)) counts placements
 
 -- what the metrics have taken in the bucket at a place, once they have the values of these rows
-abbrev pub taken_hits : List Agg → (ℕ → PlacedRow) → List Hit → (ℕ → List Metric) → ℕ → List Metric
-taken_hits aggs row_at [] at = at
-taken_hits aggs row_at (h ∷ hits) at = taken_hits aggs row_at hits (λ n. if n == h.place then metrics_with aggs (row_at h.row) (at n) else at n)
+abbrev pub taken_with : List Agg → (ℕ → PlacedRow) → List Placement → (ℕ → List Metric) → ℕ → List Metric
+taken_with aggs row_at [] at = at
+taken_with aggs row_at (p ∷ placements) at = taken_with aggs row_at placements (λ n. if n == p.place then metrics_with aggs (row_at p.row) (at n) else at n)
 
 -- the buckets, once these rows are in them
-abbrev pub shown_hits : Columns → Agg → Ready → Measured → List Hit → List Bucket
-shown_hits shard a r m hits = shown_measured shard r m.places (counted_hits hits m.counts.items) (taken_hits (out-Agg a).children (row_of shard.rows) hits (metrics_at m.columns.items))
+abbrev pub shown_with : Columns → Agg → Ready → Measured → List Placement → List Bucket
+shown_with shard a r m placements = shown_measured shard r m.places (counts_with placements m.counts.items) (taken_with (out-Agg a).children (row_of shard.rows) placements (metrics_at m.columns.items))
 
 -- the places are those of buckets, and the rows those of the shard
-abbrev pub AreHits : ℕ → Columns → List Hit → Type 0
-AreHits count shard hits = All (λ h. (h.place < count) × (h.row < length shard.rows)) hits
+abbrev pub ArePlacements : ℕ → Columns → List Placement → Type 0
+ArePlacements count shard placements = All (λ p. (p.place < count) × (p.row < length shard.rows)) placements
