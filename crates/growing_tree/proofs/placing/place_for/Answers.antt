@@ -14,7 +14,8 @@ use Rattle.growing_tree.specs.declared.ready.Ready.{out-Ready}
 use Rattle.growing_tree.proofs.Codes.{codes-own}
 use Rattle.growing_tree.proofs.Placements.{counted-begun, counted-length, counted-more, one-here, one-other, taken-behind, taken-more, taken-same}
 use Rattle.growing_tree.proofs.Levels.{empties-are, level-ready}
-use Rattle.growing_tree.proofs.MeasuredBuckets.{bucket-at, bucket-begun, bucket-set, children_of, count_of, length-measures, measure, measured-cost, measured-empty, measured-gathers, shown_measures}
+use Rattle.growing_tree.proofs.MeasuredBuckets.{bucket-at, bucket-begun, bucket-set, children_of, count_of, length-measures, measure, measured-cost, measured-empty, measured-gathers}
+use Rattle.growing_tree.specs.Shown.{metric_buckets}
 use Rattle.growing_tree.proofs.Steps.{found-buckets, found-cost, added-buckets, added-cost}
 use Rattle.growing_tree.proofs.placing.place_for.Goals as goal
 
@@ -47,7 +48,7 @@ returns-else-place-len-clause-buckets c placements row_number below =
     let long = counted-length placements counts in
     let within : place < length ns = omega (arith, long, c.if-place-len.false, c.len.ensures, c.args.measured.now.counts.ok) in
     ap (λ ms. shown_measured shard r c.find_or_add.new.self ms after) (counted-more placements placement counts)
-    ∙ ap (shown_measures (decoders shard rs) key_of c.find_or_add.new.self)
+    ∙ ap (metric_buckets (decoders shard rs) key_of c.find_or_add.new.self)
     (bucket-set at ns after place (n + 1) within (λ k other. taken-more aggs row_at placements placement (metrics_at c.args.measured.now.columns.items) k ∙ one-other aggs row_at placement at k other))
     ∙ found-buckets count_of children_of (gatherers shard aggs) (row ∷ []) (decoders shard rs) key_of code (to_z w64 (of_z w64 code)) same
     c.args.measured.now.places c.find_or_add.new.self (measures_from at 0 ns) c.in_ok-found.found c.in_ok-found.ensures.place c.in_ok-found.ensures.distinct
@@ -80,7 +81,7 @@ returns-else-place-len-clause-cost c placements row_number below =
     let long = counted-length placements counts in
     let within : place < length ns = omega (arith, long, c.if-place-len.false, c.len.ensures, c.args.measured.now.counts.ok) in
     ap (λ ms. sum_by bytes (shown_measured shard r c.find_or_add.new.self ms after)) (counted-more placements placement counts)
-    ∙ ap (λ ms. sum_by bytes (shown_measures (decoders shard rs) key_of c.find_or_add.new.self ms))
+    ∙ ap (λ ms. sum_by bytes (metric_buckets (decoders shard rs) key_of c.find_or_add.new.self ms))
     (bucket-set at ns after place (n + 1) within (λ k other. taken-more aggs row_at placements placement (metrics_at c.args.measured.now.columns.items) k ∙ one-other aggs row_at placement at k other))
     ∙ found-cost count_of children_of (gatherers shard aggs) (row ∷ []) (decoders shard rs) key_of code (to_z w64 (of_z w64 code)) same
     c.args.measured.now.places c.find_or_add.new.self (measures_from at 0 ns) c.in_ok-found.found c.in_ok-found.ensures.place c.in_ok-found.ensures.distinct
@@ -119,7 +120,7 @@ returns-in_ok-begin_measured-in-Added-clause-buckets c placements row_number bel
     let last : place ≡ length ns = end ∙ sym long in
     let more = ap (counts_with (placements ++ placement ∷ [])) begun.count ∙ counted-more placements placement (counts ++ 0 ∷ []) ∙ ap (λ ms. set ms place (get_or ms place 0 + 1)) (counted-begun placements counts below) in
     ap (λ ms. shown_measured shard r c.find_or_add.new.self ms after) more
-    ∙ ap (shown_measures (decoders shard rs) key_of c.find_or_add.new.self) (bucket-begun at now after ns place last still (λ k other. taken-more aggs row_at placements placement middle k ∙ one-other aggs row_at placement now k other))
+    ∙ ap (metric_buckets (decoders shard rs) key_of c.find_or_add.new.self) (bucket-begun at now after ns place last still (λ k other. taken-more aggs row_at placements placement middle k ∙ one-other aggs row_at placement now k other))
     ∙ added-buckets count_of children_of (gatherers shard aggs) (row ∷ []) (decoders shard rs) key_of code (to_z w64 (of_z w64 code)) same
     c.args.measured.now.places c.find_or_add.new.self (measures_from at 0 ns) c.in_ok-found.found c.in_ok-found.ensures.place c.in_ok-found.ensures.distinct
     (codes-own shard (out-Agg a).kind (out-Ready r).kind (level-ready shard a r c.requires.ready).kind) place old new c.in-Added.is (last ∙ sym many) refl
@@ -163,7 +164,7 @@ returns-in_ok-begin_measured-in-Added-clause-cost c placements row_number below 
     ∙ measured-empty shard aggs rs columns (begun.many ∙ c.len-in-Added-2.ensures) c.requires.metrics in
     let rose : c.in_ok-begun-in-Added.begun + 0 ≡ c.in_ok-begun-in-Added.begun = omega arith in
     ap (λ ms. sum_by bytes (shown_measured shard r c.find_or_add.new.self ms after)) more
-    ∙ ap (λ ms. sum_by bytes (shown_measures (decoders shard rs) key_of c.find_or_add.new.self ms)) (bucket-begun at now after ns place last still (λ k other. taken-more aggs row_at placements placement middle k ∙ one-other aggs row_at placement now k other))
+    ∙ ap (λ ms. sum_by bytes (metric_buckets (decoders shard rs) key_of c.find_or_add.new.self ms)) (bucket-begun at now after ns place last still (λ k other. taken-more aggs row_at placements placement middle k ∙ one-other aggs row_at placement now k other))
     ∙ added-cost count_of children_of (gatherers shard aggs) (row ∷ []) (decoders shard rs) key_of code (to_z w64 (of_z w64 code)) same
     c.args.measured.now.places c.find_or_add.new.self (measures_from at 0 ns) c.in_ok-found.found c.in_ok-found.ensures.place c.in_ok-found.ensures.distinct
     place c.in_ok-begun-in-Added.begun (out-Ready r).child_bytes 0 old new c.in-Added.is (last ∙ sym many) cost
