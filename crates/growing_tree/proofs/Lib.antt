@@ -23,3 +23,4 @@ pub mod Each
 pub mod AllMetrics
 pub mod MeasuredBuckets
 pub mod Placements
+pub mod Placed

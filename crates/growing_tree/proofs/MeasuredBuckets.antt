@@ -22,7 +22,7 @@ use Rattle.agg_evaluation.specs.Rows.{PlacedRow}
 use Rattle.agg_evaluation.specs.Shard.{fixed_keys}
 use Rattle.agg_evaluation.specs.Whole.{empty_by, empty_node, shape_of}
 use Rattle.evaluation_laws.proofs.CostLaws.{cost-Number}
-use Rattle.growth_laws.specs.Gathering.{gathered_children, gatherer_of}
+use Rattle.growth_laws.specs.Gathering.{gathered_children}
 use Rattle.growth_laws.specs.Growth.{metric_with}
 use Rattle.shard_columns.specs.Columns.{Columns}
 use Rattle.growing_tree.specs.Decoded.{decoded, decoded_children}
@@ -36,7 +36,7 @@ use Rattle.growing_tree.specs.declared.tree.Growing.{Growing}
 use Rattle.growing_tree.specs.declared.tree.Level.TheVariants.{Number}
 use Rattle.growing_tree.proofs.Counting.{handed-values}
 use Rattle.growing_tree.proofs.Empties.{empty-level}
-use Rattle.growing_tree.proofs.Levels.{counted-number, decoded-is, empties-are, gathered-is}
+use Rattle.growing_tree.proofs.Levels.{counted-number, decoded-is, gathered-is}
 use Rattle.growing_tree.proofs.Putting.{Gathers}
 
 abbrev pub measure : ℕ → List Metric → Measure

@@ -1,6 +1,6 @@
 -- Rows that have the places of their buckets: what they make of the buckets, one more of them and one more bucket.
-use Rattle.std.specs.Prelude.{◌≡◌, ◌≢◌, refl, ℕ, zero, suc, ◌+◌, ◌<◌, ◌≤◌, ◌==◌, true, false, Bool, cond, List, [], ◌∷◌, ◌++◌, All, length}
-use Rattle.std.proofs.Common.{sym, ◌∙◌, ap, arith, inl, inr, subst, T, eqb, eq-eqb}
+use Rattle.std.specs.Prelude.{◌≡◌, ◌≢◌, refl, ℕ, suc, ◌+◌, ◌<◌, ◌≤◌, ◌==◌, cond, List, [], ◌∷◌, ◌++◌, All, length}
+use Rattle.std.proofs.Common.{sym, ◌∙◌, ap, arith, inl, inr, subst, T, eq-eqb}
 use Rattle.std.proofs.Math.Facts.{eqb_yes}
 use Rattle.std.proofs.Math.ListN.{set, get_or, get_or-append}
 use Rattle.std.proofs.lemmas.Bool.{cases_Bool}

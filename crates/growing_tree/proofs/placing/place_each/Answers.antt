@@ -1,4 +1,4 @@
-use Rattle.std.proofs.Common.{sym, ◌∙◌, ap, arith, ◌≡◌, ◌<◌, ◌+◌, length, get_or, sum_by, refl, ℕ, [], List}
+use Rattle.std.proofs.Common.{sym, ◌∙◌, ap, arith, ◌≡◌, ◌<◌, ◌+◌, length, get_or, sum_by, ℕ, [], List}
 use Rattle.std.proofs.lemmas.List.{get_or_read}
 use Rattle.agg_model.specs.declared.aggregation.Agg.{out-Agg}
 use Rattle.agg_evaluation.specs.Rows.{row_of}

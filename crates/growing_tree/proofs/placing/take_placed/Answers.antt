@@ -1,11 +1,9 @@
-use Rattle.std.proofs.Common.{sym, ◌∙◌, ap, arith, ◌≡◌, ◌<◌, ◌+◌, ◌∷◌, [], length, take, get_or, set}
-use Rattle.std.specs.Prelude.{Some, slice_get}
+use Rattle.std.proofs.Common.{sym, ◌∙◌, ap, arith, ◌<◌, ◌+◌, ◌∷◌, [], length, take, get_or, set}
 use Rattle.std.proofs.lemmas.Option.{slice_get-get_or}
 use Rattle.agg_evaluation.specs.Rows.{row_of}
 use Rattle.growing_tree.specs.Placements.{counts_with, taken_with}
 use Rattle.growing_tree.specs.Measures.{metrics_at}
 use Rattle.growing_tree.specs.declared.placing.Placement.{Placement}
-use Rattle.growing_tree.proofs.Children.{take-full}
 use Rattle.growing_tree.proofs.Placements.{counted-more, one-is, taken-more, taken-same}
 use Rattle.growing_tree.proofs.Steps.{take-more}
 use Rattle.growing_tree.proofs.placing.take_placed.Goals as goal

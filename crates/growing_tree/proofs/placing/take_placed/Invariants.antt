@@ -1,4 +1,4 @@
-use Rattle.std.proofs.Common.{◌≡◌, ℕ, length, take}
+use Rattle.std.proofs.Common.{◌≡◌, ℕ, take}
 use Rattle.agg_evaluation.specs.Rows.{row_of}
 use Rattle.growing_tree.specs.Placements.{counts_with, taken_with}
 use Rattle.growing_tree.specs.Measures.{metrics_at}
