@@ -8,6 +8,7 @@ pub mod Codes
 pub mod ReadyFolds
 pub mod Readiness
 pub mod Shown
+pub mod Grown
 pub mod Grouped
 pub mod Gathered
 pub mod Placements

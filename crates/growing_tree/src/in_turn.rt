@@ -15,9 +15,10 @@ ghost use Rattle.growing_tree.specs.Shown.{IsAlike};
 ghost use Rattle.growing_tree.specs.Trees.{IsAligned};
 ghost use Rattle.growing_tree.specs.declared.ready.Ready.{out-Ready};
 
+use crate::at_codes::put_alone;
 use crate::gathering::{count, gather, put_row};
 use crate::kinds::{are_metrics, has_buckets, is_keyed};
-use crate::lone_rows::{put_alone, take_in_tree};
+use crate::lone_rows::take_in_tree;
 use crate::placing::put_block;
 use crate::ready::{Ready, ReadyKind};
 use crate::sums::sum;
@@ -51,7 +52,7 @@ fn put_next(
     ensures aligned { IsAligned level.old → IsAligned level.new }
 {
     if metrics {
-        return put_alone(alloc, agg, ready, shard, row, spare, level);
+        return put_alone(alloc, agg, ready, shard, row, spare, level, &mut ());
     }
     let one = [row];
     put_row(alloc, agg, ready, shard, one.as_slice(), spare, level)

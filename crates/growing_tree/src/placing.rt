@@ -3,7 +3,6 @@
 ghost use Rattle.std.specs.Prelude.{◌≡◌, ◌<◌, ◌≤◌, ◌+◌, ◌++◌, ◌∷◌, [], ℕ, All, IfOk, IsTrue, List as AnyList, OnOk, length, map, sum_by};
 ghost use Rattle.std.specs.List.{list_all};
 ghost use Rattle.agg_model.specs.declared.aggregation.Agg.{out-Agg};
-ghost use Rattle.agg_evaluation.specs.Keys.{keys};
 ghost use Rattle.agg_evaluation.specs.Rows.{row_of};
 ghost use Rattle.evaluation_laws.proofs.CostLaws.{bytes};
 ghost use Rattle.growth_laws.specs.Gathering.{put_rows};
@@ -13,13 +12,12 @@ ghost use Rattle.growing_tree.specs.GatheredEach.{AreRises, after_each, bytes_af
 ghost use Rattle.growing_tree.specs.Placements.{ArePlacements, counts_with, shown_with, taken_with};
 ghost use Rattle.growing_tree.specs.Measures.{metrics_at};
 ghost use Rattle.growing_tree.specs.Readiness.{IsReadyFor, is_metric};
-ghost use Rattle.growing_tree.specs.Shown.{put_all};
 ghost use Rattle.growing_tree.specs.Trees.{IsAligned, IsIndexed};
 ghost use Rattle.growing_tree.specs.declared.placing.Placement.{Placement as AnyPlacement};
 ghost use Rattle.growing_tree.specs.declared.ready.Ready.{out-Ready};
 
+use crate::at_codes::{TakesRow, put_alone};
 use crate::beginning::bucket_bytes;
-use crate::kinds::{lone_code, row_codes};
 use crate::measured::{Measured, begin_measured, take_measured};
 use crate::number::Taken;
 use crate::ready::Ready;
@@ -121,113 +119,34 @@ pub(crate) fn put_one_measured(
     Ok(spot.begun)
 }
 
-// The place of one more row at one of its codes.
-fn place_one(
-    agg: &Agg,
-    ready: &Ready,
-    shard: &Shard,
-    row: u32,
-    code: i64,
-    measured: &mut Measured,
-    placements: &mut Vec<Placement>,
-) -> Result<u64, AllocError>
-    requires ready { IsReadyFor shard.now agg.now ready.now }
-    requires metrics { IsTrue (list_all (λ a. is_metric (out-Agg a).kind) (out-Agg agg.now).children) }
-    requires in_range { row < length shard.now.rows }
-    requires placements { ArePlacements (length measured.old.counts.items) shard.now placements.old.items }
-    ensures buckets { OnOk result (shown_with shard.now agg.now ready.now measured.new placements.new.items
-        ≡ put_rows (gatherers shard.now (out-Agg agg.now).children) (row_of shard.now.rows row ∷ []) (key_at shard.now ready.now code)
-        (shown_with shard.now agg.now ready.now measured.old placements.old.items)) }
-    ensures cost { IfOk result (λ added. sum_by bytes (shown_with shard.now agg.now ready.now measured.new placements.new.items)
-        ≡ sum_by bytes (shown_with shard.now agg.now ready.now measured.old placements.old.items) + added) }
-    ensures placements { OnOk result (ArePlacements (length measured.new.counts.items) shard.now placements.new.items) }
-    ensures aligned { IsIndexed measured.old.places measured.old.counts.items → IsIndexed measured.new.places measured.new.counts.items }
-{
-    let spot = place_for(agg, ready, shard, code, measured)?;
-    placements.push(Placement {
-        row,
-        place: spot.place,
-    })?;
-    Ok(spot.begun)
-}
+/// A row is placed, and waits to go into its bucket.
+impl TakesRow<Vec<Placement>> for Measured {
+    ghost shown = { λ shard a r m placements. shown_with shard a r m placements.items };
 
-// The places of one more row at its codes, one after another.
-fn place_codes(
-    agg: &Agg,
-    ready: &Ready,
-    shard: &Shard,
-    row: u32,
-    codes: &[i64],
-    measured: &mut Measured,
-    placements: &mut Vec<Placement>,
-) -> Result<u64, AllocError>
-    requires ready { IsReadyFor shard.now agg.now ready.now }
-    requires metrics { IsTrue (list_all (λ a. is_metric (out-Agg a).kind) (out-Agg agg.now).children) }
-    requires in_range { row < length shard.now.rows }
-    requires placements { ArePlacements (length measured.old.counts.items) shard.now placements.old.items }
-    ensures buckets { OnOk result (shown_with shard.now agg.now ready.now measured.new placements.new.items
-        ≡ put_all (λ k. row_of shard.now.rows row ∷ []) (gatherers shard.now (out-Agg agg.now).children)
-        (map (key_at shard.now ready.now) codes.now)
-        (shown_with shard.now agg.now ready.now measured.old placements.old.items)) }
-    ensures cost { IfOk result (λ added. sum_by bytes (shown_with shard.now agg.now ready.now measured.new placements.new.items)
-        ≡ sum_by bytes (shown_with shard.now agg.now ready.now measured.old placements.old.items) + added) }
-    ensures placements { OnOk result (ArePlacements (length measured.new.counts.items) shard.now placements.new.items) }
-    ensures aligned { IsIndexed measured.old.places measured.old.counts.items → IsIndexed measured.new.places measured.new.counts.items }
-{
-    let mut added = 0;
-    for place in 0..codes.len() {
-        let more = place_one(agg, ready, shard, row, codes[place], measured, placements)?;
-        added = sum(added, more)?;
-    }
-    Ok(added)
-}
+    ghost IsFit = { λ shard m placements. ArePlacements (length m.counts.items) shard placements.items };
 
-// The places of one more row at its keys. The answer is by how many bytes the cost of the buckets rose.
-fn place_row(
-    alloc: Global,
-    agg: &Agg,
-    ready: &Ready,
-    shard: &Shard,
-    row: u32,
-    spare: &mut Vec<Vec<i64>>,
-    measured: &mut Measured,
-    placements: &mut Vec<Placement>,
-) -> Result<u64, AllocError>
-    requires ready { IsReadyFor shard.now agg.now ready.now }
-    requires metrics { IsTrue (list_all (λ a. is_metric (out-Agg a).kind) (out-Agg agg.now).children) }
-    requires built { IsShard shard.now }
-    requires in_range { row < length shard.now.rows }
-    requires placements { ArePlacements (length measured.old.counts.items) shard.now placements.old.items }
-    ensures buckets { OnOk result (shown_with shard.now agg.now ready.now measured.new placements.new.items
-        ≡ put_at_keys shard.now.rows (gatherers shard.now (out-Agg agg.now).children) (out-Agg agg.now).kind
-        (row_of shard.now.rows row) (shown_with shard.now agg.now ready.now measured.old placements.old.items)) }
-    ensures cost { IfOk result (λ added. sum_by bytes (shown_with shard.now agg.now ready.now measured.new placements.new.items)
-        ≡ sum_by bytes (shown_with shard.now agg.now ready.now measured.old placements.old.items) + added) }
-    ensures placements { OnOk result (ArePlacements (length measured.new.counts.items) shard.now placements.new.items) }
-    ensures aligned { IsIndexed measured.old.places measured.old.counts.items → IsIndexed measured.new.places measured.new.counts.items }
-{
-    match lone_code(shard, &agg.kind, &ready.kind, row) {
-        Some(Some(code)) => {
-            let more = place_one(agg, ready, shard, row, code, measured, placements)?;
-            Ok(more)
-        }
-        Some(None) => Ok(0),
-        None => {
-            let mut codes = spare.pop().unwrap_or(Vec::new(alloc));
-            row_codes(shard, &agg.kind, &ready.kind, row, &mut codes)?;
-            let more = place_codes(
-                agg,
-                ready,
-                shard,
-                row,
-                codes.as_slice(),
-                measured,
-                placements,
-            )?;
-            spare.push(codes)?;
-            Ok(more)
-        }
+    ghost Stays = { λ old new. IsIndexed old.places old.counts.items → IsIndexed new.places new.counts.items };
+
+    fn put(
+        &mut self,
+        agg: &Agg,
+        ready: &Ready,
+        shard: &Shard,
+        row: u32,
+        code: i64,
+        placements: &mut Vec<Placement>,
+    ) -> Result<u64, AllocError> {
+        let spot = place_for(agg, ready, shard, code, self)?;
+        placements.push(Placement {
+            row,
+            place: spot.place,
+        })?;
+        Ok(spot.begun)
     }
+
+    ghost stays_none = { λ m h. h };
+
+    ghost stays_more = { λ s t u first next h. next (first h) };
 }
 
 // The places of more rows, one after another.
@@ -259,7 +178,7 @@ fn place_each(
     ensures aligned { IsIndexed measured.old.places measured.old.counts.items → IsIndexed measured.new.places measured.new.counts.items }
 {
     for place in 0..rows.len() {
-        let more = place_row(
+        let more = put_alone(
             alloc,
             agg,
             ready,

@@ -35,8 +35,8 @@ loop-place-preserved c =
     record {
       buckets = after;
       rising = rising-more (bytes_after step (rows_at shard rows) old) i more c.in_ok-next.next c.args.added.now.items now rising within up (c.in_ok-next.ensures ∙ ap (λ (k : ℕ). k + more) (get_or_read now i c.index.result.now within c.index.ensures 0));
-      placements = c.in_ok-more.ensures.placements;
-      aligned = λ h. c.in_ok-more.ensures.aligned (c.loop-place.invariant.aligned h);
+      placements = c.in_ok-more.ensures.fit;
+      aligned = λ h. c.put_alone.ensures.stays (c.loop-place.invariant.aligned h);
     }
 
 pub loop-place-init : goal.loop-place-init
