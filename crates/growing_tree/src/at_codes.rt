@@ -1,5 +1,5 @@
-//! One more row in the buckets of its codes, whatever takes it.
-ghost use Rattle.std.specs.Prelude.{◌≡◌, ◌<◌, ◌+◌, ◌∷◌, [], IfOk, IsTrue, List as AnyList, OnOk, length, map, sum_by};
+//! Rows in the buckets of their codes, one after another, whatever takes them.
+ghost use Rattle.std.specs.Prelude.{◌≡◌, ◌<◌, ◌+◌, ◌∷◌, [], All, IfOk, IsTrue, List as AnyList, OnOk, length, map, sum_by};
 ghost use Rattle.std.specs.List.{list_all};
 ghost use Rattle.agg_model.specs.declared.aggregation.Agg.{Agg as AnyAgg, out-Agg};
 ghost use Rattle.agg_model.specs.declared.partial.Bucket.{Bucket as AnyBucket};
@@ -9,10 +9,11 @@ ghost use Rattle.evaluation_laws.proofs.CostLaws.{bytes};
 ghost use Rattle.growth_laws.specs.Gathering.{put_rows};
 ghost use Rattle.shard_columns.specs.Built.{IsShard};
 ghost use Rattle.shard_columns.specs.Columns.{Columns};
-ghost use Rattle.growing_tree.specs.Gathered.{gatherers, key_at};
+ghost use Rattle.growing_tree.specs.Gathered.{gatherers, key_at, rows_at};
+ghost use Rattle.growing_tree.specs.GatheredEach.{AreRises, after_each, bytes_after, put_at_keys};
 ghost use Rattle.growing_tree.specs.Readiness.{IsReadyFor, is_metric};
 ghost use Rattle.growing_tree.specs.Shown.{put_all};
-ghost use Rattle.growing_tree.specs.declared.ready.Ready.{Ready as AnyReady, out-Ready};
+ghost use Rattle.growing_tree.specs.declared.ready.Ready.{Ready as AnyReady};
 
 use crate::kinds::{lone_code, row_codes};
 use crate::ready::Ready;
@@ -54,8 +55,10 @@ pub(crate) trait TakesRow<Waiting> {
         ensures fit { OnOk result (IsFit shard.now self.new waiting.new) }
         ensures stays { Stays self.old self.new };
 
+    /// Also where no row was taken.
     ghost stays_none: { (s : Self) → Stays s s };
 
+    /// And where rows were taken twice.
     ghost stays_more: { (s t u : Self) → Stays s t → Stays t u → Stays s u };
 }
 
@@ -129,4 +132,49 @@ pub(crate) fn put_alone<Waiting, T: TakesRow<Waiting>>(
             Ok(more)
         }
     }
+}
+
+/// More rows in the buckets of their keys, one after another; to the number of each is added by how many bytes their cost rose.
+pub(crate) fn put_each_alone<Waiting, T: TakesRow<Waiting>>(
+    alloc: Global,
+    agg: &Agg,
+    ready: &Ready,
+    shard: &Shard,
+    rows: &[u32],
+    spare: &mut Vec<Vec<i64>>,
+    buckets: &mut T,
+    waiting: &mut Waiting,
+    added: &mut Vec<u64>,
+) -> Result<(), AllocError>
+    requires ready { IsReadyFor shard.now agg.now ready.now }
+    requires metrics { IsTrue (list_all (λ a. is_metric (out-Agg a).kind) (out-Agg agg.now).children) }
+    requires built { IsShard shard.now }
+    requires in_range { All (λ n. n < length shard.now.rows) rows.now }
+    requires fit { T.IsFit shard.now buckets.old waiting.old }
+    requires many { length added.old.items ≡ length rows.now }
+    ensures buckets { OnOk result (T.shown shard.now agg.now ready.now buckets.new waiting.new ≡ after_each
+        (put_at_keys shard.now.rows (gatherers shard.now (out-Agg agg.now).children) (out-Agg agg.now).kind)
+        (rows_at shard.now rows.now) (T.shown shard.now agg.now ready.now buckets.old waiting.old)) }
+    ensures rises { OnOk result (AreRises (bytes_after
+        (put_at_keys shard.now.rows (gatherers shard.now (out-Agg agg.now).children) (out-Agg agg.now).kind)
+        (rows_at shard.now rows.now) (T.shown shard.now agg.now ready.now buckets.old waiting.old))
+        (length rows.now) added.old.items added.new.items) }
+    ensures fit { OnOk result (T.IsFit shard.now buckets.new waiting.new) }
+    ensures stays { T.Stays buckets.old buckets.new }
+{
+    for place in 0..rows.len() {
+        let more = put_alone(
+            alloc,
+            agg,
+            ready,
+            shard,
+            rows[place],
+            spare,
+            buckets,
+            waiting,
+        )?;
+        let next = sum(added[place], more)?;
+        added[place] = next;
+    }
+    Ok(())
 }

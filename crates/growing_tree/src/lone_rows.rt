@@ -1,6 +1,6 @@
 //! Single rows in the buckets of an aggregation below which there are metrics, or nothing: they need no list of rows, and no
 //! call on the way down calls itself.
-ghost use Rattle.std.specs.Prelude.{◌≡◌, ◌<◌, ◌+◌, ◌∷◌, [], All, IfOk, IsTrue, OnOk, length, map, sum_by};
+ghost use Rattle.std.specs.Prelude.{◌≡◌, ◌<◌, ◌+◌, ◌∷◌, [], All, IfOk, IsTrue, OnOk, length, sum_by};
 ghost use Rattle.std.specs.List.{list_all};
 ghost use Rattle.agg_model.specs.declared.aggregation.Agg.{out-Agg};
 ghost use Rattle.agg_evaluation.specs.Cost.{node_cost};
@@ -133,6 +133,7 @@ fn put_one_fixed(
     Ok(())
 }
 
+/// A row goes into its buckets at once: none waits.
 impl TakesRow<()> for Level {
     ghost shown = { λ shard a r level waiting. shown_level shard r level };
 

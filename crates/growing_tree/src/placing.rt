@@ -1,27 +1,25 @@
 //! Rows in buckets over metrics alone. Those of a block go in two passes: first all get the places of their buckets, and then they go
 //! into them. Each pass is short, so that the processor waits for the memory of many rows at once.
-ghost use Rattle.std.specs.Prelude.{◌≡◌, ◌<◌, ◌≤◌, ◌+◌, ◌++◌, ◌∷◌, [], ℕ, All, IfOk, IsTrue, List as AnyList, OnOk, length, map, sum_by};
+ghost use Rattle.std.specs.Prelude.{◌≡◌, ◌<◌, ◌≤◌, ◌+◌, ◌++◌, ◌∷◌, [], ℕ, All, IfOk, IsTrue, List as AnyList, OnOk, length, sum_by};
 ghost use Rattle.std.specs.List.{list_all};
 ghost use Rattle.agg_model.specs.declared.aggregation.Agg.{out-Agg};
 ghost use Rattle.agg_evaluation.specs.Rows.{row_of};
 ghost use Rattle.evaluation_laws.proofs.CostLaws.{bytes};
 ghost use Rattle.growth_laws.specs.Gathering.{put_rows};
 ghost use Rattle.shard_columns.specs.Built.{IsShard};
-ghost use Rattle.growing_tree.specs.Gathered.{gatherers, key_at, rows_at, shown_measured};
+ghost use Rattle.growing_tree.specs.Gathered.{gatherers, key_at, rows_at};
 ghost use Rattle.growing_tree.specs.GatheredEach.{AreRises, after_each, bytes_after, put_at_keys};
 ghost use Rattle.growing_tree.specs.Placements.{ArePlacements, counts_with, shown_with, taken_with};
 ghost use Rattle.growing_tree.specs.Measures.{metrics_at};
 ghost use Rattle.growing_tree.specs.Readiness.{IsReadyFor, is_metric};
-ghost use Rattle.growing_tree.specs.Trees.{IsAligned, IsIndexed};
+ghost use Rattle.growing_tree.specs.Trees.{IsIndexed};
 ghost use Rattle.growing_tree.specs.declared.placing.Placement.{Placement as AnyPlacement};
-ghost use Rattle.growing_tree.specs.declared.ready.Ready.{out-Ready};
 
-use crate::at_codes::{TakesRow, put_alone};
+use crate::at_codes::{TakesRow, put_each_alone};
 use crate::beginning::bucket_bytes;
 use crate::measured::{Measured, begin_measured, take_measured};
 use crate::number::Taken;
 use crate::ready::Ready;
-use crate::sums::sum;
 use agg_model::{Agg, List};
 use bucket_places::Place;
 use shard_columns::Shard;
@@ -149,51 +147,6 @@ impl TakesRow<Vec<Placement>> for Measured {
     ghost stays_more = { λ s t u first next h. next (first h) };
 }
 
-// The places of more rows, one after another.
-fn place_each(
-    alloc: Global,
-    agg: &Agg,
-    ready: &Ready,
-    shard: &Shard,
-    rows: &[u32],
-    spare: &mut Vec<Vec<i64>>,
-    measured: &mut Measured,
-    placements: &mut Vec<Placement>,
-    added: &mut Vec<u64>,
-) -> Result<(), AllocError>
-    requires ready { IsReadyFor shard.now agg.now ready.now }
-    requires metrics { IsTrue (list_all (λ a. is_metric (out-Agg a).kind) (out-Agg agg.now).children) }
-    requires built { IsShard shard.now }
-    requires in_range { All (λ n. n < length shard.now.rows) rows.now }
-    requires none { placements.old.items ≡ [] }
-    requires many { length added.old.items ≡ length rows.now }
-    ensures buckets { OnOk result (shown_with shard.now agg.now ready.now measured.new placements.new.items ≡ after_each
-        (put_at_keys shard.now.rows (gatherers shard.now (out-Agg agg.now).children) (out-Agg agg.now).kind)
-        (rows_at shard.now rows.now) (shown_with shard.now agg.now ready.now measured.old [])) }
-    ensures rises { OnOk result (AreRises (bytes_after
-        (put_at_keys shard.now.rows (gatherers shard.now (out-Agg agg.now).children) (out-Agg agg.now).kind)
-        (rows_at shard.now rows.now) (shown_with shard.now agg.now ready.now measured.old []))
-        (length rows.now) added.old.items added.new.items) }
-    ensures placements { OnOk result (ArePlacements (length measured.new.counts.items) shard.now placements.new.items) }
-    ensures aligned { IsIndexed measured.old.places measured.old.counts.items → IsIndexed measured.new.places measured.new.counts.items }
-{
-    for place in 0..rows.len() {
-        let more = put_alone(
-            alloc,
-            agg,
-            ready,
-            shard,
-            rows[place],
-            spare,
-            measured,
-            placements,
-        )?;
-        let next = sum(added[place], more)?;
-        added[place] = next;
-    }
-    Ok(())
-}
-
 // Rows go into the buckets at their places.
 fn take_placed(
     aggs: &List<Agg>,
@@ -243,7 +196,7 @@ pub(crate) fn put_block(
     ensures aligned { IsIndexed measured.old.places measured.old.counts.items → IsIndexed measured.new.places measured.new.counts.items }
 {
     let mut placements = Vec::with_capacity(alloc, rows.len())?;
-    place_each(
+    put_each_alone(
         alloc,
         agg,
         ready,
