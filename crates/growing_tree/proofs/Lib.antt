@@ -23,4 +23,5 @@ pub mod Rises
 pub mod Each
 pub mod AllMetrics
 pub mod MeasuredBuckets
-pub mod Hits
+pub mod Placements
+pub mod Placed

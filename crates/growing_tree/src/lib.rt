@@ -4,6 +4,7 @@
 //! what the shard answers.
 #![tactic(auto)]
 
+mod at_codes;
 mod beginning;
 mod chosen;
 mod coded;
