@@ -30,7 +30,7 @@ use Rattle.terms_agg.specs.Trim.{trimmed_by, trimmed_some}
 use Rattle.growing_tree.specs.Codes.{code_key}
 use Rattle.growing_tree.specs.Decoded.{decoded, decoded_bucket}
 use Rattle.growing_tree.specs.Finished.{finished_bucket, finished_children, finished_with}
-use Rattle.growing_tree.specs.Trees.{bucket_at, coded_buckets, numbered_buckets}
+use Rattle.growing_tree.specs.Trees.{bucket_at, numbered_buckets}
 use Rattle.growing_tree.specs.declared.ready.Ready.{Ready, out-Ready}
 use Rattle.growing_tree.specs.declared.tree.Growing.{Growing}
 use Rattle.growing_tree.proofs.Levels.{decoded-out}
@@ -68,11 +68,6 @@ drop-full [] zero l = refl
 drop-full [] (suc n) l = refl
 drop-full (x ∷ xs) zero l = absurd (omega arith)
 drop-full (x ∷ xs) (suc n) l = drop-full xs n (omega arith)
-
--- codes without buckets
-pub coded-none : (codes : List ℤ) → coded_buckets codes [] ≡ []
-coded-none [] = refl
-coded-none (c ∷ cs) = refl
 
 module _ (shard : Columns) (a : Agg) (r : Ready) where
   abbrev cutters : List Cutter

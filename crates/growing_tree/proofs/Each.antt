@@ -45,6 +45,14 @@ module _ {A : Type 0} (step : PlacedRow → A → A) where
       ap (λ rs. after_each step rs x) (take-more (map f rows) i (f (get_or rows i 0)) (slice_get-map f rows i ∙ ap (option_map f) (slice_get-get_or rows i 0 l)))
       ∙ after-more (take i (map f rows)) (f (get_or rows i 0)) x
 
+  -- what that one makes, and by how much what it costs rises
+  pub one-in-turn : (cost_of : A → ℕ) (f : ℕ → PlacedRow) (rows : List ℕ) (i more : ℕ) (x before after : A) → i < length rows
+      → before ≡ after_each step (take i (map f rows)) x → after ≡ step (f (get_or rows i 0)) before → cost_of after ≡ cost_of before + more
+      → (after ≡ after_each step (take (i + 1) (map f rows)) x) × (cost_of (after_each step (take (i + 1) (map f rows)) x) ≡ cost_of (after_each step (take i (map f rows)) x) + more)
+  one-in-turn cost_of f rows i more x before after l is stepped rose =
+      let now = stepped ∙ ap (step (f (get_or rows i 0))) is ∙ sym (after-next f rows i x l) in
+      (now, sym (ap cost_of now) ∙ rose ∙ ap (λ y. cost_of y + more) is)
+
   -- all of them
   pub after-all : (f : ℕ → PlacedRow) (rows : List ℕ) (i : ℕ) (x : A) → length rows ≤ i → after_each step (take i (map f rows)) x ≡ after_each step (map f rows) x
   after-all f rows i x l = let many = length-map rows f in ap (λ rs. after_each step rs x) (take-full (map f rows) i (omega (arith, many)))

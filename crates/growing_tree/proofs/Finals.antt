@@ -21,10 +21,10 @@ use Rattle.agg_evaluation.proofs.DistinctKeys.{ascending-keys}
 use Rattle.agg_evaluation.proofs.KeyLists.{ascending-distinct_keys, below-absent, has_key-distinct_keys, key_eq-self}
 use Rattle.growth_laws.proofs.Gathering.{group-one, keys-one}
 use Rattle.growth_laws.specs.Gathering.{Gatherer, gathered_buckets, kept_buckets, put_groups, put_rows}
-use Rattle.growing_tree.specs.Grouped.{AreGroups, HasOwnKeys, pairs_of, rows_with}
+use Rattle.growing_tree.specs.Grouped.{AreApart, AreGroups, HasOwnKeys, pairs_of, rows_with}
 use Rattle.growing_tree.specs.Shown.{put_all}
 use Rattle.growing_tree.proofs.Grouping.{apart-keys, keys-of-pairs, rows-with-key}
-use Rattle.growing_tree.proofs.Orderings.{AreApart, any-order}
+use Rattle.growing_tree.proofs.Orderings.{any-order}
 use Rattle.growing_tree.proofs.Putting.{first-absent, rest-distinct}
 
 -- whether all buckets are kept

@@ -34,10 +34,11 @@ use Rattle.shard_columns.specs.Columns.{Columns}
 use Rattle.terms_agg.specs.Trim.{trimmed_by, trimmed_some}
 use Rattle.growing_tree.specs.CodedBuckets.{coded_bucket}
 use Rattle.growing_tree.specs.Finished.{finished_bucket}
-use Rattle.growing_tree.specs.Frequent.{AreFrequent, Suffices, is_by_count, is_count}
+use Rattle.growing_tree.specs.Frequent.{AreFrequent, IsChosen, Suffices, frequent, has_rows, is_by_count, is_count}
+use Rattle.growing_tree.specs.Grouped.{AreApart}
+use Rattle.growing_tree.specs.declared.chosen.Chosen.{Chosen}
 use Rattle.growing_tree.specs.declared.coded.Coded.{Coded}
 use Rattle.growing_tree.specs.declared.ready.Ready.{Ready}
-use Rattle.growing_tree.proofs.Orderings.{AreApart}
 use Rattle.growing_tree.proofs.Reordered.{apart-sorted, sorted-any, sorted-before}
 
 -- items that pass a test and stand before all others
@@ -98,10 +99,6 @@ more-first true by.Count kinds x y e more = ap ordering_reverse (greater (bucket
 more-first true by.Key kinds x y e more = absurd (cc e)
 more-first true (by.Child i) kinds x y e more = absurd (cc e)
 more-first false b kinds x y e more = absurd (cc e)
-
--- whether a bucket has at least so many rows
-abbrev pub has_rows : ℕ → Bucket → Bool
-has_rows least b = nat_le least (bucket_count b)
 
 frequent-first : (kinds : List Kind) (orders : List Order) (least : ℕ) → is_by_count orders ≡ true → (x y : Bucket) → has_rows least x ≡ true → has_rows least y ≡ false → bucket_cmp kinds orders x y ≡ Less
 frequent-first kinds [] least first x y has lacks = absurd (cc first)
@@ -164,88 +161,94 @@ module _ (shard : Columns) (a : Agg) (r : Ready) where
   abbrev made : Coded → Bucket
   made c = finish (coded_bucket c)
 
-  abbrev keys_of : List Coded → List Key
-  keys_of cs = map bucket_key (map made cs)
+  abbrev keys_of : List Bucket → List Key
+  keys_of bs = map bucket_key (map finish bs)
 
   -- a bucket keeps its rows
-  filter-made : (least : ℕ) (all : List Coded) → filter (has_rows least) (map made all) ≡ map made (filter (λ c. nat_le least c.bucket.count) all)
+  filter-finished : (least : ℕ) (all : List Bucket) → filter (has_rows least) (map finish all) ≡ map finish (frequent least all)
   unfolding computing
-  filter-made least all = filter-map (has_rows least) made all
+  filter-finished least all = filter-map (has_rows least) finish all
 
   -- the frequent ones are cut as all of them are
-  frequent-cut : (total : ℕ) (all kept : List Coded) → AreApart (keys_of all) → AreFrequent (out-Agg a).kind all kept → trimmed_some a total (sorted_by_key (map made kept)) ≡ trimmed_some a total (sorted_by_key (map made all))
+  frequent-cut : (total : ℕ) (all kept : List Bucket) → AreApart (keys_of all) → AreFrequent (out-Agg a).kind all kept → trimmed_some a total (sorted_by_key (map finish kept)) ≡ trimmed_some a total (sorted_by_key (map finish all))
   frequent-cut total all kept apart are =
       let kinds = child_kinds (out-Agg a).children in
       let t = are.cuts.terms in
       let cmp = bucket_cmp kinds t.order in
-      let kept_is : map made kept ≡ filter (has_rows are.least) (map made all) = ap (map made) are.kept_are ∙ sym (filter-made are.least all) in
-      let kept_apart : AreApart (map bucket_key (filter (has_rows are.least) (map made all))) =
-      subst (λ bs. AreApart (map bucket_key bs)) (sym (filter-made are.least all)) (apart-filter made (λ c. nat_le are.least c.bucket.count) all apart) in
-      let many : length (filter (has_rows are.least) (map made all)) ≡ length kept = sym (ap length kept_is) ∙ length-made kept in
-      let first : take t.shard_size (sorted cmp (sorted_by_key (map made kept))) ≡ take t.shard_size (sorted cmp (sorted_by_key (map made all))) =
-      ap (λ bs. take t.shard_size (sorted cmp (sorted_by_key bs))) kept_is ∙ ap (take t.shard_size) (by-key-before kinds t.order (filter (has_rows are.least) (map made all)) kept_apart)
-      ∙ first-pass cmp (bucket_cmp_total kinds t.order) (has_rows are.least) (frequent-first kinds t.order are.least are.cuts.by_count) t.shard_size (map made all) (let enough = are.cuts.enough in omega (arith, enough, many))
-      ∙ ap (take t.shard_size) (sym (by-key-before kinds t.order (map made all) apart)) in
-      ap (λ o. trimmed_by kinds o total (sorted_by_key (map made kept))) are.cuts.is ∙ ap (kept_node t.shard_size total) first ∙ sym (ap (λ o. trimmed_by kinds o total (sorted_by_key (map made all))) are.cuts.is)
+      let kept_is : map finish kept ≡ filter (has_rows are.least) (map finish all) = ap (map finish) are.kept_are ∙ sym (filter-finished are.least all) in
+      let kept_apart : AreApart (map bucket_key (filter (has_rows are.least) (map finish all))) =
+      subst (λ bs. AreApart (map bucket_key bs)) (sym (filter-finished are.least all)) (apart-filter finish (has_rows are.least) all apart) in
+      let many : length (filter (has_rows are.least) (map finish all)) ≡ length kept = sym (ap length kept_is) ∙ length-finished kept in
+      let first : take t.shard_size (sorted cmp (sorted_by_key (map finish kept))) ≡ take t.shard_size (sorted cmp (sorted_by_key (map finish all))) =
+      ap (λ bs. take t.shard_size (sorted cmp (sorted_by_key bs))) kept_is ∙ ap (take t.shard_size) (by-key-before kinds t.order (filter (has_rows are.least) (map finish all)) kept_apart)
+      ∙ first-pass cmp (bucket_cmp_total kinds t.order) (has_rows are.least) (frequent-first kinds t.order are.least are.cuts.by_count) t.shard_size (map finish all) (let enough = are.cuts.enough in omega (arith, enough, many))
+      ∙ ap (take t.shard_size) (sym (by-key-before kinds t.order (map finish all) apart)) in
+      ap (λ o. trimmed_by kinds o total (sorted_by_key (map finish kept))) are.cuts.is ∙ ap (kept_node t.shard_size total) first ∙ sym (ap (λ o. trimmed_by kinds o total (sorted_by_key (map finish all))) are.cuts.is)
     where
-      length-made : (cs : List Coded) → length (map made cs) ≡ length cs
-      length-made [] = refl
-      length-made (c ∷ cs) = ap suc (length-made cs)
+      length-finished : (bs : List Bucket) → length (map finish bs) ≡ length bs
+      length-finished [] = refl
+      length-finished (b ∷ bs) = ap suc (length-finished bs)
 
-  -- what suffices, in some order of its own first, is cut as all of them are
-  pub suffices-cut : (by : Coded → Coded → Ordering) (total : ℕ) (all kept : List Coded) → AreApart (keys_of all) → Suffices (out-Agg a).kind all kept
-      → trimmed_some a total (sorted_by_key (map finish (map coded_bucket (sorted by kept)))) ≡ trimmed_some a total (sorted_by_key (map finish (map coded_bucket all)))
-  suffices-cut by total all kept apart are =
-      ap (λ bs. trimmed_some a total (sorted_by_key bs)) (map-map finish coded_bucket (sorted by kept))
-      ∙ elim are [
-        | inl same ↦
-            ap (λ cs. trimmed_some a total (sorted_by_key (map made (sorted by cs)))) same ∙ ap (trimmed_some a total) (sorted-before made by all apart)
-        | inr frequent ↦
-            ap (trimmed_some a total)
-            (sorted-before made by kept (subst (λ cs. AreApart (keys_of cs)) (sym frequent.kept_are) (apart-filter made (λ c. nat_le frequent.least c.bucket.count) all apart)))
-            ∙ frequent-cut total all kept apart frequent
-      ]
-      ∙ ap (λ bs. trimmed_some a total (sorted_by_key bs)) (sym (map-map finish coded_bucket all))
+  suffices-apart : (all kept : List Bucket) → AreApart (keys_of all) → Suffices (out-Agg a).kind all kept → AreApart (keys_of kept)
+  suffices-apart all kept apart (inl same) = subst (λ bs. AreApart (keys_of bs)) (sym same) apart
+  suffices-apart all kept apart (inr are) = subst (λ bs. AreApart (keys_of bs)) (sym are.kept_are) (apart-filter finish (has_rows are.least) all apart)
 
-  suffices-apart : (all kept : List Coded) → AreApart (keys_of all) → Suffices (out-Agg a).kind all kept → AreApart (keys_of kept)
-  suffices-apart all kept apart (inl same) = subst (λ cs. AreApart (keys_of cs)) (sym same) apart
-  suffices-apart all kept apart (inr are) = subst (λ cs. AreApart (keys_of cs)) (sym are.kept_are) (apart-filter made (λ c. nat_le are.least c.bucket.count) all apart)
+  module _ (all : List Bucket) (kept : List Coded) (apart : AreApart (keys_of all)) (are : Suffices (out-Agg a).kind all (map coded_bucket kept)) where
+    made-apart : AreApart (map bucket_key (map made kept))
+    made-apart = subst (λ bs. AreApart (map bucket_key bs)) (map-map finish coded_bucket kept) (suffices-apart all (map coded_bucket kept) apart are)
 
-  -- terms need no order by key before they are cut
-  pub terms-cut : (by : Coded → Coded → Ordering) (total : ℕ) (all kept : List Coded) → is_terms (out-Agg a).kind ≡ true → AreApart (keys_of all) → Suffices (out-Agg a).kind all kept
-      → trimmed_some a total (map finish (map coded_bucket (sorted by kept))) ≡ trimmed_some a total (sorted_by_key (map finish (map coded_bucket (sorted by kept))))
-  terms-cut by total all kept terms apart are =
-      any-order (options_of (out-Agg a).kind) terms
-    where
-      bs : List Bucket
-      bs = map finish (map coded_bucket (sorted by kept))
+    -- what suffices, in some order of its own first, is cut as all of them are
+    pub suffices-cut : (by : Coded → Coded → Ordering) (total : ℕ)
+        → trimmed_some a total (sorted_by_key (map finish (map coded_bucket (sorted by kept)))) ≡ trimmed_some a total (sorted_by_key (map finish all))
+    suffices-cut by total =
+        ap (λ bs. trimmed_some a total (sorted_by_key bs)) (map-map finish coded_bucket (sorted by kept))
+        ∙ ap (trimmed_some a total) (sorted-before made by kept made-apart)
+        ∙ ap (λ bs. trimmed_some a total (sorted_by_key bs)) (sym (map-map finish coded_bucket kept))
+        ∙ elim are [
+          | inl same ↦ ap (λ bs. trimmed_some a total (sorted_by_key (map finish bs))) same
+          | inr frequent ↦ frequent-cut total all (map coded_bucket kept) apart frequent
+        ]
 
-      kinds : List Kind
-      kinds = child_kinds (out-Agg a).children
+    -- terms need no order by key before they are cut
+    pub terms-cut : (by : Coded → Coded → Ordering) (total : ℕ) → is_terms (out-Agg a).kind ≡ true
+        → trimmed_some a total (map finish (map coded_bucket (sorted by kept))) ≡ trimmed_some a total (sorted_by_key (map finish (map coded_bucket (sorted by kept))))
+    terms-cut by total terms =
+        any-order (options_of (out-Agg a).kind) terms
+      where
+        bs : List Bucket
+        bs = map finish (map coded_bucket (sorted by kept))
 
-      own : AreApart (map bucket_key bs)
-      own = subst (λ cs. AreApart (map bucket_key cs)) (sym (map-map finish coded_bucket (sorted by kept))) (apart-sorted made by kept (suffices-apart all kept apart are))
+        kinds : List Kind
+        kinds = child_kinds (out-Agg a).children
 
-      any-order : (o : Options) → (elim o [ Options.Terms t ↦ true | _ ↦ false ]) ≡ true → trimmed_by kinds o total bs ≡ trimmed_by kinds o total (sorted_by_key bs)
-      any-order (Options.Terms t) e = sym (ap (λ cs. kept_node t.shard_size total (take t.shard_size cs)) (by-key-before kinds t.order bs own))
-      any-order (Options.Histogram h) e = absurd (cc e)
-      any-order (Options.Filters names filters other) e = absurd (cc e)
-      any-order (Options.Filter query) e = absurd (cc e)
-      any-order (Options.Missing field) e = absurd (cc e)
-      any-order Options.Global e = absurd (cc e)
-      any-order (Options.Nested context) e = absurd (cc e)
-      any-order (Options.ReverseNested context) e = absurd (cc e)
-      any-order (Options.Composite sources size after) e = absurd (cc e)
-      any-order (Options.Metric m) e = absurd (cc e)
+        own : AreApart (map bucket_key bs)
+        own = subst (λ cs. AreApart (map bucket_key cs)) (sym (map-map finish coded_bucket (sorted by kept))) (apart-sorted made by kept made-apart)
 
-  finished-rows : (cs : List Coded) → sum_by bucket_count (map finish (map coded_bucket cs)) ≡ sum_by (λ c. c.bucket.count) cs
+        any-order : (o : Options) → (elim o [ Options.Terms t ↦ true | _ ↦ false ]) ≡ true → trimmed_by kinds o total bs ≡ trimmed_by kinds o total (sorted_by_key bs)
+        any-order (Options.Terms t) e = sym (ap (λ cs. kept_node t.shard_size total (take t.shard_size cs)) (by-key-before kinds t.order bs own))
+        any-order (Options.Histogram h) e = absurd (cc e)
+        any-order (Options.Filters names filters other) e = absurd (cc e)
+        any-order (Options.Filter query) e = absurd (cc e)
+        any-order (Options.Missing field) e = absurd (cc e)
+        any-order Options.Global e = absurd (cc e)
+        any-order (Options.Nested context) e = absurd (cc e)
+        any-order (Options.ReverseNested context) e = absurd (cc e)
+        any-order (Options.Composite sources size after) e = absurd (cc e)
+        any-order (Options.Metric m) e = absurd (cc e)
+
+  -- finished buckets have the rows of those that they are made of, in any order
+  pub finished-rows : (by : Coded → Coded → Ordering) (cs : List Coded) → sum_by bucket_count (map finish (map coded_bucket (sorted by cs))) ≡ sum_by (λ c. c.bucket.count) cs
   unfolding computing
-  finished-rows cs = ap (sum_by bucket_count) (map-map finish coded_bucket cs) ∙ sum_by-map bucket_count made cs
+  finished-rows by cs =
+      ap (sum_by bucket_count) (map-map finish coded_bucket (sorted by cs)) ∙ sum_by-map bucket_count made (sorted by cs) ∙ sum_by-sorted (λ (c : Coded). c.bucket.count) by cs
 
-  few : (k : Kind) (all kept : List Coded) → Suffices k all kept → sum_by (λ c. c.bucket.count) kept ≤ sum_by (λ c. c.bucket.count) all
-  few k all kept (inl same) = omega (arith, ap (sum_by (λ c. c.bucket.count)) same)
-  few k all kept (inr are) = omega (arith, ap (sum_by (λ c. c.bucket.count)) are.kept_are, sum_by-filter (λ c. c.bucket.count) (λ c. nat_le are.least c.bucket.count) all)
+few : (k : Kind) (all kept : List Bucket) → Suffices k all kept → sum_by bucket_count kept ≤ sum_by bucket_count all
+few k all kept (inl same) = omega (arith, ap (sum_by bucket_count) same)
+few k all kept (inr are) = omega (arith, ap (sum_by bucket_count) are.kept_are, sum_by-filter bucket_count (has_rows are.least) all)
 
-  -- finished buckets have no more rows than all of which some are kept
-  pub rows-within : (by : Coded → Coded → Ordering) (all kept : List Coded) → Suffices (out-Agg a).kind all kept → sum_by bucket_count (map finish (map coded_bucket (sorted by kept))) ≤ sum_by (λ c. c.bucket.count) all
-  rows-within by all kept are = omega (arith, finished-rows (sorted by kept), sum_by-sorted (λ (c : Coded). c.bucket.count) by kept, few (out-Agg a).kind all kept are)
+-- chosen buckets have no more rows than all of which they are chosen
+pub chosen-within : (k : Kind) (all : List Bucket) (c : Chosen) → IsChosen k all c → sum_by (λ g. g.bucket.count) c.coded.items ≤ c.total
+chosen-within k all c chosen =
+    let rows : sum_by bucket_count (map coded_bucket c.coded.items) ≡ sum_by (λ (g : Coded). g.bucket.count) c.coded.items = sum_by-map bucket_count coded_bucket c.coded.items in
+    let total = chosen.total_is in
+    omega (arith, rows, few k all (map coded_bucket c.coded.items) chosen.suffices, total)

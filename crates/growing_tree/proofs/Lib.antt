@@ -16,10 +16,12 @@ pub mod Counting
 pub mod ReadyLaws
 pub mod EmptyCosts
 pub mod Reordered
+pub mod Choosing
 pub mod Frequents
 pub mod Turns
 pub mod Rises
 pub mod Each
 pub mod AllMetrics
 pub mod MeasuredBuckets
-pub mod Hits
+pub mod Placements
+pub mod Placed

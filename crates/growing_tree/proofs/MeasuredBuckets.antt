@@ -14,29 +14,29 @@ use Rattle.agg_model.specs.declared.aggregation.Kind.{Kind}
 use Rattle.agg_model.specs.declared.aggregation.Kind.TheVariants as kind
 use Rattle.agg_model.specs.declared.key.Key.{Key}
 use Rattle.agg_model.specs.declared.key.Key.TheVariants as key
-use Rattle.agg_model.specs.declared.partial.Bucket.{Bucket}
 use Rattle.agg_model.specs.declared.partial.Metric.{Metric}
 use Rattle.agg_model.specs.declared.partial.Node.{Node}
 use Rattle.agg_model.specs.declared.partial.Node.TheVariants as node
 use Rattle.agg_evaluation.specs.Cost.{node_cost}
 use Rattle.agg_evaluation.specs.Rows.{PlacedRow}
-use Rattle.agg_evaluation.specs.Shard.{fixed_keys, sorted_by_key}
+use Rattle.agg_evaluation.specs.Shard.{fixed_keys}
 use Rattle.agg_evaluation.specs.Whole.{empty_by, empty_node, shape_of}
 use Rattle.evaluation_laws.proofs.CostLaws.{cost-Number}
-use Rattle.growth_laws.specs.Gathering.{gathered_children, gatherer_of}
+use Rattle.growth_laws.specs.Gathering.{gathered_children}
 use Rattle.growth_laws.specs.Growth.{metric_with}
 use Rattle.shard_columns.specs.Columns.{Columns}
-use Rattle.growing_tree.specs.Decoded.{decoded, decoded_bucket, decoded_children}
+use Rattle.growing_tree.specs.Decoded.{decoded, decoded_children}
 use Rattle.growing_tree.specs.Gathered.{decoders, gatherers, key_at, shown_measured}
 use Rattle.growing_tree.specs.Measures.{Measure, measures_from, metrics_with, no_values}
 use Rattle.growing_tree.specs.Readiness.{is_metric}
+use Rattle.growing_tree.specs.Shown.{metric_buckets}
 use Rattle.growing_tree.specs.Trees.{coded_buckets, measured_buckets}
 use Rattle.growing_tree.specs.declared.ready.Ready.{Ready, out-Ready}
 use Rattle.growing_tree.specs.declared.tree.Growing.{Growing}
 use Rattle.growing_tree.specs.declared.tree.Level.TheVariants.{Number}
 use Rattle.growing_tree.proofs.Counting.{handed-values}
 use Rattle.growing_tree.proofs.Empties.{empty-level}
-use Rattle.growing_tree.proofs.Levels.{counted-number, decoded-is, empties-are, gathered-is}
+use Rattle.growing_tree.proofs.Levels.{counted-number, decoded-is, gathered-is}
 use Rattle.growing_tree.proofs.Putting.{Gathers}
 
 abbrev pub measure : ℕ → List Metric → Measure
@@ -191,10 +191,6 @@ module _ (shard : Columns) (aggs : List Agg) (rs : List Ready) (key_of : ℤ →
       let same = metrics-cost aggs row before in
       omega arith
 
--- what callers see of the buckets of codes
-abbrev pub shown_measures : List (Node → Node) → (ℤ → Key) → List ℤ → List Measure → List Bucket
-shown_measures ds key_of codes ms = sorted_by_key (map (decoded_bucket ds key_of) (measured_buckets codes ms))
-
 -- a bucket without rows
 pub measured-empty : (shard : Columns) (aggs : List Agg) (rs : List Ready) (columns : List (Vec Metric)) → length columns ≡ length aggs → IsTrue (list_all (λ a. is_metric (out-Agg a).kind) aggs)
     → decoded_children (decoders shard rs) (map node.Number (map (λ column. no_values) columns)) ≡ map empty_node aggs
@@ -234,4 +230,4 @@ coded-seen (code ∷ codes) (g ∷ gs) (m ∷ ms) same =
 -- what callers see is told by the counts, and by what the metrics have taken at each place
 pub shown-same : (shard : Columns) (r : Ready) (codes : List ℤ) (ns more : List ℕ) (at now : ℕ → List Metric) → more ≡ ns → ((n : ℕ) → now n ≡ at n) → shown_measured shard r codes more now ≡ shown_measured shard r codes ns at
 shown-same shard r codes ns more at now counts same =
-    ap (λ ms. shown_measures (decoders shard (out-Ready r).children) (key_at shard r) codes ms) (ap (measures_from now 0) counts ∙ measures-same at now 0 ns (λ n l. same n))
+    ap (λ ms. metric_buckets (decoders shard (out-Ready r).children) (key_at shard r) codes ms) (ap (measures_from now 0) counts ∙ measures-same at now 0 ns (λ n l. same n))

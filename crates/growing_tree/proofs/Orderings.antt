@@ -13,13 +13,9 @@ use Rattle.agg_evaluation.proofs.KeyCompare.{key_cmp_total}
 use Rattle.agg_evaluation.proofs.KeyExact.{exact_keys}
 use Rattle.agg_evaluation.proofs.KeyLists.{key_eq-exact}
 use Rattle.growth_laws.specs.Gathering.{Gatherer, put_rows}
+use Rattle.growing_tree.specs.Grouped.{AreApart}
 use Rattle.growing_tree.specs.Shown.{put_all}
 use Rattle.growing_tree.proofs.Arriving.{entries, next, put_rows-put, sorted-entries, buckets-entries}
-
--- none of the keys stands twice
-abbrev pub AreApart : List Key → Type 0
-AreApart [] = Unit {0}
-AreApart (k ∷ ks) = (has_key k ks ≡ false) × AreApart ks
 
 module _ (rows_of : Key → List PlacedRow) (gs : List Gatherer) where
   abbrev after : Key → Option Bucket → Option Bucket

@@ -15,6 +15,7 @@ use Rattle.agg_model.specs.declared.aggregation.Agg.{Agg}
 use Rattle.agg_model.specs.declared.key.Key.{Key}
 use Rattle.agg_model.specs.declared.key.Key.TheVariants as key
 use Rattle.agg_model.specs.declared.partial.Bucket.{Bucket}
+use Rattle.agg_model.specs.declared.partial.Node.{Node}
 use Rattle.agg_evaluation.specs.KeyOrder.{key_cmp, key_eq, has_key}
 use Rattle.agg_evaluation.specs.Orders.{bucket_key}
 use Rattle.agg_evaluation.specs.Shard.{sorted_by_key}
@@ -25,14 +26,13 @@ use Rattle.shard_columns.specs.Columns.{Columns}
 use Rattle.growing_tree.specs.CodedBuckets.{coded_bucket}
 use Rattle.growing_tree.specs.Codes.{code_key}
 use Rattle.growing_tree.specs.Finished.{finished_bucket, finished_with}
-use Rattle.growing_tree.specs.Grouped.{HasOwnKeys}
-use Rattle.growing_tree.specs.Trees.{bucket_at, coded_buckets}
+use Rattle.growing_tree.specs.Grouped.{AreApart, HasOwnKeys}
+use Rattle.growing_tree.specs.Trees.{bucket_with, coded_with}
 use Rattle.growing_tree.specs.declared.coded.Coded.{Coded}
 use Rattle.growing_tree.specs.declared.ready.Ready.{Ready, out-Ready}
 use Rattle.growing_tree.specs.declared.tree.Growing.{Growing}
-use Rattle.growing_tree.proofs.Cuts.{coded-with, drop-at}
+use Rattle.growing_tree.proofs.Cuts.{coded-with}
 use Rattle.growing_tree.proofs.Grouping.{apart-keys}
-use Rattle.growing_tree.proofs.Orderings.{AreApart}
 use Rattle.growing_tree.proofs.Putting.{first-absent, rest-distinct}
 
 module _ {A : Type 0} (cmp : A → A → Ordering) (total : IsTotalOrder cmp) where
@@ -141,14 +141,6 @@ module _ {A : Type 0} (f : A → Bucket) (by : A → A → Ordering) where
   pub sorted-before : (xs : List A) → AreApart (keys_of xs) → sorted_by_key (map f (sorted by xs)) ≡ sorted_by_key (map f xs)
   sorted-before = sorted-any (λ a b. key_cmp (bucket_key a) (bucket_key b)) (on_total bucket_key key_cmp_total) (λ a b e. e)
 
--- one more bucket with its code, and those that are left
-pub coded-pushed : (done : List Coded) (codes : List ℤ) (i : ℕ) (code here : ℤ) (g : Growing) (gs : List Growing) → here ≡ code → slice_get codes i ≡ Some code
-    → map coded_bucket (done ++ record { code = here; bucket = g } ∷ []) ++ coded_buckets (drop (i + 1) codes) gs ≡ map coded_bucket done ++ coded_buckets (drop i codes) (g ∷ gs)
-coded-pushed done codes i code here g gs same e =
-    ap (λ xs. xs ++ coded_buckets (drop (i + 1) codes) gs) (map-append coded_bucket done (record { code = here; bucket = g } ∷ []))
-    ∙ append_assoc (map coded_bucket done) (bucket_at (key.Whole here) g ∷ []) _
-    ∙ ap (λ bs. map coded_bucket done ++ bs) ((λ j. bucket_at (key.Whole (same j)) g ∷ coded_buckets (drop (i + 1) codes) gs) ∙ ap (λ cs. coded_buckets cs (g ∷ gs)) (sym (drop-at codes i code e)))
-
 module _ (shard : Columns) (a : Agg) (r : Ready) where
   abbrev key_of : ℤ → Key
   key_of = code_key shard (out-Ready r).kind
@@ -156,22 +148,27 @@ module _ (shard : Columns) (a : Agg) (r : Ready) where
   abbrev finish : Bucket → Bucket
   finish = finished_bucket shard a r
 
-  key-is : (code : ℤ) (g : Growing) → bucket_key (finish (bucket_at (key.Whole code) g)) ≡ key_of code
-  unfolding computing
-  key-is code g = ap bucket_key (coded-with shard a r code g)
+  -- buckets of codes, whatever says what they are
+  module _ {G : Type 0} (count_of : G → ℕ) (children_of : G → List Node) where
+    abbrev at : Key → G → Bucket
+    at = bucket_with count_of children_of
 
-  -- the keys of different codes
-  pub keys-apart : HasOwnKeys key_of → (cs : List ℤ) (gs : List Growing) → IsDistinct int_eq cs → AreApart (map bucket_key (map finish (coded_buckets cs gs)))
-  keys-apart own [] gs h = tt
-  keys-apart own (c ∷ cs) [] h = tt
-  keys-apart own (c ∷ cs) (g ∷ gs) h = (ap (λ k. has_key k (map bucket_key (map finish (coded_buckets cs gs)))) (key-is c g) ∙ none cs gs (first-absent c cs h), keys-apart own cs gs (rest-distinct c cs h))
-    where
-      none : (ds : List ℤ) (gs : List Growing) → list_any (int_eq c) ds ≡ false → has_key (key_of c) (map bucket_key (map finish (coded_buckets ds gs))) ≡ false
-      none [] gs e = refl
-      none (d ∷ ds) [] e = refl
-      none (d ∷ ds) (g ∷ gs) e =
-          let parts = or_parts (int_eq c d) (list_any (int_eq c) ds) e in
-          ap (λ k. key_eq (key_of c) k || has_key (key_of c) (map bucket_key (map finish (coded_buckets ds gs)))) (key-is d g) ∙ (λ i. apart-keys key_of own c d parts.0 i || none ds gs parts.1 i)
+    key-is : (code : ℤ) (g : G) → bucket_key (finish (at (key.Whole code) g)) ≡ key_of code
+    unfolding computing
+    key-is code g = refl
+
+    -- the keys of different codes
+    pub keys-apart : HasOwnKeys key_of → (cs : List ℤ) (gs : List G) → IsDistinct int_eq cs → AreApart (map bucket_key (map finish (coded_with at cs gs)))
+    keys-apart own [] gs h = tt
+    keys-apart own (c ∷ cs) [] h = tt
+    keys-apart own (c ∷ cs) (g ∷ gs) h = (ap (λ k. has_key k (map bucket_key (map finish (coded_with at cs gs)))) (key-is c g) ∙ none cs gs (first-absent c cs h), keys-apart own cs gs (rest-distinct c cs h))
+      where
+        none : (ds : List ℤ) (gs : List G) → list_any (int_eq c) ds ≡ false → has_key (key_of c) (map bucket_key (map finish (coded_with at ds gs))) ≡ false
+        none [] gs e = refl
+        none (d ∷ ds) [] e = refl
+        none (d ∷ ds) (g ∷ gs) e =
+            let parts = or_parts (int_eq c d) (list_any (int_eq c) ds) e in
+            ap (λ k. key_eq (key_of c) k || has_key (key_of c) (map bucket_key (map finish (coded_with at ds gs)))) (key-is d g) ∙ (λ i. apart-keys key_of own c d parts.0 i || none ds gs parts.1 i)
 
   -- one more finished bucket, and those that are left
   pub finished-more : (done : List Bucket) (code : ℤ) (g : Growing) (left : List Coded)

@@ -107,3 +107,11 @@ take-more {A = A} xs i x e = ap (λ n. take n xs) (add-one i) ∙ next xs i e
 -- an item that is read, of changed items
 pub mapped-at : {A B : Type 0} (f : A → B) (xs : List A) (i : ℕ) (x : A) → i < length xs → x ≡ get_or xs i x → slice_get (map f xs) i ≡ Some (f x)
 mapped-at f xs i x l e = slice_get-map f xs i ∙ ap (option_map f) (item-at xs i x l e)
+
+-- rows at one more of the codes
+pub one-more-code : (rows : List PlacedRow) (gs : List Gatherer) (key_of : ℤ → Key) (codes : List ℤ) (i : ℕ) (code x : ℤ) (old before after : List Bucket) → x ≡ code → slice_get codes i ≡ Some code
+    → before ≡ put_all (λ k. rows) gs (take i (map key_of codes)) old → after ≡ put_rows gs rows (key_of x) before → after ≡ put_all (λ k. rows) gs (take (i + 1) (map key_of codes)) old
+one-more-code rows gs key_of codes i code x old before after same there is put =
+    put ∙ (λ j. put_rows gs rows (key_of (same j)) (is j))
+    ∙ sym (ap (λ ks. put_all (λ k. rows) gs ks old) (take-more (map key_of codes) i (key_of code) (slice_get-map key_of codes i ∙ ap (option_map key_of) there))
+    ∙ put_all-more (λ k. rows) gs (take i (map key_of codes)) (key_of code) old)

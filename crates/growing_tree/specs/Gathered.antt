@@ -6,14 +6,12 @@ use Rattle.agg_model.specs.declared.partial.Bucket.{Bucket}
 use Rattle.agg_model.specs.declared.partial.Metric.{Metric}
 use Rattle.agg_model.specs.declared.partial.Node.{Node}
 use Rattle.agg_evaluation.specs.Rows.{PlacedRow, row_of}
-use Rattle.agg_evaluation.specs.Shard.{sorted_by_key}
 use Rattle.growth_laws.specs.Gathering.{Gatherer, gatherer_of}
 use Rattle.shard_columns.specs.Columns.{Columns}
 use Rattle.growing_tree.specs.Codes.{code_key}
-use Rattle.growing_tree.specs.Decoded.{decoded, decoded_bucket, decoded_children}
+use Rattle.growing_tree.specs.Decoded.{decoded, decoded_children}
 use Rattle.growing_tree.specs.Measures.{measures_from}
-use Rattle.growing_tree.specs.Shown.{fixed_buckets, keyed_buckets, level_buckets}
-use Rattle.growing_tree.specs.Trees.{measured_buckets}
+use Rattle.growing_tree.specs.Shown.{fixed_buckets, keyed_buckets, level_buckets, metric_buckets}
 use Rattle.growing_tree.specs.declared.ready.Ready.{Ready, out-Ready}
 use Rattle.growing_tree.specs.declared.tree.Growing.{Growing}
 use Rattle.growing_tree.specs.declared.tree.Level.{Level}
@@ -45,7 +43,7 @@ module _ (shard : Columns) where
 
   -- the buckets of codes below which there are metrics alone
   abbrev pub shown_measured : Ready → List ℤ → List ℕ → (ℕ → List Metric) → List Bucket
-  shown_measured r codes counts at = sorted_by_key (map (decoded_bucket (decoders (out-Ready r).children) (key_at r)) (measured_buckets codes (measures_from at 0 counts)))
+  shown_measured r codes counts at = metric_buckets (decoders (out-Ready r).children) (key_at r) codes (measures_from at 0 counts)
 
   -- the buckets that exist from the start
   abbrev pub shown_fixed : Ready → List Growing → List Bucket

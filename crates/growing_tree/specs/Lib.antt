@@ -8,9 +8,10 @@ pub mod Codes
 pub mod ReadyFolds
 pub mod Readiness
 pub mod Shown
+pub mod Grown
 pub mod Grouped
 pub mod Gathered
-pub mod Hits
+pub mod Placements
 pub mod GatheredEach
 pub mod Finished
 pub mod Frequent

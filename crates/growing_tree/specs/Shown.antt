@@ -9,7 +9,7 @@ use Rattle.agg_evaluation.specs.Rows.{PlacedRow}
 use Rattle.agg_evaluation.specs.Shard.{sorted_by_key}
 use Rattle.growing_tree.specs.Decoded.{decoded_bucket, decoded_children}
 use Rattle.growth_laws.specs.Gathering.{Gatherer, gathered_children, gathered_metric, put_rows}
-use Rattle.growing_tree.specs.Measures.{measures_of}
+use Rattle.growing_tree.specs.Measures.{Measure, measures_of}
 use Rattle.growing_tree.specs.Trees.{coded_buckets, measured_buckets, numbered_buckets}
 use Rattle.growing_tree.specs.declared.tree.Growing.{Growing}
 use Rattle.growing_tree.specs.declared.tree.Level.{Level}
@@ -21,13 +21,18 @@ module _ (decoders : List (Node → Node)) (key_of : ℤ → Key) where
   abbrev pub keyed_buckets : List ℤ → List Growing → List Bucket
   keyed_buckets codes buckets = sorted_by_key (map (decoded_bucket decoders key_of) (coded_buckets codes buckets))
 
+  -- those below which there are metrics alone
+  abbrev pub metric_buckets : List ℤ → List Measure → List Bucket
+  metric_buckets codes measures = sorted_by_key (map (decoded_bucket decoders key_of) (measured_buckets codes measures))
+
   -- the buckets that exist from the start
   abbrev pub fixed_buckets : List Growing → List Bucket
   fixed_buckets buckets = map (decoded_bucket decoders key_of) (numbered_buckets 0 buckets)
 
+  -- the buckets of a level
   abbrev pub level_buckets : Level → List Bucket
   level_buckets (Keyed k) = keyed_buckets k.places k.buckets.items
-  level_buckets (Measured m) = sorted_by_key (map (decoded_bucket decoders key_of) (measured_buckets m.places (measures_of m)))
+  level_buckets (Measured m) = metric_buckets m.places (measures_of m)
   level_buckets (Fixed bs) = fixed_buckets bs.items
   level_buckets (Number m) = []
 

@@ -2,6 +2,7 @@
 ghost use Rattle.std.specs.Prelude.{◌≡◌, IfOk, OnOk, map};
 ghost use Rattle.list_laws.specs.Sorting.{sorted};
 ghost use Rattle.growing_tree.specs.CodedBuckets.{by_code, code_order, coded_bucket, from_last};
+ghost use Rattle.growing_tree.specs.Frequent.{frequent};
 ghost use Rattle.growing_tree.specs.Trees.{coded_buckets};
 
 use crate::kinds::is_terms;
@@ -16,22 +17,22 @@ pub(crate) struct Coded {
     pub(crate) bucket: Growing,
 }
 
-/// The buckets with their codes, in the order in which those came.
-pub(crate) fn with_codes(alloc: Global, keyed: Keyed) -> Result<Vec<Coded>, AllocError>
-    ensures { IfOk result (λ coded. map coded_bucket coded.items ≡ coded_buckets keyed.places keyed.buckets.items) }
+/// The buckets that have at least so many rows, with their codes, in the order in which those came.
+pub(crate) fn with_codes(alloc: Global, keyed: Keyed, least: u64) -> Result<Vec<Coded>, AllocError>
+    ensures { IfOk result (λ coded. map coded_bucket coded.items ≡ frequent least (coded_buckets keyed.places keyed.buckets.items)) }
 {
     let Keyed { places, buckets } = keyed;
-    let mut coded = Vec::with_capacity(alloc, buckets.len())?;
+    let mut coded = Vec::new(alloc);
     let mut left = buckets.into_iter();
     for code in places.codes() {
-        match left.next() {
-            Some(bucket) => {
-                coded.push(Coded {
-                    code: *code,
-                    bucket,
-                })?;
-            }
-            None => return Ok(coded),
+        let Some(bucket) = left.next() else {
+            return Ok(coded);
+        };
+        if bucket.count >= least {
+            coded.push(Coded {
+                code: *code,
+                bucket,
+            })?;
         }
     }
     Ok(coded)

@@ -1,9 +1,11 @@
 //! Trees that have all their rows, as what a shard answers.
-ghost use Rattle.std.specs.Prelude.{◌≡◌, ◌≤◌, IfOk, OnOk, map, sum_by};
+ghost use Rattle.std.specs.Prelude.{◌≡◌, ◌≤◌, IfOk, List as AnyList, OnOk, map, sum_by};
 ghost use Rattle.agg_model.specs.declared.aggregation.Agg.{out-Agg};
 ghost use Rattle.agg_model.specs.declared.key.Key.TheVariants.{Fixed as FixedKey};
+ghost use Rattle.agg_model.specs.declared.partial.Bucket.{Bucket as AnyBucket};
+ghost use Rattle.agg_model.specs.declared.partial.Node.TheVariants.{Keyed as KeyedNode};
 ghost use Rattle.agg_evaluation.specs.Folds.{fold_agg};
-ghost use Rattle.agg_evaluation.specs.Orders.{bucket_count};
+ghost use Rattle.agg_evaluation.specs.Orders.{bucket_count, bucket_key};
 ghost use Rattle.agg_evaluation.specs.Shard.{sorted_by_key};
 ghost use Rattle.shard_columns.specs.Built.{IsShard};
 ghost use Rattle.terms_agg.specs.Trim.{trimmed_some};
@@ -13,17 +15,16 @@ ghost use Rattle.growing_tree.specs.Decoded.{decoded, decoded_children};
 ghost use Rattle.growing_tree.specs.Finished.{finished_bucket, finished_with};
 ghost use Rattle.growing_tree.specs.Readiness.{AreReadyFor, IsKindReady, IsReadyFor};
 ghost use Rattle.growing_tree.specs.CodedBuckets.{coded_bucket};
-ghost use Rattle.growing_tree.specs.Trees.{IsAligned, level_node, numbered_buckets};
-ghost use Rattle.growing_tree.specs.declared.tree.Level.TheVariants.{Keyed as KeyedLevel};
+ghost use Rattle.growing_tree.specs.Frequent.{IsChosen};
+ghost use Rattle.growing_tree.specs.Grouped.{AreApart};
+ghost use Rattle.growing_tree.specs.Trees.{numbered_buckets};
 ghost use Rattle.growing_tree.specs.declared.ready.Ready.{out-Ready};
 
-use crate::coded::{Coded, sort_by_code, with_codes};
-use crate::frequent::keep_frequent;
+use crate::chosen::{Chosen, choose, choose_measured};
+use crate::coded::{Coded, sort_by_code};
 use crate::kinds::{is_terms, place_of};
 use crate::ready::{Ready, ReadyKind};
-use crate::sums::sum;
-use crate::tree::{Growing, Keyed, Level, Tree};
-use crate::with_trees::with_trees;
+use crate::tree::{Growing, Level, Tree};
 use agg_model::{Agg, Bucket, Key, Kind, List, Node};
 use bucket_order::sort_by_key;
 use histogram_agg::key as key_of_interval;
@@ -70,17 +71,6 @@ fn key_of_code(
             key_of_term(alloc, shard, terms, code)
         }
     }
-}
-
-// Counts that together have more than 64 bits are answered as want of memory.
-fn total_count(buckets: &[Coded]) -> Result<u64, AllocError>
-    ensures { IfOk result (λ n. n ≡ sum_by (λ c. c.bucket.count) buckets.now) }
-{
-    let mut total = 0;
-    for coded in buckets {
-        total = sum(total, coded.bucket.count)?;
-    }
-    Ok(total)
 }
 
 // Buckets of a level, as what a shard answers, where all the level's buckets have `total` rows together.
@@ -198,25 +188,24 @@ fn finish_fixed(
     Ok(finished)
 }
 
-// The buckets of keys that rows bring.
+// The buckets of keys that rows bring, `all` of them, of which these are chosen.
 #[cycle(finish)]
-fn finish_keyed(
+fn finish_chosen(
     alloc: Global,
     agg: &Agg,
     ready: &Ready,
     shard: &Shard,
-    keyed: Keyed,
+    chosen: Chosen,
 ) -> Result<Node, AllocError>
     requires ready { IsReadyFor shard.now agg.now ready.now }
     requires built { IsShard shard.now }
-    requires aligned { IsAligned (KeyedLevel keyed) }
-    ensures node { IfOk result (λ node. node ≡ cut_tree agg.now (decoded shard.now ready.now (level_node (KeyedLevel keyed)))) }
+    requires within { sum_by (λ c. c.bucket.count) chosen.coded.items ≤ chosen.total }
+    ensures node { (all : AnyList AnyBucket) → IsChosen (out-Agg agg.now).kind all chosen → AreApart (map bucket_key (map (finished_bucket shard.now agg.now ready.now) all)) →
+        IfOk result (λ node. node ≡ cut_tree agg.now (decoded shard.now ready.now (KeyedNode all 0 0 0))) }
 {
+    let Chosen { total, mut coded } = chosen;
     // Codes ascend as their keys do, but for that of a word for missing values, and are compared at once: a sort by key finds next
     // to nothing to do.
-    let all = with_codes(alloc, keyed)?;
-    let total = total_count(all.as_slice())?;
-    let mut coded = keep_frequent(&agg.kind, all);
     sort_by_code(&agg.kind, &mut coded)?;
     let buckets = finish_coded(alloc, agg, ready, shard, coded)?;
     if is_terms(&agg.kind) {
@@ -245,10 +234,13 @@ pub fn finish(
 {
     let Tree { level } = tree;
     match level {
-        Level::Keyed(keyed) => finish_keyed(alloc, agg, ready, shard, keyed),
+        Level::Keyed(keyed) => {
+            let chosen = choose(alloc, &agg.kind, keyed)?;
+            finish_chosen(alloc, agg, ready, shard, chosen)
+        }
         Level::Measured(measured) => {
-            let keyed = with_trees(alloc, measured)?;
-            finish_keyed(alloc, agg, ready, shard, keyed)
+            let chosen = choose_measured(alloc, &agg.kind, measured)?;
+            finish_chosen(alloc, agg, ready, shard, chosen)
         }
         Level::Fixed(buckets) => Ok(Node::Fixed {
             buckets: finish_fixed(alloc, agg, ready, shard, buckets)?,

@@ -1,8 +1,7 @@
-//! The buckets of terms that have rows enough to be among those that a shard keeps.
+//! How many rows the terms have at least that are among those that a shard keeps.
 ghost use Rattle.std.specs.Prelude.{◌≡◌, ◌≤◌, ℕ, IfSome, filter, length, nat_le};
-ghost use Rattle.growing_tree.specs.Frequent.{CutsByCount, Suffices, is_by_count as is_by_count_first};
+ghost use Rattle.growing_tree.specs.Frequent.{CutsByCount, IsLeast, is_by_count as is_by_count_first};
 
-use crate::coded::Coded;
 use agg_model::{Kind, List, Order, OrderBy};
 
 // How many counts are told apart: greater ones are taken for one.
@@ -36,11 +35,11 @@ fn kept_by_count(kind: &Kind) -> Option<u32>
 }
 
 // A count that as many buckets as are kept have at least, and not many more, as far as counts are told apart. Nothing rests on it.
-fn likely_least(buckets: &[Coded], kept: usize) -> u64 {
+fn likely_least(counts: &[u64], kept: usize) -> u64 {
     let mut having = [0_u32; COUNTS];
-    for coded in buckets {
-        let count = coded.bucket.count.min(COUNTS as u64 - 1) as usize;
-        having[count] = having[count].saturating_add(1);
+    for count in counts {
+        let place = (*count).min(COUNTS as u64 - 1) as usize;
+        having[place] = having[place].saturating_add(1);
     }
     let mut more: usize = 0;
     for place in 0..COUNTS {
@@ -53,33 +52,29 @@ fn likely_least(buckets: &[Coded], kept: usize) -> u64 {
     0
 }
 
-// How many of the buckets have at least so many rows.
-fn count_from(buckets: &[Coded], least: u64) -> usize
-    ensures { result ≡ length (filter (λ c. nat_le least c.bucket.count) buckets.now) }
+// How many of the counts are at least so great.
+fn count_from(counts: &[u64], least: u64) -> usize
+    ensures { result ≡ length (filter (λ n. nat_le least n) counts.now) }
 {
-    buckets
-        .iter()
-        .filter(|coded| coded.bucket.count >= least)
-        .count()
+    counts.iter().filter(|count| **count >= least).count()
 }
 
-/// The buckets among which are all that a shard keeps of its terms, in their order: where those with most rows come first, such as
-/// have at least so many rows that there are enough of them, so that no key is made for the others. It takes time by the buckets.
-pub(crate) fn keep_frequent(kind: &Kind, buckets: Vec<Coded>) -> Vec<Coded>
-    ensures { Suffices kind.now buckets.items result.items }
+/// How many rows a bucket has at least that is among those that a shard keeps of its terms, by the rows of each bucket: where those
+/// with most rows come first, such a number that there are enough of them, so that nothing is made of the others; else 0. It takes
+/// time by the buckets.
+pub(crate) fn least_count(kind: &Kind, counts: &[u64]) -> u64
+    ensures { IsLeast kind.now counts.now result }
 {
     let Some(size) = kept_by_count(kind) else {
-        return buckets;
+        return 0;
     };
     let size = size as usize;
-    if buckets.len() / TIMES <= size {
-        return buckets;
+    if counts.len() / TIMES <= size {
+        return 0;
     }
-    let least = likely_least(buckets.as_slice(), size);
-    if count_from(buckets.as_slice(), least) < size {
-        return buckets;
+    let least = likely_least(counts, size);
+    if count_from(counts, least) < size {
+        return 0;
     }
-    let mut kept = buckets;
-    kept.retain(|coded| coded.bucket.count >= least);
-    kept
+    least
 }

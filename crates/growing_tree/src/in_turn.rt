@@ -1,11 +1,9 @@
 //! Rows that go into a tree one after another, each alone, with what each adds to its cost.
-ghost use Rattle.std.specs.Prelude.{◌≡◌, ◌<◌, ◌≤◌, ◌+◌, ℕ, All, IfOk, IsTrue, OnOk, length, sum_by};
+ghost use Rattle.std.specs.Prelude.{◌≡◌, ◌<◌, ◌≤◌, ℕ, All, IsTrue, OnOk, length};
 ghost use Rattle.std.specs.List.{list_all};
 ghost use Rattle.agg_model.specs.declared.aggregation.Agg.{out-Agg};
 ghost use Rattle.agg_evaluation.specs.Cost.{node_cost};
 ghost use Rattle.agg_evaluation.specs.Counted.{IsApart};
-ghost use Rattle.agg_evaluation.specs.Rows.{row_of};
-ghost use Rattle.evaluation_laws.proofs.CostLaws.{bytes};
 ghost use Rattle.shard_columns.specs.Built.{IsShard};
 ghost use Rattle.growing_tree.specs.Decoded.{decoded};
 ghost use Rattle.growing_tree.specs.Gathered.{gatherers, rows_at, shown_level};
@@ -15,9 +13,10 @@ ghost use Rattle.growing_tree.specs.Shown.{IsAlike};
 ghost use Rattle.growing_tree.specs.Trees.{IsAligned};
 ghost use Rattle.growing_tree.specs.declared.ready.Ready.{out-Ready};
 
+use crate::at_codes::put_each_alone;
 use crate::gathering::{count, gather, put_row};
 use crate::kinds::{are_metrics, has_buckets, is_keyed};
-use crate::lone_rows::{put_alone, take_in_tree};
+use crate::lone_rows::take_in_tree;
 use crate::placing::put_block;
 use crate::ready::{Ready, ReadyKind};
 use crate::sums::sum;
@@ -25,37 +24,6 @@ use crate::tree::{Level, Tree};
 use agg_model::Agg;
 use shard_columns::Shard;
 use std::alloc::{AllocError, Global};
-
-// One more row in the buckets of its keys.
-fn put_next(
-    alloc: Global,
-    agg: &Agg,
-    ready: &Ready,
-    shard: &Shard,
-    row: u32,
-    metrics: bool,
-    spare: &mut Vec<Vec<i64>>,
-    level: &mut Level,
-) -> Result<u64, AllocError>
-    requires ready { IsReadyFor shard.now agg.now ready.now }
-    requires metrics { IsTrue metrics → IsTrue (list_all (λ a. is_metric (out-Agg a).kind) (out-Agg agg.now).children) }
-    requires built { IsShard shard.now }
-    requires apart { IsApart shard.now.rows }
-    requires in_range { row < length shard.now.rows }
-    ensures buckets { OnOk result (shown_level shard.now ready.now level.new
-        ≡ put_at_keys shard.now.rows (gatherers shard.now (out-Agg agg.now).children) (out-Agg agg.now).kind
-        (row_of shard.now.rows row) (shown_level shard.now ready.now level.old)) }
-    ensures cost { IfOk result (λ added. sum_by bytes (shown_level shard.now ready.now level.new)
-        ≡ sum_by bytes (shown_level shard.now ready.now level.old) + added) }
-    ensures form { OnOk result (IsAlike level.old level.new) }
-    ensures aligned { IsAligned level.old → IsAligned level.new }
-{
-    if metrics {
-        return put_alone(alloc, agg, ready, shard, row, spare, level);
-    }
-    let one = [row];
-    put_row(alloc, agg, ready, shard, one.as_slice(), spare, level)
-}
 
 // More rows in the buckets of their keys, one after another.
 fn put_each(
@@ -91,8 +59,12 @@ fn put_each(
         }
         return put_block(alloc, agg, ready, shard, rows, spare, measured, added);
     }
+    if metrics {
+        return put_each_alone(alloc, agg, ready, shard, rows, spare, level, &mut (), added);
+    }
     for place in 0..rows.len() {
-        let more = put_next(alloc, agg, ready, shard, rows[place], metrics, spare, level)?;
+        let one = [rows[place]];
+        let more = put_row(alloc, agg, ready, shard, one.as_slice(), spare, level)?;
         let next = sum(added[place], more)?;
         added[place] = next;
     }

@@ -4,7 +4,9 @@
 //! what the shard answers.
 #![tactic(auto)]
 
+mod at_codes;
 mod beginning;
+mod chosen;
 mod coded;
 mod finishing;
 mod frequent;

@@ -1,10 +1,9 @@
 //! Single rows in the buckets of an aggregation below which there are metrics, or nothing: they need no list of rows, and no
 //! call on the way down calls itself.
-ghost use Rattle.std.specs.Prelude.{◌≡◌, ◌<◌, ◌+◌, ◌∷◌, [], All, IfOk, IsTrue, OnOk, length, map, sum_by};
+ghost use Rattle.std.specs.Prelude.{◌≡◌, ◌<◌, ◌+◌, ◌∷◌, [], All, IfOk, IsTrue, OnOk, length, sum_by};
 ghost use Rattle.std.specs.List.{list_all};
 ghost use Rattle.agg_model.specs.declared.aggregation.Agg.{out-Agg};
 ghost use Rattle.agg_evaluation.specs.Cost.{node_cost};
-ghost use Rattle.agg_evaluation.specs.Keys.{keys};
 ghost use Rattle.agg_evaluation.specs.Rows.{row_of};
 ghost use Rattle.evaluation_laws.proofs.CostLaws.{bytes};
 ghost use Rattle.shard_columns.specs.Built.{IsShard};
@@ -12,12 +11,14 @@ ghost use Rattle.growth_laws.specs.Gathering.{gathered, gathered_buckets, gather
 ghost use Rattle.growing_tree.specs.Codes.{HasFixedKeys};
 ghost use Rattle.growing_tree.specs.Decoded.{decoded};
 ghost use Rattle.growing_tree.specs.Gathered.{decoders, gatherers, key_at, rows_at, shown_children, shown_fixed, shown_level};
+ghost use Rattle.growing_tree.specs.Grown.{IsGrown, grown-more, grown-none};
 ghost use Rattle.growing_tree.specs.Readiness.{IsReadyFor, is_keyed, is_metric};
-ghost use Rattle.growing_tree.specs.Shown.{HasGathered, IsAlike, put_all};
+ghost use Rattle.growing_tree.specs.Shown.{HasGathered, IsAlike};
 ghost use Rattle.growing_tree.specs.Trees.{IsAligned};
 ghost use Rattle.growing_tree.specs.declared.ready.Ready.{out-Ready};
 
-use crate::kinds::{has_fixed_keys, lone_code, place_of, row_codes, take_one};
+use crate::at_codes::{TakesRow, put_alone};
+use crate::kinds::{has_fixed_keys, place_of, take_one};
 use crate::placing::put_one_measured;
 use crate::ready::Ready;
 use crate::sums::sum;
@@ -132,109 +133,42 @@ fn put_one_fixed(
     Ok(())
 }
 
-// One more row in the bucket of a code.
-fn put_one(
-    agg: &Agg,
-    ready: &Ready,
-    shard: &Shard,
-    row: u32,
-    code: i64,
-    level: &mut Level,
-) -> Result<u64, AllocError>
-    requires ready { IsReadyFor shard.now agg.now ready.now }
-    requires metrics { IsTrue (list_all (λ a. is_metric (out-Agg a).kind) (out-Agg agg.now).children) }
-    requires in_range { row < length shard.now.rows }
-    ensures buckets { OnOk result (shown_level shard.now ready.now level.new
-        ≡ put_rows (gatherers shard.now (out-Agg agg.now).children) (row_of shard.now.rows row ∷ [])
-        (key_at shard.now ready.now code)
-        (shown_level shard.now ready.now level.old)) }
-    ensures cost { IfOk result (λ added. sum_by bytes (shown_level shard.now ready.now level.new)
-        ≡ sum_by bytes (shown_level shard.now ready.now level.old) + added) }
-    ensures form { OnOk result (IsAlike level.old level.new) }
-    ensures aligned { IsAligned level.old → IsAligned level.new }
-{
-    match level {
-        Level::Measured(measured) => {
-            let more = put_one_measured(agg, ready, shard, row, code, measured)?;
-            Ok(more)
-        }
-        Level::Fixed(buckets) => {
-            if !has_fixed_keys(&ready.kind) {
-                return Err(AllocError);
+/// A row goes into its buckets at once: none waits.
+impl TakesRow<()> for Level {
+    ghost shown = { λ shard a r level waiting. shown_level shard r level };
+
+    ghost IsFit = { λ shard level waiting. Unit {0} };
+
+    ghost Stays = { IsGrown };
+
+    fn put(
+        &mut self,
+        agg: &Agg,
+        ready: &Ready,
+        shard: &Shard,
+        row: u32,
+        code: i64,
+        _waiting: &mut (),
+    ) -> Result<u64, AllocError> {
+        match self {
+            Level::Measured(measured) => {
+                let more = put_one_measured(agg, ready, shard, row, code, measured)?;
+                Ok(more)
             }
-            put_one_fixed(agg, ready, shard, row, code, buckets)?;
-            Ok(0)
+            Level::Fixed(buckets) => {
+                if !has_fixed_keys(&ready.kind) {
+                    return Err(AllocError);
+                }
+                put_one_fixed(agg, ready, shard, row, code, buckets)?;
+                Ok(0)
+            }
+            Level::Keyed(_) | Level::Number(_) => Err(AllocError),
         }
-        Level::Keyed(_) | Level::Number(_) => Err(AllocError),
     }
-}
 
-// One more row in the buckets of its codes, one after another.
-fn put_one_at(
-    agg: &Agg,
-    ready: &Ready,
-    shard: &Shard,
-    row: u32,
-    codes: &[i64],
-    level: &mut Level,
-) -> Result<u64, AllocError>
-    requires ready { IsReadyFor shard.now agg.now ready.now }
-    requires metrics { IsTrue (list_all (λ a. is_metric (out-Agg a).kind) (out-Agg agg.now).children) }
-    requires in_range { row < length shard.now.rows }
-    ensures buckets { OnOk result (shown_level shard.now ready.now level.new
-        ≡ put_all (λ k. row_of shard.now.rows row ∷ []) (gatherers shard.now (out-Agg agg.now).children)
-        (map (key_at shard.now ready.now) codes.now)
-        (shown_level shard.now ready.now level.old)) }
-    ensures cost { IfOk result (λ added. sum_by bytes (shown_level shard.now ready.now level.new)
-        ≡ sum_by bytes (shown_level shard.now ready.now level.old) + added) }
-    ensures form { OnOk result (IsAlike level.old level.new) }
-    ensures aligned { IsAligned level.old → IsAligned level.new }
-{
-    let mut added = 0;
-    for place in 0..codes.len() {
-        let more = put_one(agg, ready, shard, row, codes[place], level)?;
-        added = sum(added, more)?;
-    }
-    Ok(added)
-}
+    ghost stays_none = { grown-none };
 
-/// One more row in the buckets of its keys. The answer is by how many bytes their cost rose.
-pub(crate) fn put_alone(
-    alloc: Global,
-    agg: &Agg,
-    ready: &Ready,
-    shard: &Shard,
-    row: u32,
-    spare: &mut Vec<Vec<i64>>,
-    level: &mut Level,
-) -> Result<u64, AllocError>
-    requires ready { IsReadyFor shard.now agg.now ready.now }
-    requires metrics { IsTrue (list_all (λ a. is_metric (out-Agg a).kind) (out-Agg agg.now).children) }
-    requires built { IsShard shard.now }
-    requires in_range { row < length shard.now.rows }
-    ensures buckets { OnOk result (shown_level shard.now ready.now level.new
-        ≡ put_all (λ k. row_of shard.now.rows row ∷ []) (gatherers shard.now (out-Agg agg.now).children)
-        (keys shard.now.rows (out-Agg agg.now).kind (row_of shard.now.rows row))
-        (shown_level shard.now ready.now level.old)) }
-    ensures cost { IfOk result (λ added. sum_by bytes (shown_level shard.now ready.now level.new)
-        ≡ sum_by bytes (shown_level shard.now ready.now level.old) + added) }
-    ensures form { OnOk result (IsAlike level.old level.new) }
-    ensures aligned { IsAligned level.old → IsAligned level.new }
-{
-    match lone_code(shard, &agg.kind, &ready.kind, row) {
-        Some(Some(code)) => {
-            let more = put_one(agg, ready, shard, row, code, level)?;
-            Ok(more)
-        }
-        Some(None) => Ok(0),
-        None => {
-            let mut codes = spare.pop().unwrap_or(Vec::new(alloc));
-            row_codes(shard, &agg.kind, &ready.kind, row, &mut codes)?;
-            let more = put_one_at(agg, ready, shard, row, codes.as_slice(), level)?;
-            spare.push(codes)?;
-            Ok(more)
-        }
-    }
+    ghost stays_more = { grown-more };
 }
 
 /// More rows in the buckets of their keys, row by row, which needs no groups: metrics take the rows of a bucket one after another
@@ -264,7 +198,7 @@ pub(crate) fn put_in_turn(
 {
     let mut added = 0;
     for row in rows {
-        let more = put_alone(alloc, agg, ready, shard, *row, spare, level)?;
+        let more = put_alone(alloc, agg, ready, shard, *row, spare, level, &mut ())?;
         added = sum(added, more)?;
     }
     Ok(added)

@@ -1,6 +1,6 @@
 //! Buckets below which there are metrics alone, or nothing. The counts of all buckets lie side by side, and so does what a metric
 //! has taken in each, so that a row touches little memory.
-ghost use Rattle.std.specs.Prelude.{◌≡◌, ◌≢◌, ◌<◌, ◌≤◌, ◌+◌, ◌++◌, ◌∷◌, [], ℕ, IfOk, IsTrue, OnOk, length, map, slice_index_or, slice_set};
+ghost use Rattle.std.specs.Prelude.{◌≡◌, ◌≢◌, ◌<◌, ◌≤◌, ◌+◌, ◌++◌, ◌∷◌, [], ℕ, All, IfOk, IsTrue, OnOk, length, map, slice_index_or, slice_set};
 ghost use Rattle.std.specs.List.{list_all};
 ghost use Rattle.agg_model.specs.declared.aggregation.Agg.{out-Agg};
 ghost use Rattle.agg_evaluation.specs.Rows.{row_of};
@@ -27,7 +27,10 @@ pub(crate) struct Measured {
 }
 
 /// A column for each of so many metrics, of no bucket.
-pub(crate) fn no_columns(alloc: Global, count: usize) -> Result<Vec<Vec<Taken>>, AllocError> {
+pub(crate) fn no_columns(alloc: Global, count: usize) -> Result<Vec<Vec<Taken>>, AllocError>
+    ensures many { IfOk result (λ columns. length columns.items ≡ count) }
+    ensures empty { IfOk result (λ columns. All (λ column. column.items ≡ []) columns.items) }
+{
     let mut columns = Vec::with_capacity(alloc, count)?;
     for _column in 0..count {
         columns.push(Vec::new(alloc))?;

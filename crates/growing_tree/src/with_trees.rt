@@ -1,13 +1,15 @@
-//! Buckets below which there are metrics alone, as buckets that have their trees.
+//! Buckets below which there are metrics alone, as buckets that have their codes and their trees.
 ghost use Rattle.std.specs.Prelude.{◌≡◌, IfOk, map, slice_index_or};
 ghost use Rattle.agg_model.specs.declared.partial.Node.TheVariants.{Number as NumberNode};
-ghost use Rattle.growing_tree.specs.Measures.{metrics_at, no_values};
-ghost use Rattle.growing_tree.specs.Trees.{IsAligned, level_node};
-ghost use Rattle.growing_tree.specs.declared.tree.Level.TheVariants.{Keyed as KeyedLevel, Measured as MeasuredLevel};
+ghost use Rattle.growing_tree.specs.CodedBuckets.{coded_bucket};
+ghost use Rattle.growing_tree.specs.Frequent.{frequent};
+ghost use Rattle.growing_tree.specs.Measures.{measures_of, metrics_at, no_values};
+ghost use Rattle.growing_tree.specs.Trees.{measured_buckets};
 
+use crate::coded::Coded;
 use crate::measured::Measured;
 use crate::number::Taken;
-use crate::tree::{Growing, Keyed, Level, Tree};
+use crate::tree::{Growing, Level, Tree};
 use std::alloc::{AllocError, Global};
 
 // What a metric has taken in the bucket at a place.
@@ -33,23 +35,28 @@ fn trees_at(alloc: Global, columns: &[Vec<Taken>], place: usize) -> Result<Vec<T
     Ok(trees)
 }
 
-/// The same buckets, each with the trees of its metrics.
-pub(crate) fn with_trees(alloc: Global, measured: Measured) -> Result<Keyed, AllocError>
-    ensures same { IfOk result (λ keyed. level_node (KeyedLevel keyed) ≡ level_node (MeasuredLevel measured)) }
-    ensures aligned { IsAligned (MeasuredLevel measured) → IfOk result (λ keyed. IsAligned (KeyedLevel keyed)) }
+/// The buckets that have at least so many rows, in the order in which their codes came, each with the trees of its metrics.
+pub(crate) fn with_trees(
+    alloc: Global,
+    measured: &Measured,
+    least: u64,
+) -> Result<Vec<Coded>, AllocError>
+    ensures { IfOk result (λ coded. map coded_bucket coded.items
+        ≡ frequent least (measured_buckets measured.now.places (measures_of measured.now))) }
 {
-    let Measured {
-        places,
-        counts,
-        columns,
-    } = measured;
-    let mut buckets = Vec::with_capacity(alloc, counts.len())?;
-    for place in 0..counts.len() {
-        let children = trees_at(alloc, columns.as_slice(), place)?;
-        buckets.push(Growing {
-            count: counts[place],
-            children,
-        })?;
+    let codes = measured.places.codes();
+    let counts = measured.counts.as_slice();
+    let mut coded = Vec::new(alloc);
+    for place in 0..counts.len().min(codes.len()) {
+        if counts[place] >= least {
+            coded.push(Coded {
+                code: codes[place],
+                bucket: Growing {
+                    count: counts[place],
+                    children: trees_at(alloc, measured.columns.as_slice(), place)?,
+                },
+            })?;
+        }
     }
-    Ok(Keyed { places, buckets })
+    Ok(coded)
 }

@@ -20,15 +20,16 @@ use Rattle.growing_tree.specs.Codes.{code_key}
 use Rattle.growing_tree.specs.Decoded.{decoded}
 use Rattle.growing_tree.specs.Finished.{finished_bucket, finished_children, finished_with}
 use Rattle.growing_tree.specs.CodedBuckets.{code_order, coded_bucket}
-use Rattle.growing_tree.specs.Trees.{IsAligned, coded_buckets, level_node, numbered_buckets}
+use Rattle.growing_tree.specs.Trees.{IsAligned, coded_buckets, level_node, measured_buckets, numbered_buckets}
 use Rattle.growing_tree.specs.declared.ready.Ready.{out-Ready}
-use Rattle.growing_tree.specs.declared.tree.Level.TheVariants.{Keyed as KeyedLevel}
+use Rattle.growing_tree.specs.declared.tree.Level.TheVariants.{Keyed as KeyedLevel, Measured as MeasuredLevel}
+use Rattle.growing_tree.specs.Measures.{measures_of}
 use Rattle.growing_tree.proofs.AggSizes.{children_less, item-most}
 use Rattle.growing_tree.proofs.Codes.{codes-own}
 use Rattle.growing_tree.proofs.Cuts.{child-finished, drop-full, fixed-finished, keyed-finished, number-finished, numbered-more}
 use Rattle.growing_tree.proofs.Levels.{children-ready, level-ready}
-use Rattle.growing_tree.proofs.Frequents.{rows-within, suffices-cut, terms-cut}
-use Rattle.growing_tree.proofs.Orderings.{AreApart}
+use Rattle.growing_tree.proofs.Frequents.{chosen-within, finished-rows, suffices-cut, terms-cut}
+use Rattle.growing_tree.specs.Grouped.{AreApart}
 use Rattle.growing_tree.proofs.Reordered.{finished-more, keys-apart}
 use Rattle.growing_tree.proofs.Steps.{item-at}
 use Rattle.growing_tree.proofs.finishing.+finish.Goals as goal
@@ -132,75 +133,6 @@ finish_bucket-finish_children-requires t c =
 pub finish_coded-key_of_code-requires : goal.finish_coded-key_of_code-requires
 finish_coded-key_of_code-requires t c = let h = (level-ready c.args.shard.now c.args.agg.now c.args.ready.now c.requires.ready).kind in record { ready = h }
 
-pub finish_keyed-finish_level-requires : goal.finish_keyed-finish_level-requires
-finish_keyed-finish_level-requires t c =
-    let a = c.args.agg.now in
-    let r = c.args.ready.now in
-    let shard = c.args.shard.now in
-    let rows = rows-within shard a r (code_order (out-Agg a).kind) c.in_ok-all.all.items c.keep_frequent-coded.result.items c.keep_frequent-coded.ensures in
-    let total = c.in_ok-total.ensures in
-    omega (arith, rows, total, ap (sum_by bucket_count) (c.in_ok-buckets.ensures ∙ ap (λ cs. map (finished_bucket shard a r) (map coded_bucket cs)) c.in_ok-sort_by_code.ensures), ap (sum_by (λ (x : Coded). x.bucket.count)) c.as_slice.ensures.value)
-
-pub finish_keyed-trim_some-requires : goal.finish_keyed-trim_some-requires
-finish_keyed-trim_some-requires t c =
-    let a = c.args.agg.now in
-    let r = c.args.ready.now in
-    let shard = c.args.shard.now in
-    let rows = rows-within shard a r (code_order (out-Agg a).kind) c.in_ok-all.all.items c.keep_frequent-coded.result.items c.keep_frequent-coded.ensures in
-    let total = c.in_ok-total.ensures in
-    omega (arith, rows, total, ap (sum_by bucket_count) (c.in_ok-buckets.ensures ∙ ap (λ cs. map (finished_bucket shard a r) (map coded_bucket cs)) c.in_ok-sort_by_code.ensures), ap (sum_by (λ (x : Coded). x.bucket.count)) c.as_slice.ensures.value)
-
-pub finish_keyed-returns-then-is_terms : goal.finish_keyed-returns-then-is_terms
-finish_keyed-returns-then-is_terms t c =
-    let a = c.args.agg.now in
-    let r = c.args.ready.now in
-    let shard = c.args.shard.now in
-    let keyed = c.args.keyed in
-    let bs = coded_buckets keyed.places keyed.buckets.items in
-    let all = c.in_ok-all.all.items in
-    let finish = finished_bucket shard a r in
-    let by = code_order (out-Agg a).kind in
-    let own = codes-own shard (out-Agg a).kind (out-Ready r).kind (level-ready shard a r c.requires.ready).kind in
-    let distinct : IsDistinct int_eq keyed.places = c.requires.aligned.distinct in
-    let all_is : map coded_bucket all ≡ bs = c.in_ok-all.ensures in
-    let apart : AreApart (map bucket_key (map (λ x. finish (coded_bucket x)) all)) =
-    subst (λ xs. AreApart (map bucket_key xs)) (ap (map finish) (sym all_is) ∙ map-map finish coded_bucket all) (keys-apart shard a r own keyed.places keyed.buckets.items distinct) in
-    let total_is : c.in_ok-total.total ≡ sum_by bucket_count bs =
-    c.in_ok-total.ensures ∙ ap (sum_by (λ (x : Coded). x.bucket.count)) c.as_slice.ensures.value ∙ sym (sum_by-map bucket_count coded_bucket all) ∙ ap (sum_by bucket_count) all_is in
-    let first : trimmed_some a c.in_ok-total.total c.in_ok-buckets.buckets.items ≡ trimmed_some a c.in_ok-total.total (sorted_by_key c.in_ok-buckets.buckets.items) =
-    subst (λ bs. trimmed_some a c.in_ok-total.total bs ≡ trimmed_some a c.in_ok-total.total (sorted_by_key bs)) (sym (c.in_ok-buckets.ensures ∙ ap (λ cs. map finish (map coded_bucket cs)) c.in_ok-sort_by_code.ensures))
-    (terms-cut shard a r by c.in_ok-total.total all c.keep_frequent-coded.result.items (sym c.is_terms.ensures ∙ c.if-is_terms.true) apart c.keep_frequent-coded.ensures) in
-    let buckets_are : sorted_by_key c.in_ok-buckets.buckets.items ≡ sorted_by_key (map finish (map coded_bucket (sorted by c.keep_frequent-coded.result.items))) =
-    ap sorted_by_key (c.in_ok-buckets.ensures ∙ ap (λ cs. map finish (map coded_bucket cs)) c.in_ok-sort_by_code.ensures) in
-    let is : trimmed_some a c.in_ok-total.total c.in_ok-buckets.buckets.items ≡ cut_tree a (decoded shard r (level_node (KeyedLevel keyed))) =
-    first ∙ ap (trimmed_some a c.in_ok-total.total) buckets_are ∙ suffices-cut shard a r by c.in_ok-total.total all c.keep_frequent-coded.result.items apart c.keep_frequent-coded.ensures
-    ∙ (λ i. trimmed_some a (total_is i) (sorted_by_key (map finish (all_is i)))) ∙ sym (keyed-finished shard a r bs) in
-    record { node = subst (λ (m : Node). IfOk c.trim_some.result (λ n. n ≡ m)) is c.trim_some.ensures }
-
-pub finish_keyed-returns : goal.finish_keyed-returns
-finish_keyed-returns t c =
-    let a = c.args.agg.now in
-    let r = c.args.ready.now in
-    let shard = c.args.shard.now in
-    let keyed = c.args.keyed in
-    let bs = coded_buckets keyed.places keyed.buckets.items in
-    let all = c.in_ok-all.all.items in
-    let finish = finished_bucket shard a r in
-    let by = code_order (out-Agg a).kind in
-    let own = codes-own shard (out-Agg a).kind (out-Ready r).kind (level-ready shard a r c.requires.ready).kind in
-    let distinct : IsDistinct int_eq keyed.places = c.requires.aligned.distinct in
-    let all_is : map coded_bucket all ≡ bs = c.in_ok-all.ensures in
-    let apart : AreApart (map bucket_key (map (λ x. finish (coded_bucket x)) all)) =
-    subst (λ xs. AreApart (map bucket_key xs)) (ap (map finish) (sym all_is) ∙ map-map finish coded_bucket all) (keys-apart shard a r own keyed.places keyed.buckets.items distinct) in
-    let total_is : c.in_ok-total.total ≡ sum_by bucket_count bs =
-    c.in_ok-total.ensures ∙ ap (sum_by (λ (x : Coded). x.bucket.count)) c.as_slice.ensures.value ∙ sym (sum_by-map bucket_count coded_bucket all) ∙ ap (sum_by bucket_count) all_is in
-    let buckets_are : sorted_by_key c.in_ok-buckets.buckets.items ≡ sorted_by_key (map finish (map coded_bucket (sorted by c.keep_frequent-coded.result.items))) =
-    ap sorted_by_key (c.in_ok-buckets.ensures ∙ ap (λ cs. map finish (map coded_bucket cs)) c.in_ok-sort_by_code.ensures) in
-    let is : trimmed_some a c.in_ok-total.total (sorted_by_key c.in_ok-buckets.buckets.items) ≡ cut_tree a (decoded shard r (level_node (KeyedLevel keyed))) =
-    ap (trimmed_some a c.in_ok-total.total) buckets_are ∙ suffices-cut shard a r by c.in_ok-total.total all c.keep_frequent-coded.result.items apart c.keep_frequent-coded.ensures
-    ∙ (λ i. trimmed_some a (total_is i) (sorted_by_key (map finish (all_is i)))) ∙ sym (keyed-finished shard a r bs) in
-    record { node = subst (λ (m : Node). IfOk c.finish_level.result (λ n. n ≡ m)) is c.finish_level.ensures }
-
 pub finish-returns-in_ok-finish_fixed-in-Fixed : goal.finish-returns-in_ok-finish_fixed-in-Fixed
 finish-returns-in_ok-finish_fixed-in-Fixed t c =
     let a = c.args.agg.now in
@@ -217,3 +149,95 @@ finish-returns-in-Number t c =
     let shard = c.args.shard.now in
     let tree_is : Number c.in-Number.taken ≡ c.args.tree = sym (ap level_node c.in-Number.is) ∙ c.tree.view_is in
     record { node = ap Number c.metric.ensures ∙ sym (number-finished shard a r c.in-Number.taken) ∙ ap (λ n. cut_tree a (decoded shard r n)) tree_is }
+
+pub finish_chosen-finish_level-requires : goal.finish_chosen-finish_level-requires
+finish_chosen-finish_level-requires t c =
+    let finish = finished_bucket c.args.shard.now c.args.agg.now c.args.ready.now in
+    let by = code_order (out-Agg c.args.agg.now).kind in
+    let made = ap (sum_by bucket_count) (c.in_ok-buckets.ensures ∙ ap (λ cs. map finish (map coded_bucket cs)) c.in_ok-sort_by_code.ensures) in
+    let rows = finished-rows c.args.shard.now c.args.agg.now c.args.ready.now by c.args.chosen.coded.items in
+    let within = c.requires.within in
+    omega (arith, rows, made, within)
+
+pub finish_chosen-trim_some-requires : goal.finish_chosen-trim_some-requires
+finish_chosen-trim_some-requires t c =
+    let finish = finished_bucket c.args.shard.now c.args.agg.now c.args.ready.now in
+    let by = code_order (out-Agg c.args.agg.now).kind in
+    let made = ap (sum_by bucket_count) (c.in_ok-buckets.ensures ∙ ap (λ cs. map finish (map coded_bucket cs)) c.in_ok-sort_by_code.ensures) in
+    let rows = finished-rows c.args.shard.now c.args.agg.now c.args.ready.now by c.args.chosen.coded.items in
+    let within = c.requires.within in
+    omega (arith, rows, made, within)
+
+pub finish_chosen-returns-then-is_terms : goal.finish_chosen-returns-then-is_terms
+finish_chosen-returns-then-is_terms t c = record {
+  node = λ all chosen apart.
+      let a = c.args.agg.now in
+      let r = c.args.ready.now in
+      let shard = c.args.shard.now in
+      let kept = c.args.chosen.coded.items in
+      let total = c.args.chosen.total in
+      let finish = finished_bucket shard a r in
+      let by = code_order (out-Agg a).kind in
+      let made = c.in_ok-buckets.ensures ∙ ap (λ cs. map finish (map coded_bucket cs)) c.in_ok-sort_by_code.ensures in
+      let is : trimmed_some a total c.in_ok-buckets.buckets.items ≡ cut_tree a (decoded shard r (Keyed all 0 0 0)) =
+      ap (trimmed_some a total) made
+      ∙ terms-cut shard a r all kept apart chosen.suffices by total (sym c.is_terms.ensures ∙ c.if-is_terms.true)
+      ∙ suffices-cut shard a r all kept apart chosen.suffices by total
+      ∙ ap (λ n. trimmed_some a n (sorted_by_key (map finish all))) chosen.total_is ∙ sym (keyed-finished shard a r all) in
+      subst (λ (m : Node). IfOk c.trim_some.result (λ n. n ≡ m)) is c.trim_some.ensures;
+}
+
+pub finish_chosen-returns : goal.finish_chosen-returns
+finish_chosen-returns t c = record {
+  node = λ all chosen apart.
+      let a = c.args.agg.now in
+      let r = c.args.ready.now in
+      let shard = c.args.shard.now in
+      let kept = c.args.chosen.coded.items in
+      let total = c.args.chosen.total in
+      let finish = finished_bucket shard a r in
+      let by = code_order (out-Agg a).kind in
+      let made = c.in_ok-buckets.ensures ∙ ap (λ cs. map finish (map coded_bucket cs)) c.in_ok-sort_by_code.ensures in
+      let is : trimmed_some a total (sorted_by_key c.in_ok-buckets.buckets.items) ≡ cut_tree a (decoded shard r (Keyed all 0 0 0)) =
+      ap (λ bs. trimmed_some a total (sorted_by_key bs)) made
+      ∙ suffices-cut shard a r all kept apart chosen.suffices by total
+      ∙ ap (λ n. trimmed_some a n (sorted_by_key (map finish all))) chosen.total_is ∙ sym (keyed-finished shard a r all) in
+      subst (λ (m : Node). IfOk c.finish_level.result (λ n. n ≡ m)) is c.finish_level.ensures;
+}
+
+pub finish-finish_chosen-requires : goal.finish-finish_chosen-requires
+finish-finish_chosen-requires t c =
+    let within = chosen-within (out-Agg c.args.agg.now).kind (coded_buckets c.in-Keyed.keyed.places c.in-Keyed.keyed.buckets.items) c.in_ok-chosen-in-Keyed.chosen c.in_ok-chosen-in-Keyed.ensures in
+    (omega (arith, c.decreases), (c.requires.ready, (c.requires.built, within)))
+
+pub finish-finish_chosen-requires-in-Measured : goal.finish-finish_chosen-requires-in-Measured
+finish-finish_chosen-requires-in-Measured t c =
+    let m = c.in-Measured.measured in
+    let within = chosen-within (out-Agg c.args.agg.now).kind (measured_buckets m.places (measures_of m)) c.in_ok-chosen-in-Measured.chosen c.in_ok-chosen-in-Measured.ensures in
+    (omega (arith, c.decreases), (c.requires.ready, (c.requires.built, within)))
+
+pub finish-returns-in_ok-chosen-in-Keyed : goal.finish-returns-in_ok-chosen-in-Keyed
+finish-returns-in_ok-chosen-in-Keyed t c =
+    let a = c.args.agg.now in
+    let r = c.args.ready.now in
+    let shard = c.args.shard.now in
+    let k = c.in-Keyed.keyed in
+    let all = coded_buckets k.places k.buckets.items in
+    let own = codes-own shard (out-Agg a).kind (out-Ready r).kind (level-ready shard a r c.requires.ready).kind in
+    let aligned : IsAligned (KeyedLevel k) = subst IsAligned c.in-Keyed.is c.tree.invariant in
+    let apart = keys-apart shard a r (λ g. g.count) (λ g. g.children.items) own k.places k.buckets.items aligned.distinct in
+    let tree_is : Keyed all 0 0 0 ≡ c.args.tree = sym (ap level_node c.in-Keyed.is) ∙ c.tree.view_is in
+    record { node = subst (λ n. IfOk c.finish_chosen.result (λ m. m ≡ cut_tree a (decoded shard r n))) tree_is (c.finish_chosen.ensures.node all c.in_ok-chosen-in-Keyed.ensures apart) }
+
+pub finish-returns-in_ok-chosen-in-Measured : goal.finish-returns-in_ok-chosen-in-Measured
+finish-returns-in_ok-chosen-in-Measured t c =
+    let a = c.args.agg.now in
+    let r = c.args.ready.now in
+    let shard = c.args.shard.now in
+    let m = c.in-Measured.measured in
+    let all = measured_buckets m.places (measures_of m) in
+    let own = codes-own shard (out-Agg a).kind (out-Ready r).kind (level-ready shard a r c.requires.ready).kind in
+    let aligned : IsAligned (MeasuredLevel m) = subst IsAligned c.in-Measured.is c.tree.invariant in
+    let apart = keys-apart shard a r (λ g. g.count) (λ g. map Number g.metrics) own m.places (measures_of m) aligned.distinct in
+    let tree_is : Keyed all 0 0 0 ≡ c.args.tree = sym (ap level_node c.in-Measured.is) ∙ c.tree.view_is in
+    record { node = subst (λ n. IfOk c.finish_chosen-in-Measured.result (λ m. m ≡ cut_tree a (decoded shard r n))) tree_is (c.finish_chosen-in-Measured.ensures.node all c.in_ok-chosen-in-Measured.ensures apart) }

@@ -1,11 +1,11 @@
-use Rattle.std.proofs.Common.{sym, ◌∙◌, ap, subst, arith, rules, ◌≡◌, ◌<◌, ◌≤◌, ◌+◌, ◌-◌, ℕ, ℤ, List, [], length, map, take, sum_by, get_or, w64, to_z, of_z, pos}
-use Rattle.std.specs.Prelude.{◌==◌, slice_get, flat_map, option_map}
+use Rattle.std.proofs.Common.{sym, ◌∙◌, ap, subst, arith, rules, ◌≡◌, ◌<◌, ◌≤◌, ◌+◌, ◌-◌, ℕ, ℤ, List, [], length, map, sum_by, get_or, w64, to_z, of_z, pos}
+use Rattle.std.specs.Prelude.{◌==◌, slice_get, flat_map}
 use Rattle.std.specs.List.{IsDistinct}
 use Rattle.std.specs.Ordering.{int_eq}
 use Rattle.std.proofs.lemmas.Bool.{false≢true}
 use Rattle.std.proofs.lemmas.Int.{to_z-of_z}
 use Rattle.std.proofs.lemmas.List.{append-nil, length-map}
-use Rattle.std.proofs.lemmas.Option.{slice_get-get_or, slice_get-map}
+use Rattle.std.proofs.lemmas.Option.{slice_get-get_or}
 use Rattle.agg_model.specs.declared.aggregation.Agg.{out-Agg}
 use Rattle.agg_evaluation.specs.Cost.{key_bytes, node_cost}
 use Rattle.agg_evaluation.specs.Groups.{group, under}
@@ -26,7 +26,7 @@ use Rattle.growing_tree.proofs.Counting.{groups-more, handed-is, keyed-counted, 
 use Rattle.growing_tree.proofs.Finals.{groups-are, groups-within, many-rows, one-row}
 use Rattle.growing_tree.proofs.Levels.{children-ready, level-ready, counted-none, empties-are, gathered-is}
 use Rattle.growing_tree.proofs.Putting.{number-bytes, put-number}
-use Rattle.growing_tree.proofs.Steps.{found-buckets, found-cost, added-buckets, added-cost, item-at, mapped-at, put_all-more, take-more}
+use Rattle.growing_tree.proofs.Steps.{found-buckets, found-cost, added-buckets, added-cost, item-at, mapped-at, one-more-code}
 use Rattle.growing_tree.proofs.gathering.+gather.Goals as goal
 
 pub gather_children-gather_child-requires : goal.gather_children-gather_child-requires
@@ -222,10 +222,6 @@ put_codes-loop-place-preserved t c =
     let r = c.args.ready.now in
     let place = c.loop-place.place in
     let codes = c.args.codes.now in
-    let key_of = key_at shard r in
-    let gs = gatherers shard (out-Agg c.args.agg.now).children in
-    let rows = rows_at shard c.args.rows.now in
-    let ds = decoders shard (out-Ready r).children in
     let code = get_or codes place (pos 0) in
     let same : to_z w64 (of_z w64 code) ≡ code = to_z-of_z w64 code (search rules) in
     let below : place < length codes = omega (arith, c.loop-place-test.true) in
@@ -233,9 +229,9 @@ put_codes-loop-place-preserved t c =
     let before = c.loop-place.invariant.cost in
     let added : c.in_ok-added.added ≡ c.loop-place.added + c.in_ok-more.more = c.in_ok-added.ensures in
     (record {
-      buckets = c.in_ok-more.ensures.buckets ∙ (λ i. put_rows gs rows (key_of (same i)) (c.loop-place.invariant.buckets i))
-          ∙ sym (ap (λ ks. put_all (λ k. rows) gs ks (shown_level shard r c.args.level.now)) (take-more (map key_of codes) place (key_of code) (slice_get-map key_of codes place ∙ ap (option_map key_of) (slice_get-get_or codes place (pos 0) below)))
-          ∙ put_all-more (λ k. rows) gs (take place (map key_of codes)) (key_of code) (shown_level shard r c.args.level.now));
+      buckets = one-more-code (rows_at shard c.args.rows.now) (gatherers shard (out-Agg c.args.agg.now).children) (key_at shard r) codes place code _
+          (shown_level shard r c.args.level.now) (shown_level shard r c.loop-place.level) (shown_level shard r c.put.new.level)
+          same (slice_get-get_or codes place (pos 0) below) c.loop-place.invariant.buckets c.in_ok-more.ensures.buckets;
       cost = omega arith;
       form = λ bs. c.in_ok-more.ensures.form bs ∙ c.loop-place.invariant.form bs;
       aligned = λ h. c.in_ok-more.ensures.aligned (c.loop-place.invariant.aligned h);

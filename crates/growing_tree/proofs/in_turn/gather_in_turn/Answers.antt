@@ -1,4 +1,4 @@
-use Rattle.std.proofs.Common.{sym, ◌∙◌, ap, arith, subst, ◌≡◌, ◌<◌, ◌+◌, [], ℕ, List, length, map, get_or, refl}
+use Rattle.std.proofs.Common.{sym, ◌∙◌, ap, arith, subst, ◌<◌, ◌+◌, [], ℕ, List, length, map, get_or, refl}
 use Rattle.std.specs.Prelude.{All}
 use Rattle.std.proofs.lemmas.List.{get_or_read}
 use Rattle.std.proofs.lemmas.List.Elements.{All-push}
@@ -8,7 +8,7 @@ use Rattle.growth_laws.specs.Gathering.{gathered}
 use Rattle.growing_tree.specs.Decoded.{decoded}
 use Rattle.growing_tree.specs.Gathered.{rows_at}
 use Rattle.growing_tree.specs.GatheredEach.{cost_after, gathered_one}
-use Rattle.growing_tree.proofs.Each.{after-all, after-next}
+use Rattle.growing_tree.proofs.Each.{after-all, one-in-turn}
 use Rattle.growing_tree.proofs.Rises.{all-rose, rising-more, rising-none}
 use Rattle.growing_tree.proofs.in_turn.gather_in_turn.Goals as goal
 
@@ -27,15 +27,11 @@ loop-place-preserved c =
     let rising = c.loop-place.invariant.rising in
     let below : i < length rows = omega (arith, c.loop-place-test.true) in
     let within : i < length now = (let many = rising.rises.many in omega (arith, many, c.requires.many, below)) in
-    let before = c.loop-place.invariant.tree in
-    let after = c.in_ok-more.ensures.tree ∙ ap (λ (rs : List ℕ). gathered shard.rows a (map row_at rs) (decoded shard r c.loop-place.tree)) c.as_slice.ensures ∙ ap (step (row_at (get_or rows i 0))) before ∙ sym (after-next step row_at rows i old below) in
-    let here = ap node_cost before in
-    let next = ap node_cost after in
-    let rose = c.in_ok-more.ensures.cost in
-    let up : cost_after step (rows_at shard rows) old (i + 1) ≡ cost_after step (rows_at shard rows) old i + more = omega (arith, here, next, rose) in
+    let stepped = c.in_ok-more.ensures.tree ∙ ap (λ (rs : List ℕ). gathered shard.rows a (map row_at rs) (decoded shard r c.loop-place.tree)) c.as_slice.ensures in
+    let turn = one-in-turn step node_cost row_at rows i more old (decoded shard r c.loop-place.tree) (decoded shard r c.gather.new.tree) below c.loop-place.invariant.tree stepped c.in_ok-more.ensures.cost in
     record {
-      tree = after;
-      rising = rising-more (cost_after step (rows_at shard rows) old) i more c.in_ok-next.next c.args.added.now.items now rising within up (c.in_ok-next.ensures ∙ ap (λ (k : ℕ). k + more) (get_or_read now i c.index.result.now within c.index.ensures 0));
+      tree = turn.0;
+      rising = rising-more (cost_after step (rows_at shard rows) old) i more c.in_ok-next.next c.args.added.now.items now rising within turn.1 (c.in_ok-next.ensures ∙ ap (λ (k : ℕ). k + more) (get_or_read now i c.index.result.now within c.index.ensures 0));
     }
 
 pub loop-place-init : goal.loop-place-init

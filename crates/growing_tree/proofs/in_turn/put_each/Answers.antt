@@ -1,11 +1,11 @@
-use Rattle.std.proofs.Common.{sym, ◌∙◌, ap, arith, ◌≡◌, ◌<◌, ◌+◌, length, get_or, sum_by, refl, ℕ}
+use Rattle.std.proofs.Common.{◌∙◌, ap, arith, ◌<◌, ◌+◌, length, get_or, map, sum_by, refl, ℕ}
 use Rattle.std.proofs.lemmas.List.{get_or_read}
 use Rattle.agg_model.specs.declared.aggregation.Agg.{out-Agg}
 use Rattle.agg_evaluation.specs.Rows.{row_of}
 use Rattle.evaluation_laws.proofs.CostLaws.{bytes}
 use Rattle.growing_tree.specs.Gathered.{gatherers, rows_at, shown_level}
 use Rattle.growing_tree.specs.GatheredEach.{bytes_after, put_at_keys}
-use Rattle.growing_tree.proofs.Each.{after-all, after-next}
+use Rattle.growing_tree.proofs.Each.{after-all, one-in-turn}
 use Rattle.growing_tree.proofs.Rises.{all-rose, rising-more, rising-none}
 use Rattle.growing_tree.proofs.in_turn.put_each.Goals as goal
 
@@ -24,15 +24,10 @@ loop-place-preserved c =
     let rising = c.loop-place.invariant.rising in
     let below : i < length rows = omega (arith, c.loop-place-test.true) in
     let within : i < length now = (let many = rising.rises.many in omega (arith, many, c.requires.many, below)) in
-    let before = c.loop-place.invariant.buckets in
-    let after = c.in_ok-more.ensures.buckets ∙ ap (step (row_at (get_or rows i 0))) before ∙ sym (after-next step row_at rows i old below) in
-    let here = ap (sum_by bytes) before in
-    let next = ap (sum_by bytes) after in
-    let rose = c.in_ok-more.ensures.cost in
-    let up : bytes_after step (rows_at shard rows) old (i + 1) ≡ bytes_after step (rows_at shard rows) old i + more = omega (arith, here, next, rose) in
+    let turn = one-in-turn step (sum_by bytes) row_at rows i more old (shown_level shard r c.loop-place.level) (shown_level shard r c.put_row.new.level) below c.loop-place.invariant.buckets (c.in_ok-more.ensures.buckets (row_at (get_or rows i 0)) (ap (map row_at) c.as_slice.ensures)) c.in_ok-more.ensures.cost in
     record {
-      buckets = after;
-      rising = rising-more (bytes_after step (rows_at shard rows) old) i more c.in_ok-next.next c.args.added.now.items now rising within up (c.in_ok-next.ensures ∙ ap (λ (k : ℕ). k + more) (get_or_read now i c.index.result.now within c.index.ensures 0));
+      buckets = turn.0;
+      rising = rising-more (bytes_after step (rows_at shard rows) old) i more c.in_ok-next.next c.args.added.now.items now rising within turn.1 (c.in_ok-next.ensures ∙ ap (λ (k : ℕ). k + more) (get_or_read now i c.index.result.now within c.index.ensures 0));
       form = λ bs. c.in_ok-more.ensures.form bs ∙ c.loop-place.invariant.form bs;
       aligned = λ h. c.in_ok-more.ensures.aligned (c.loop-place.invariant.aligned h);
     }

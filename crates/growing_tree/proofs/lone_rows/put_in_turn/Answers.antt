@@ -43,6 +43,6 @@ loop-row-preserved c =
           (keyed-keeps shard k (out-Ready r).kind ready c.requires.keyed) (level-up ds key_of own c.args.level.now c.requires.aligned)
           ∙ ap (λ rs. gathered_buckets shard.rows gs k rs buckets) (sym (ap (map row_at) (take-more items i row (slice_get-get_or items i 0 l)) ∙ map-append row_at (take i items) (row ∷ [])));
       cost = omega arith;
-      form = λ bs. c.in_ok-more.ensures.form bs ∙ c.loop-row.invariant.form bs;
-      aligned = λ h. c.in_ok-more.ensures.aligned (c.loop-row.invariant.aligned h);
+      form = λ bs. c.put_alone.ensures.stays.form bs ∙ c.loop-row.invariant.form bs;
+      aligned = λ h. c.put_alone.ensures.stays.aligned (c.loop-row.invariant.aligned h);
     })

@@ -1,4 +1,4 @@
-use Rattle.std.proofs.Common.{sym, ◌∙◌, ap, arith, inl, inr, ◌≡◌, ◌<◌, ◌≤◌, ◌++◌, ◌∷◌, [], length, get_or}
+use Rattle.std.proofs.Common.{◌∙◌, ap, arith, ◌++◌, ◌∷◌, [], get_or}
 use Rattle.std.proofs.Math.ListN.{get_or-eq_default}
 use Rattle.growing_tree.specs.Measures.{no_values}
 use Rattle.growing_tree.proofs.MeasuredBuckets.{read-behind}

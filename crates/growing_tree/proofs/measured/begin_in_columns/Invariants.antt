@@ -1,4 +1,4 @@
-use Rattle.std.proofs.Common.{◌≡◌, ◌≢◌, ℕ, take, map, length}
+use Rattle.std.proofs.Common.{◌≡◌, ℕ, take, map, length}
 use Rattle.growing_tree.specs.Measures.{metrics_at, no_values}
 use Rattle.growing_tree.proofs.measured.begin_in_columns.Given as goal
 

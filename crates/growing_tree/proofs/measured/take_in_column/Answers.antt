@@ -1,4 +1,4 @@
-use Rattle.std.proofs.Common.{sym, ◌∙◌, ap, arith, ◌≡◌, ◌<◌, length, get_or, set}
+use Rattle.std.proofs.Common.{◌∙◌, ap, arith, ◌<◌, length}
 use Rattle.std.proofs.lemmas.List.{get_or-set_other, get_or-set_same, get_or_read}
 use Rattle.agg_evaluation.specs.Rows.{row_of}
 use Rattle.growth_laws.specs.Growth.{metric_with}

@@ -1,11 +1,9 @@
-use Rattle.std.proofs.Common.{sym, ◌∙◌, ap, arith, refl, ◌≡◌, ◌<◌, length, map, take, get_or, set}
+use Rattle.std.proofs.Common.{sym, ◌∙◌, ap, arith, ◌≡◌, ◌<◌, length, get_or, set}
 use Rattle.std.proofs.Math.Seq.{map-set_same}
 use Rattle.std.proofs.lemmas.List.{map-set}
 use Rattle.std.proofs.lemmas.Option.{slice_get-get_or, slice_get-map}
 use Rattle.std.specs.Prelude.{Some, option_map, slice_get}
-use Rattle.agg_model.specs.declared.aggregation.Agg.{out-Agg}
 use Rattle.agg_evaluation.specs.Rows.{row_of}
-use Rattle.growth_laws.specs.Growth.{metric_with}
 use Rattle.growing_tree.specs.Measures.{metrics_at, metrics_with, taken_at}
 use Rattle.growing_tree.proofs.AllMetrics.{metric-at}
 use Rattle.growing_tree.proofs.Children.{take-full}

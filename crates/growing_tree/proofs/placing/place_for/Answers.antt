@@ -1,172 +1,36 @@
-use Rattle.std.proofs.Common.{refl, sym, ◌∙◌, ap, arith, rules, ◌≡◌, ◌<◌, ◌+◌, ◌++◌, ◌∷◌, [], length, map, sum_by, get_or, set, w64, to_z, of_z}
+use Rattle.std.proofs.Common.{◌∙◌, ◌≡◌, ◌<◌, arith, length, rules, w64}
 use Rattle.std.proofs.lemmas.Int.{to_z-of_z}
-use Rattle.agg_model.specs.declared.aggregation.Agg.{out-Agg}
-use Rattle.agg_model.specs.declared.partial.Node.TheVariants as node
-use Rattle.agg_evaluation.specs.Cost.{key_bytes, node_cost}
-use Rattle.agg_evaluation.specs.Rows.{row_of}
-use Rattle.evaluation_laws.proofs.CostLaws.{bytes}
-use Rattle.growing_tree.specs.Decoded.{decoded_children}
-use Rattle.growing_tree.specs.Gathered.{decoders, gatherers, key_at, shown_measured}
-use Rattle.growing_tree.specs.Hits.{counted_hits, taken_hits}
-use Rattle.growing_tree.specs.Measures.{measures_from, metrics_at, metrics_with}
-use Rattle.growing_tree.specs.declared.placing.Hit.{Hit}
-use Rattle.growing_tree.specs.declared.ready.Ready.{out-Ready}
-use Rattle.growing_tree.proofs.Codes.{codes-own}
-use Rattle.growing_tree.proofs.Hits.{counted-begun, counted-length, counted-more, one-here, one-other, taken-behind, taken-more, taken-same}
-use Rattle.growing_tree.proofs.Levels.{empties-are, level-ready}
-use Rattle.growing_tree.proofs.MeasuredBuckets.{bucket-at, bucket-begun, bucket-set, children_of, count_of, length-measures, measure, measured-cost, measured-empty, measured-gathers, shown_measures}
-use Rattle.growing_tree.proofs.Steps.{found-buckets, found-cost, added-buckets, added-cost}
+use Rattle.growing_tree.proofs.Levels.{level-ready}
+use Rattle.growing_tree.proofs.Placed.{IsPlace, place-begun, place-found}
 use Rattle.growing_tree.proofs.placing.place_for.Goals as goal
 
 pub bucket_bytes-requires : goal.bucket_bytes-requires
 bucket_bytes-requires c = let h = (level-ready c.args.shard.now c.args.agg.now c.args.ready.now c.requires.ready).kind in record { ready = h }
 
+found : (c : goal.Else-place-len)
+    → IsPlace c.args.shard.now c.args.agg.now c.args.ready.now c.args.code c.args.measured.now (record { places = c.find_or_add.new.self; counts = c.args.measured.now.counts; columns = c.args.measured.now.columns }) c.in-Found.place 0
+found c =
+    let within : c.in-Found.place < length c.args.measured.now.counts.items = omega (arith, c.if-place-len.false, c.len.ensures, c.args.measured.now.counts.ok) in
+    place-found c.args.shard.now c.args.agg.now c.args.ready.now c.requires.ready c.requires.metrics c.args.code _ (to_z-of_z w64 c.args.code (search rules)) c.args.measured.now
+    c.find_or_add.new.self c.in_ok-found.found c.in_ok-found.ensures.place c.in_ok-found.ensures.distinct c.in-Found.place c.in-Found.is within
+
 pub returns-else-place-len-clause-buckets : goal.returns-else-place-len-clause-buckets
-returns-else-place-len-clause-buckets c hits row_number below =
-    let shard = c.args.shard.now in
-    let a = c.args.agg.now in
-    let aggs = (out-Agg a).children in
-    let r = c.args.ready.now in
-    let rs = (out-Ready r).children in
-    let row_at = row_of shard.rows in
-    let row = row_at row_number in
-    let code = c.args.code in
-    let key_of = key_at shard r in
-    let same : to_z w64 (of_z w64 code) ≡ code = to_z-of_z w64 code (search rules) in
-    let counts = c.args.measured.now.counts.items in
-    let place = c.in-Found.place in
-    let hit : Hit = record { row = row_number; place = place } in
-    let ns = counted_hits hits counts in
-    let at = taken_hits aggs row_at hits (metrics_at c.args.measured.now.columns.items) in
-    let after = taken_hits aggs row_at (hits ++ hit ∷ []) (metrics_at c.args.measured.now.columns.items) in
-    let took : after place ≡ metrics_with aggs row (at place) = taken-more aggs row_at hits hit (metrics_at c.args.measured.now.columns.items) place ∙ one-here aggs row_at hit at in
-    let n = get_or ns place 0 in
-    let old = measure n (at place) in
-    let new = measure (n + 1) (after place) in
-    let many = length-measures at 0 ns in
-    let long = counted-length hits counts in
-    let within : place < length ns = omega (arith, long, c.if-place-len.false, c.len.ensures, c.args.measured.now.counts.ok) in
-    ap (λ ms. shown_measured shard r c.find_or_add.new.self ms after) (counted-more hits hit counts)
-    ∙ ap (shown_measures (decoders shard rs) key_of c.find_or_add.new.self)
-    (bucket-set at ns after place (n + 1) within (λ k other. taken-more aggs row_at hits hit (metrics_at c.args.measured.now.columns.items) k ∙ one-other aggs row_at hit at k other))
-    ∙ found-buckets count_of children_of (gatherers shard aggs) (row ∷ []) (decoders shard rs) key_of code (to_z w64 (of_z w64 code)) same
-    c.args.measured.now.places c.find_or_add.new.self (measures_from at 0 ns) c.in_ok-found.found c.in_ok-found.ensures.place c.in_ok-found.ensures.distinct
-    (codes-own shard (out-Agg a).kind (out-Ready r).kind (level-ready shard a r c.requires.ready).kind) place old new c.in-Found.is (omega (arith, many, within)) (sym (bucket-at at ns place old within))
-    (measured-gathers shard aggs rs key_of row c.requires.metrics n (at place) (after place) took)
+returns-else-place-len-clause-buckets c placements row below = (found c placements row below).buckets
 
 pub returns-else-place-len-clause-cost : goal.returns-else-place-len-clause-cost
-returns-else-place-len-clause-cost c hits row_number below =
-    let shard = c.args.shard.now in
-    let a = c.args.agg.now in
-    let aggs = (out-Agg a).children in
-    let r = c.args.ready.now in
-    let rs = (out-Ready r).children in
-    let row_at = row_of shard.rows in
-    let row = row_at row_number in
-    let code = c.args.code in
-    let key_of = key_at shard r in
-    let same : to_z w64 (of_z w64 code) ≡ code = to_z-of_z w64 code (search rules) in
-    let counts = c.args.measured.now.counts.items in
-    let place = c.in-Found.place in
-    let hit : Hit = record { row = row_number; place = place } in
-    let ns = counted_hits hits counts in
-    let at = taken_hits aggs row_at hits (metrics_at c.args.measured.now.columns.items) in
-    let after = taken_hits aggs row_at (hits ++ hit ∷ []) (metrics_at c.args.measured.now.columns.items) in
-    let took : after place ≡ metrics_with aggs row (at place) = taken-more aggs row_at hits hit (metrics_at c.args.measured.now.columns.items) place ∙ one-here aggs row_at hit at in
-    let n = get_or ns place 0 in
-    let old = measure n (at place) in
-    let new = measure (n + 1) (after place) in
-    let many = length-measures at 0 ns in
-    let long = counted-length hits counts in
-    let within : place < length ns = omega (arith, long, c.if-place-len.false, c.len.ensures, c.args.measured.now.counts.ok) in
-    ap (λ ms. sum_by bytes (shown_measured shard r c.find_or_add.new.self ms after)) (counted-more hits hit counts)
-    ∙ ap (λ ms. sum_by bytes (shown_measures (decoders shard rs) key_of c.find_or_add.new.self ms))
-    (bucket-set at ns after place (n + 1) within (λ k other. taken-more aggs row_at hits hit (metrics_at c.args.measured.now.columns.items) k ∙ one-other aggs row_at hit at k other))
-    ∙ found-cost count_of children_of (gatherers shard aggs) (row ∷ []) (decoders shard rs) key_of code (to_z w64 (of_z w64 code)) same
-    c.args.measured.now.places c.find_or_add.new.self (measures_from at 0 ns) c.in_ok-found.found c.in_ok-found.ensures.place c.in_ok-found.ensures.distinct
-    place old new 0 c.in-Found.is (omega (arith, many, within)) (sym (bucket-at at ns place old within))
-    (measured-cost shard aggs rs key_of row c.requires.metrics n (at place) (after place) took)
+returns-else-place-len-clause-cost c placements row below = (found c placements row below).cost
+
+begun : (c : goal.In_ok-begin_measured-in-Added)
+    → IsPlace c.args.shard.now c.args.agg.now c.args.ready.now c.args.code c.args.measured.now (record { places = c.find_or_add.new.self; counts = c.begin_measured.new.counts; columns = c.begin_measured.new.columns }) c.in-Added.place c.in_ok-begun-in-Added.begun
+begun c =
+    let new = c.in_ok-begin_measured-in-Added.ensures in
+    let end : c.in-Added.place ≡ length c.args.measured.now.counts.items = omega (arith, c.if-place-len-2.false, c.len-in-Added.ensures, c.args.measured.now.counts.ok) in
+    place-begun c.args.shard.now c.args.agg.now c.args.ready.now c.requires.ready c.requires.metrics c.args.code _ (to_z-of_z w64 c.args.code (search rules)) c.args.measured.now
+    c.find_or_add.new.self c.in_ok-found.found c.in_ok-found.ensures.place c.in_ok-found.ensures.distinct c.in-Added.place c.in-Added.is end
+    c.in_ok-begun-in-Added.begun c.in_ok-begun-in-Added.ensures c.begin_measured.new.counts new.count c.begin_measured.new.columns new.same (new.many ∙ c.len-in-Added-2.ensures) new.here
 
 pub returns-in_ok-begin_measured-in-Added-clause-buckets : goal.returns-in_ok-begin_measured-in-Added-clause-buckets
-returns-in_ok-begin_measured-in-Added-clause-buckets c hits row_number below =
-    let shard = c.args.shard.now in
-    let a = c.args.agg.now in
-    let aggs = (out-Agg a).children in
-    let r = c.args.ready.now in
-    let rs = (out-Ready r).children in
-    let row_at = row_of shard.rows in
-    let row = row_at row_number in
-    let code = c.args.code in
-    let key_of = key_at shard r in
-    let same : to_z w64 (of_z w64 code) ≡ code = to_z-of_z w64 code (search rules) in
-    let counts = c.args.measured.now.counts.items in
-    let columns = c.args.measured.now.columns.items in
-    let begun = c.in_ok-begin_measured-in-Added.ensures in
-    let middle = metrics_at c.begin_measured.new.columns.items in
-    let place = c.in-Added.place in
-    let end : place ≡ length counts = omega (arith, c.if-place-len-2.false, c.len-in-Added.ensures, c.args.measured.now.counts.ok) in
-    let hit : Hit = record { row = row_number; place = place } in
-    let ns = counted_hits hits counts in
-    let at = taken_hits aggs row_at hits (metrics_at columns) in
-    let now = taken_hits aggs row_at hits middle in
-    let after = taken_hits aggs row_at (hits ++ hit ∷ []) middle in
-    let still : (n : _) → now n ≡ at n = taken-same aggs row_at hits (metrics_at columns) middle begun.same in
-    let took : after place ≡ metrics_with aggs row (at place) = taken-more aggs row_at hits hit middle place ∙ one-here aggs row_at hit now ∙ ap (metrics_with aggs row) (still place) in
-    let old = measure 0 (at place) in
-    let new = measure 1 (after place) in
-    let many = length-measures at 0 ns in
-    let long = counted-length hits counts in
-    let last : place ≡ length ns = end ∙ sym long in
-    let more = ap (counted_hits (hits ++ hit ∷ [])) begun.count ∙ counted-more hits hit (counts ++ 0 ∷ []) ∙ ap (λ ms. set ms place (get_or ms place 0 + 1)) (counted-begun hits counts below) in
-    ap (λ ms. shown_measured shard r c.find_or_add.new.self ms after) more
-    ∙ ap (shown_measures (decoders shard rs) key_of c.find_or_add.new.self) (bucket-begun at now after ns place last still (λ k other. taken-more aggs row_at hits hit middle k ∙ one-other aggs row_at hit now k other))
-    ∙ added-buckets count_of children_of (gatherers shard aggs) (row ∷ []) (decoders shard rs) key_of code (to_z w64 (of_z w64 code)) same
-    c.args.measured.now.places c.find_or_add.new.self (measures_from at 0 ns) c.in_ok-found.found c.in_ok-found.ensures.place c.in_ok-found.ensures.distinct
-    (codes-own shard (out-Agg a).kind (out-Ready r).kind (level-ready shard a r c.requires.ready).kind) place old new c.in-Added.is (last ∙ sym many) refl
-    (ap (λ ms. decoded_children (decoders shard rs) (map node.Number ms)) (taken-behind aggs row_at hits (metrics_at columns) (length counts) place below (omega (arith, end)) ∙ ap (metrics_at columns) end ∙ begun.here)
-    ∙ measured-empty shard aggs rs columns (begun.many ∙ c.len-in-Added-2.ensures) c.requires.metrics ∙ empties-are shard.rows aggs)
-    (measured-gathers shard aggs rs key_of row c.requires.metrics 0 (at place) (after place) took)
+returns-in_ok-begin_measured-in-Added-clause-buckets c placements row below = (begun c placements row below).buckets
 
 pub returns-in_ok-begin_measured-in-Added-clause-cost : goal.returns-in_ok-begin_measured-in-Added-clause-cost
-returns-in_ok-begin_measured-in-Added-clause-cost c hits row_number below =
-    let shard = c.args.shard.now in
-    let a = c.args.agg.now in
-    let aggs = (out-Agg a).children in
-    let r = c.args.ready.now in
-    let rs = (out-Ready r).children in
-    let row_at = row_of shard.rows in
-    let row = row_at row_number in
-    let code = c.args.code in
-    let key_of = key_at shard r in
-    let same : to_z w64 (of_z w64 code) ≡ code = to_z-of_z w64 code (search rules) in
-    let counts = c.args.measured.now.counts.items in
-    let columns = c.args.measured.now.columns.items in
-    let begun = c.in_ok-begin_measured-in-Added.ensures in
-    let middle = metrics_at c.begin_measured.new.columns.items in
-    let place = c.in-Added.place in
-    let end : place ≡ length counts = omega (arith, c.if-place-len-2.false, c.len-in-Added.ensures, c.args.measured.now.counts.ok) in
-    let hit : Hit = record { row = row_number; place = place } in
-    let ns = counted_hits hits counts in
-    let at = taken_hits aggs row_at hits (metrics_at columns) in
-    let now = taken_hits aggs row_at hits middle in
-    let after = taken_hits aggs row_at (hits ++ hit ∷ []) middle in
-    let still : (n : _) → now n ≡ at n = taken-same aggs row_at hits (metrics_at columns) middle begun.same in
-    let took : after place ≡ metrics_with aggs row (at place) = taken-more aggs row_at hits hit middle place ∙ one-here aggs row_at hit now ∙ ap (metrics_with aggs row) (still place) in
-    let old = measure 0 (at place) in
-    let new = measure 1 (after place) in
-    let many = length-measures at 0 ns in
-    let long = counted-length hits counts in
-    let last : place ≡ length ns = end ∙ sym long in
-    let more = ap (counted_hits (hits ++ hit ∷ [])) begun.count ∙ counted-more hits hit (counts ++ 0 ∷ []) ∙ ap (λ ms. set ms place (get_or ms place 0 + 1)) (counted-begun hits counts below) in
-    let cost : c.in_ok-begun-in-Added.begun ≡ 128 + key_bytes (key_of code) + (out-Ready r).child_bytes = c.in_ok-begun-in-Added.ensures ∙ ap (λ x. 128 + key_bytes (key_of x) + (out-Ready r).child_bytes) same in
-    let empty = ap (λ ms. decoded_children (decoders shard rs) (map node.Number ms)) (taken-behind aggs row_at hits (metrics_at columns) (length counts) place below (omega (arith, end)) ∙ ap (metrics_at columns) end ∙ begun.here)
-    ∙ measured-empty shard aggs rs columns (begun.many ∙ c.len-in-Added-2.ensures) c.requires.metrics in
-    let rose : c.in_ok-begun-in-Added.begun + 0 ≡ c.in_ok-begun-in-Added.begun = omega arith in
-    ap (λ ms. sum_by bytes (shown_measured shard r c.find_or_add.new.self ms after)) more
-    ∙ ap (λ ms. sum_by bytes (shown_measures (decoders shard rs) key_of c.find_or_add.new.self ms)) (bucket-begun at now after ns place last still (λ k other. taken-more aggs row_at hits hit middle k ∙ one-other aggs row_at hit now k other))
-    ∙ added-cost count_of children_of (gatherers shard aggs) (row ∷ []) (decoders shard rs) key_of code (to_z w64 (of_z w64 code)) same
-    c.args.measured.now.places c.find_or_add.new.self (measures_from at 0 ns) c.in_ok-found.found c.in_ok-found.ensures.place c.in_ok-found.ensures.distinct
-    place c.in_ok-begun-in-Added.begun (out-Ready r).child_bytes 0 old new c.in-Added.is (last ∙ sym many) cost
-    ((level-ready shard a r c.requires.ready).child_bytes ∙ ap (sum_by node_cost) (sym empty))
-    (measured-cost shard aggs rs key_of row c.requires.metrics 0 (at place) (after place) took)
-    ∙ ap (λ n. sum_by bytes (shown_measured shard r c.args.measured.now.places ns at) + n) rose
+returns-in_ok-begin_measured-in-Added-clause-cost c placements row below = (begun c placements row below).cost

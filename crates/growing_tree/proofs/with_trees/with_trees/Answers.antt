@@ -1,45 +1,63 @@
-use Rattle.std.proofs.Common.{sym, ◌∙◌, ap, arith, refl, ◌≡◌, ◌<◌, ◌≤◌, ◌+◌, ◌++◌, ◌∷◌, [], ℕ, List, length, map, take, get_or}
-use Rattle.std.specs.Prelude.{Some, slice_get}
-use Rattle.std.proofs.lemmas.List.{length-map, length-take}
-use Rattle.list_laws.proofs.Lists.{map-append}
-use Rattle.agg_model.specs.declared.partial.Node.{Node}
-use Rattle.agg_model.specs.declared.partial.Node.TheVariants.{Keyed, Number}
-use Rattle.growing_tree.specs.Measures.{measures_from, measures_of, metrics_at}
-use Rattle.growing_tree.proofs.Children.{take-full}
-use Rattle.growing_tree.proofs.MeasuredBuckets.{bucket-push, coded-seen, length-measures, measure, seen_growing, seen_measure}
-use Rattle.growing_tree.proofs.Steps.{item-at, take-more}
+use Rattle.std.proofs.Common.{◌≡◌, ◌<◌, ◌≤◌, ◌+◌, ◌∙◌, [], ◌∷◌, ◌++◌, List, true, false, sym, ap, arith, rules, length, map, drop, get_or, pos, w64, to_z, of_z}
+use Rattle.std.specs.Global.{Vec}
+use Rattle.std.proofs.lemmas.Int.{to_z-of_z}
+use Rattle.std.proofs.lemmas.Option.{slice_get-get_or}
+use Rattle.list_laws.proofs.Lists.{append-nil}
+use Rattle.agg_model.specs.declared.key.Key.TheVariants as key
+use Rattle.agg_model.specs.declared.partial.Bucket.{Bucket}
+use Rattle.agg_model.specs.declared.partial.Node.TheVariants.{Number}
+use Rattle.growing_tree.specs.CodedBuckets.{coded_bucket}
+use Rattle.growing_tree.specs.Frequent.{frequent}
+use Rattle.growing_tree.specs.Measures.{Measure, measures_from, measures_of, metrics_at}
+use Rattle.growing_tree.specs.Trees.{measured_at, measured_buckets}
+use Rattle.growing_tree.specs.declared.coded.Coded.{Coded}
+use Rattle.growing_tree.proofs.Choosing.{coded-empty, coded-is, coded-next, enough-rows, few-rows, kept-less, kept-more, measures-next, none-behind}
+use Rattle.growing_tree.proofs.Cuts.{drop-full}
 use Rattle.growing_tree.proofs.with_trees.with_trees.Goals as goal
+use Rattle.growing_tree.proofs.with_trees.with_trees.Goals.{then-counts-place+in_ok-trees_at+in_ok-push, else-counts-place}
 
 pub loop-place-preserved : goal.loop-place-preserved
 loop-place-preserved c =
+    let m = c.args.measured.now in
+    let codes = c.codes-codes.result.now in
+    let counts = m.counts.items in
+    let at = metrics_at m.columns.items in
     let place = c.loop-place.place in
-    let counts = c.args.measured.counts.items in
-    let columns = c.args.measured.columns.items in
-    let n = c.index.result.now in
-    let done = c.loop-place.buckets.items in
-    let within : place < length counts = omega (arith, c.loop-place-test.true, c.len-place-end.ensures, c.args.measured.counts.ok) in
-    let n_is : slice_get counts place ≡ Some n = item-at counts place n within c.index.ensures in
-    let long : length (take place counts) ≡ place = omega (arith, length-take place counts, within) in
-    let children : c.in_ok-children.children.items ≡ map Number (metrics_at columns place) = c.in_ok-children.ensures ∙ ap (λ cs. map Number (metrics_at cs place)) c.as_slice.ensures.value in
-    ap (map seen_growing) c.in_ok-push.ensures.items ∙ map-append seen_growing done (_ ∷ [])
-    ∙ (λ j. c.loop-place.invariant j ++ (n, children j) ∷ [])
-    ∙ sym (ap (λ ns. map seen_measure (measures_from (metrics_at columns) 0 ns)) (take-more counts place n n_is)
-    ∙ ap (map seen_measure) (bucket-push (metrics_at columns) (take place counts) n place (sym long))
-    ∙ map-append seen_measure (measures_from (metrics_at columns) 0 (take place counts)) (measure n (metrics_at columns place) ∷ []))
+    let done = c.loop-place.coded.items in
+    let least = c.args.least in
+    let n = get_or counts place 0 in
+    let code = get_or codes place (pos 0) in
+    let b : Bucket = measured_at (key.Whole code) (record { count = n; metrics = at place }) in
+    let left : List Bucket = measured_buckets (drop (place + 1) codes) (measures_from at (place + 1) (drop (place + 1) counts)) in
+    let lent = ap length c.as_slice-counts.ensures.value in
+    let within : place < length counts = omega (arith, c.loop-place-test.true, c.min-place-end.ensures, lent) in
+    let coded : place < length codes = omega (arith, c.loop-place-test.true, c.min-place-end.ensures) in
+    let all : measured_buckets (drop place codes) (measures_from at place (drop place counts)) ≡ b ∷ left =
+    ap (measured_buckets (drop place codes)) (measures-next at counts place n (slice_get-get_or counts place 0 within))
+    ∙ coded-next measured_at codes place code (record { count = n; metrics = at place }) (measures_from at (place + 1) (drop (place + 1) counts)) (slice_get-get_or codes place (pos 0) coded) in
+    let before : map coded_bucket done ++ frequent least (b ∷ left) ≡ frequent least (measured_buckets m.places (measures_of m)) = ap (λ bs. map coded_bucket done ++ frequent least bs) (sym all) ∙ c.loop-place.invariant in
+    let n_is : get_or c.as_slice-counts.result.now place 0 ≡ n = ap (λ ns. get_or ns place 0) c.as_slice-counts.ensures.value in
+    elim c.if-counts-place.branch [
+      | then-counts-place+in_ok-trees_at+in_ok-push w ↦
+          let children = w.in_ok-trees_at.ensures ∙ ap (λ cs. map Number (metrics_at cs place)) w.as_slice.ensures.value in
+          let same = coded-is (record { code = to_z w64 (of_z w64 code); bucket = record { count = get_or c.as_slice-counts.result.now place 0; children = w.in_ok-trees_at.field-0 } }) code n (map Number (at place)) (to_z-of_z w64 code (search rules)) n_is children in
+          let enough : least ≤ n = omega (arith, w.if-counts-place.true, n_is) in
+          ap (λ (v : Vec Coded). map coded_bucket v.items ++ frequent least left) w.coded-is ∙ ap (λ xs. map coded_bucket xs ++ frequent least left) w.in_ok-push.ensures.items
+          ∙ kept-more least done _ b left same (enough-rows least n enough) ∙ before
+      | else-counts-place w ↦
+          let fewer : n < least = omega (arith, w.if-counts-place.false, n_is) in
+          ap (λ (v : Vec Coded). map coded_bucket v.items ++ frequent least left) w.coded-is ∙ ap (λ bs. map coded_bucket done ++ bs) (kept-less least b left (few-rows least n fewer)) ∙ before
+    ]
 
-pub returns-clause-same : goal.returns-clause-same
-returns-clause-same c =
-    let m = c.args.measured in
-    let over : length m.counts.items ≤ c.loop-place.place = omega (arith, c.loop-place-test.false, c.len-place-end.ensures, m.counts.ok) in
-    let all = c.loop-place.invariant ∙ ap (λ ns. map seen_measure (measures_from (metrics_at m.columns.items) 0 ns)) (take-full m.counts.items c.loop-place.place over) in
-    ap (λ bs. Keyed bs 0 0 0) (coded-seen m.places c.loop-place.buckets.items (measures_of m) all)
-
-pub returns-clause-aligned : goal.returns-clause-aligned
-returns-clause-aligned c h =
-    let m = c.args.measured in
-    let gs = c.loop-place.buckets.items in
-    let over : length m.counts.items ≤ c.loop-place.place = omega (arith, c.loop-place-test.false, c.len-place-end.ensures, m.counts.ok) in
-    let all = c.loop-place.invariant ∙ ap (λ ns. map seen_measure (measures_from (metrics_at m.columns.items) 0 ns)) (take-full m.counts.items c.loop-place.place over) in
-    let same : length gs ≡ length m.counts.items = sym (length-map gs seen_growing) ∙ ap (λ (xs : List (ℕ × List Node)). length xs) all ∙ length-map (measures_of m) seen_measure ∙ length-measures (metrics_at m.columns.items) 0 m.counts.items in
-    let few = h.few in
-    record { few = omega (arith, same, few); distinct = h.distinct }
+pub returns : goal.returns
+returns c =
+    let m = c.args.measured.now in
+    let codes = c.codes-codes.result.now in
+    let counts = m.counts.items in
+    let at = metrics_at m.columns.items in
+    let place = c.loop-place.place in
+    let done = map coded_bucket c.loop-place.coded.items in
+    let least = c.args.least in
+    let lent = ap length c.as_slice-counts.ensures.value in
+    let over : measured_buckets (drop place codes) (measures_from at place (drop place counts)) ≡ [] = none-behind at codes place counts place (omega (arith, lent, c.min-place-end.ensures, c.loop-place-test.false)) in
+    sym (append-nil done) ∙ sym (ap (λ bs. done ++ frequent least bs) over) ∙ c.loop-place.invariant

@@ -1,1 +1,0 @@
-use Rattle.growing_tree.proofs.placing.put_block.Goals as goal
