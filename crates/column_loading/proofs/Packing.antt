@@ -1,8 +1,7 @@
 -- Pieces of documents behind one another.
-use Rattle.std.proofs.Common.{◌≡◌, refl, zero, suc, ℕ, ◌+◌, ◌<◌, ◌≤◌, List, [], ◌∷◌, ◌++◌, length, get_or, Option, None, Some, sym, ◌∙◌, ap, subst, arith, length-append}
+use Rattle.std.proofs.Common.{◌≡◌, refl, zero, suc, ℕ, ◌+◌, ◌<◌, ◌≤◌, List, [], ◌∷◌, ◌++◌, length, get_or, Option, Some, sym, ◌∙◌, ap, subst, arith, length-append}
 use Rattle.std.specs.List.{slice_range}
 use Rattle.std.specs.Str.{IsUtf8}
-use Rattle.std.proofs.lemmas.List.{get_or_past}
 use Rattle.shard_columns.proofs.Storing.{slice_range-stays, slice_range-seam}
 use Rattle.column_loading.specs.Packed.{AreLaid, IsLaid, piece_slot, slots_from, start_at}
 use Rattle.column_loading.specs.Slots.{live_slot}

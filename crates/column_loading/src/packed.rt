@@ -151,7 +151,8 @@ impl PackedSlots {
             weight,
         } = kept;
         self.pieces.reserve(1)?;
-        self.bytes.reserve(id.as_bytes().len() + source.as_slice().len())?;
+        self.bytes
+            .reserve(id.as_bytes().len() + source.as_slice().len())?;
         route(&mut self.routings, self.pieces.len(), routing)?;
         // There is room for what follows.
         let _ = self.bytes.extend_from_slice(id.as_bytes());

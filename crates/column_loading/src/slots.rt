@@ -70,7 +70,7 @@ fn places_of(alloc: Global, slots: &Form) -> Result<BTreeMap<String, usize>, All
     Ok(places)
 }
 
-// Puts a slot with a new id behind the others. Of want of memory for its place none is left, so that no id lacks one.
+// Puts a slot with a new id behind the others. Where memory is wanting for its place, no slot is left, so that none lacks a place.
 fn put_last(
     alloc: Global,
     slots: &mut Form,

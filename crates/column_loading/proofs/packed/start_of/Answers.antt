@@ -1,4 +1,4 @@
-use Rattle.std.proofs.Common.{◌≡◌, ℕ, suc, sym, ◌∙◌, ap, arith}
+use Rattle.std.proofs.Common.{◌≡◌, suc, sym, ◌∙◌, ap, arith}
 use Rattle.column_loading.specs.Packed.{start_at}
 use Rattle.column_loading.proofs.Packing.{start-first, start-next}
 use Rattle.column_loading.proofs.packed.start_of.Goals as goal

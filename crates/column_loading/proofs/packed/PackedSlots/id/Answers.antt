@@ -1,4 +1,4 @@
-use Rattle.std.proofs.Common.{◌≡◌, ◌≤◌, ◌<◌, ℕ, List, length, sym, ◌∙◌, ap, subst, arith, rules}
+use Rattle.std.proofs.Common.{◌≡◌, ◌≤◌, ℕ, List, length, sym, ◌∙◌, ap, subst, arith, rules}
 use Rattle.std.specs.List.{slice_range}
 use Rattle.std.specs.Str.{IsUtf8}
 use Rattle.column_loading.specs.Packed.{routing_in, start_at}
@@ -32,28 +32,22 @@ start c = c.start_of-start.ensures ∙ ap (λ (ps : List Piece). start_at 0 ps c
 part : (c : After-index) → slice_range c.deref.result.now c.start_of-start.result c.index.result.now.source ≡ slice_range c.self.inside.bytes.items (start_at 0 c.self.inside.pieces.items c.args.place) c.index.result.now.source
 part c = λ i. slice_range (c.deref.ensures.value i) (start c i) c.index.result.now.source
 
+in-order : (c : After-index) → c.start_of-start.result ≤ c.index.result.now.source
+in-order c = let first = (here c).laid.id_first in omega (arith, start c, first)
+
 pub slice_bounds-from_utf8-count : goal.slice_bounds-from_utf8-count
-slice_bounds-from_utf8-count c = let first = (here c).laid.id_first in omega (arith, start c, first)
+slice_bounds-from_utf8-count c = in-order c
 
 pub slice_bounds-from_utf8-start : goal.slice_bounds-from_utf8-start
-slice_bounds-from_utf8-start c =
-    let piece = here c in
-    let first = piece.laid.id_first in
-    let last = piece.laid.source_last in
-    let low = piece.inside in
-    let in_order : c.start_of-start.result ≤ c.index.result.now.source = omega (arith, start c, first) in
-    let inside : c.index.result.now.source ≤ length c.deref.result.now = omega (arith, last, low, ap (λ (bs : List ℕ). length bs) c.deref.ensures.value) in
-    search (rules, in_order, inside)
+slice_bounds-from_utf8-start c = let in_order = in-order c in search (rules, in_order)
 
 pub slice_bounds-from_utf8-end : goal.slice_bounds-from_utf8-end
 slice_bounds-from_utf8-end c =
     let piece = here c in
-    let first = piece.laid.id_first in
     let last = piece.laid.source_last in
     let low = piece.inside in
-    let in_order : c.start_of-start.result ≤ c.index.result.now.source = omega (arith, start c, first) in
     let inside : c.index.result.now.source ≤ length c.deref.result.now = omega (arith, last, low, ap (λ (bs : List ℕ). length bs) c.deref.ensures.value) in
-    search (rules, in_order, inside)
+    search (rules, inside)
 
 pub unreachable-requires : goal.unreachable-requires
 unreachable-requires c =

@@ -1,8 +1,7 @@
-use Rattle.std.proofs.Common.{◌≡◌, ◌≤◌, ◌<◌, ℕ, List, length, Option, None, Some, refl, sym, ◌∙◌, ap, subst, arith, rules}
+use Rattle.std.proofs.Common.{◌≡◌, ◌≤◌, ℕ, List, length, Some, sym, ◌∙◌, ap, arith, rules}
 use Rattle.std.specs.List.{slice_range}
 use Rattle.std.specs.Option.{option_copied}
 use Rattle.column_loading.specs.Packed.{routing_in, start_at}
-use Rattle.column_loading.specs.declared.slot.Kept.{Kept}
 use Rattle.column_loading.specs.declared.slot.Slot.{Slot}
 use Rattle.column_loading.proofs.Packing.{IsPieceAt, piece-in, place-low}
 use Rattle.column_loading.proofs.packed.PackedSlots.kept.Goals as goal
@@ -24,20 +23,13 @@ pub slice_bounds-of-count : goal.slice_bounds-of-count
 slice_bounds-of-count c = (here c).laid.source_last
 
 pub slice_bounds-of-start : goal.slice_bounds-of-start
-slice_bounds-of-start c =
-    let piece = here c in
-    let low = piece.inside in
-    let in_order : c.index-piece.result.now.source ≤ c.index-piece.result.now.end = piece.laid.source_last in
-    let inside : c.index-piece.result.now.end ≤ length c.deref.result.now = omega (arith, low, ap (λ (bs : List ℕ). length bs) c.deref.ensures.value) in
-    search (rules, in_order, inside)
+slice_bounds-of-start c = let in_order = (here c).laid.source_last in search (rules, in_order)
 
 pub slice_bounds-of-end : goal.slice_bounds-of-end
 slice_bounds-of-end c =
-    let piece = here c in
-    let low = piece.inside in
-    let in_order : c.index-piece.result.now.source ≤ c.index-piece.result.now.end = piece.laid.source_last in
+    let low = (here c).inside in
     let inside : c.index-piece.result.now.end ≤ length c.deref.result.now = omega (arith, low, ap (λ (bs : List ℕ). length bs) c.deref.ensures.value) in
-    search (rules, in_order, inside)
+    search (rules, inside)
 
 pub returns : goal.returns
 returns c =

@@ -1,4 +1,4 @@
-use Rattle.std.proofs.Common.{◌≡◌, List, length, sym, ◌∙◌, ap, arith}
+use Rattle.std.proofs.Common.{List, length, ap, arith}
 use Rattle.column_loading.specs.Packed.{routing_in}
 use Rattle.column_loading.specs.declared.slot.Slot.{Slot}
 use Rattle.column_loading.proofs.Packing.{length-slots}

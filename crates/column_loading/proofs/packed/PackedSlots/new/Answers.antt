@@ -1,4 +1,4 @@
-use Rattle.std.proofs.Common.{◌≡◌, ℕ, List, [], ◌∷◌, Option, None, refl, ◌∙◌, ap, subst, sym}
+use Rattle.std.proofs.Common.{ℕ, List, [], ◌∙◌, ap, subst, sym}
 use Rattle.std.specs.Map.{lookup}
 use Rattle.std.specs.Ordering.{is_eq, nat_cmp}
 use Rattle.column_loading.specs.Packed.{IsPacked, routing_in, slots_from}

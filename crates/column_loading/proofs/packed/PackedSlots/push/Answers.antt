@@ -1,4 +1,4 @@
-use Rattle.std.proofs.Common.{◌≡◌, ℕ, ◌+◌, ◌<◌, ◌≤◌, Bool, true, List, [], ◌∷◌, ◌++◌, length, if◌then◌else◌, Option, None, sym, ◌∙◌, ap, subst, arith, length-append}
+use Rattle.std.proofs.Common.{◌≡◌, ℕ, ◌+◌, ◌≤◌, Bool, true, List, [], ◌∷◌, ◌++◌, length, if◌then◌else◌, sym, ◌∙◌, ap, subst, arith}
 use Rattle.std.specs.Result.{is_ok}
 use Rattle.std.specs.Vec.{vec_len}
 use Rattle.std.proofs.lemmas.List.{length_push}
@@ -84,7 +84,7 @@ returns-clause-slots c =
     let before = routing_in c.self.inside.routings in
     let after = routing_in c.route.new.routings in
     let more = slots-push (bytes c) (id c) (source c) before after c.args.kept.routing 0 0 (pieces c) (piece c) c.self.invariant.laid (next c)
-        (λ other low. c.route.ensures.others other (λ same. absurd (omega (arith, same, low, place c))))
-        (ap after (let at = place c in let here : 0 + length (pieces c) ≡ c.len.result = omega (arith, at) in here) ∙ c.in_ok-route.ensures.routing) in
+    (λ other low. c.route.ensures.others other (λ same. absurd (omega (arith, same, low, place c))))
+    (ap after (let at = place c in let here : 0 + length (pieces c) ≡ c.len.result = omega (arith, at) in here) ∙ c.in_ok-route.ensures.routing) in
     (λ i. slots_from (source-put c i) after 0 0 (piece-put c i))
     ∙ (more ∙ ap (λ (ss : List Slot). ss ++ live_slot (id c) c.args.kept ∷ []) c.self.view_is)

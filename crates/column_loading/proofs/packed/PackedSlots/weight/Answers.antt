@@ -1,4 +1,4 @@
-use Rattle.std.proofs.Common.{◌≡◌, ap, arith}
+use Rattle.std.proofs.Common.{ap, arith}
 use Rattle.std.specs.Option.{option_map}
 use Rattle.column_loading.specs.Packed.{routing_in}
 use Rattle.column_loading.specs.declared.slot.Kept.{Kept}

@@ -1,7 +1,6 @@
-use Rattle.std.proofs.Common.{◌≡◌, List, true, sym, ◌∙◌, ap}
+use Rattle.std.proofs.Common.{◌≡◌, true, sym, ◌∙◌, ap}
 use Rattle.column_loading.specs.Forms.{slots_in}
 use Rattle.column_loading.specs.Slots.{is_behind, live_slot, slot_ids}
-use Rattle.column_loading.specs.declared.slot.Slot.{Slot}
 use Rattle.column_loading.proofs.Indexed.{either-way, indexed-push, indexed-same}
 use Rattle.column_loading.proofs.slots.Slots.push.Goals as goal
 
