@@ -1,5 +1,6 @@
 //! The slots of live documents, packed, as a load without replacements leaves them.
-ghost use Rattle.std.specs.Prelude.{◌≡◌, ◌++◌, ◌∷◌, ◌<◌, ℕ, [], None, Some, IfOk, OnErr, OnOk, length, option_map};
+ghost use Rattle.std.specs.Prelude.{◌≡◌, ◌++◌, ◌∷◌, ◌<◌, ℕ, [], None, Some, IfOk, OnErr, OnOk, IsTrue, length, option_map};
+ghost use Rattle.std.specs.Str.{is_utf8};
 ghost use Rattle.column_loading.specs.Packed.{routing_in, start_at};
 ghost use Rattle.column_loading.specs.Slots.{live_slot, slot_at};
 
@@ -90,13 +91,22 @@ impl PackedSlots {
         self.pieces.len()
     }
 
-    /// The id at a place.
+    /// The id at a place, in UTF-8.
+    pub(crate) fn id_bytes(&self, place: usize) -> &[u8]
+        requires { place < length self.now }
+        ensures id { result.now ≡ (slot_at self.now place).id }
+        ensures text { IsTrue (is_utf8 result.now) }
+    {
+        let start = start_of(self.pieces.as_slice(), place);
+        &self.bytes[start..self.pieces[place].source]
+    }
+
+    /// The id at a place, which takes the time of going through it.
     pub(crate) fn id(&self, place: usize) -> &str
         requires { place < length self.now }
         ensures { result.now ≡ (slot_at self.now place).id }
     {
-        let start = start_of(self.pieces.as_slice(), place);
-        match str::from_utf8(&self.bytes[start..self.pieces[place].source]) {
+        match str::from_utf8(self.id_bytes(place)) {
             Ok(id) => id,
             Err(_) => unreachable!(),
         }

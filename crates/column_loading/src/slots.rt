@@ -38,11 +38,11 @@ impl Model for Slots {
     ghost invariant = { λ s. IsIndexed (slots_in s.form) s.places };
 }
 
-fn compare_ids(a: &str, b: &str) -> Ordering
+fn compare_ids(a: &[u8], b: &[u8]) -> Ordering
     ensures { result ≡ id_cmp a.now b.now }
 {
     match a.len().cmp(&b.len()) {
-        Ordering::Equal => a.as_bytes().cmp(b.as_bytes()),
+        Ordering::Equal => a.cmp(b),
         unequal => unequal,
     }
 }
@@ -52,7 +52,7 @@ fn comes_last(id: &str, slots: &Form) -> bool
     ensures { result ≡ is_behind id.now (slot_ids (slots_in slots.now)) }
 {
     match slots.len().checked_sub(1) {
-        Some(last) => compare_ids(slots.id(last), id).is_lt(),
+        Some(last) => compare_ids(slots.id_bytes(last), id.as_bytes()).is_lt(),
         None => true,
     }
 }
