@@ -1,6 +1,6 @@
 -- Ids that ascend, and the places of ids.
-use Rattle.std.proofs.Common.{◌≡◌, refl, zero, suc, ℕ, ◌<◌, ◌-◌, Bool, true, false, List, [], ◌∷◌, ◌++◌, length, take, get_or, set, Option, None, Some, if◌then◌else◌, sym, ◌∙◌, ap, subst, arith}
-use Rattle.std.specs.Prelude.{slice_get, cond}
+use Rattle.std.proofs.Common.{◌≡◌, refl, zero, suc, ℕ, ◌<◌, ◌-◌, Bool, true, false, List, [], ◌∷◌, ◌++◌, length, take, get_or, set, Option, None, Some, Ok, Err, if◌then◌else◌, sym, ◌∙◌, ap, subst, arith}
+use Rattle.std.specs.Prelude.{Result, OnErr, OnOk, slice_get, cond}
 use Rattle.std.specs.BTreeMap.{BTreeMap}
 use Rattle.std.specs.Cmp.{IsTotalOrder}
 use Rattle.std.specs.Map.{update}
@@ -22,6 +22,11 @@ use Rattle.agg_documents.proofs.Places.{place-push}
 use Rattle.column_loading.specs.Loadings.{entries_of}
 use Rattle.column_loading.specs.Slots.{IsAscending, IsIndexed, id_cmp, is_behind, slot_ids}
 use Rattle.column_loading.specs.declared.slot.Slot.{Slot}
+
+-- what follows from either outcome
+pub either-way : {T E P Q R : Type 0} (result : Result T E) → OnOk result P → OnErr result Q → (P → R) → (Q → R) → R
+either-way (Ok x) p q one two = one p
+either-way (Err e) p q one two = two q
 
 -- the ids of slots are those of what they stand for
 pub ids-are : (m : Mapping) (slots : List Slot) → ids (entries_of m slots) ≡ slot_ids slots

@@ -1,5 +1,5 @@
 -- Slots in the order in which their ids came, and where each id stands (Elasticsearch Reference 8, 'Index API' on `_id`).
-use Rattle.std.specs.Prelude.{◌≡◌, ◌-◌, ℕ, Bool, true, List, [], ◌∷◌, length, map, Option, None, Some, slice_get, IsTrue}
+use Rattle.std.specs.Prelude.{◌≡◌, ◌-◌, ℕ, Bool, true, List, [], ◌∷◌, length, map, Option, None, Some, slice_get, slice_index_or, IsTrue}
 use Rattle.std.specs.BTreeMap.{BTreeMap, get_by_text}
 use Rattle.std.specs.Cmp.Lexicographic.{slice_cmp}
 use Rattle.std.specs.List.{list_all}
@@ -9,7 +9,16 @@ use Rattle.std.specs.declared.alloc.Global.{Global}
 use Rattle.std.specs.declared.cmp.Ordering.{Ordering}
 use Rattle.std.specs.declared.string.String.{String}
 use Rattle.agg_documents.specs.Slots.{place_of}
+use Rattle.column_loading.specs.declared.slot.Kept.{Kept}
 use Rattle.column_loading.specs.declared.slot.Slot.{Slot}
+
+-- a slot with this live document
+abbrev pub live_slot : List ℕ → Kept → Slot
+live_slot id kept = record { id = id; live = Some kept }
+
+-- the slot at a place
+abbrev pub slot_at : List Slot → ℕ → Slot
+slot_at slots place = slice_index_or slots place (record { id = []; live = None })
 
 abbrev pub slot_ids : List Slot → List (List ℕ)
 slot_ids slots = map (λ s. s.id) slots

@@ -4,7 +4,9 @@
 
 mod again;
 mod drafts;
+mod form;
 mod loading;
+mod packed;
 mod slot;
 mod slots;
 

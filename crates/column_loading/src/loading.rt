@@ -71,23 +71,22 @@ impl Loading {
         ensures { (m : AnyMapping) → AreRead m self.now.slots →
             result ≡ option_map weight (slice_index_or (store_of m self.now) place ([], None)).1 }
     {
-        match &self.slots.as_slice()[place].live {
-            Some(kept) => Some(kept.weight),
-            None => None,
-        }
+        self.slots.live_weight(place)
     }
 
     /// Puts a slot in the place of its id. The growing shards do not have it.
-    fn replace(&mut self, place: usize, slot: Slot, weight: u64)
+    fn replace(&mut self, place: usize, slot: Slot, weight: u64) -> Result<(), AllocError>
         requires { place_of slot.id (slot_ids self.old.slots) ≡ Some place }
-        ensures slots { self.new.slots ≡ slice_set self.old.slots place slot }
-        ensures weight { self.new.weight ≡ weight }
+        ensures slots { OnOk result (self.new.slots ≡ slice_set self.old.slots place slot) }
+        ensures weight { OnOk result (self.new.weight ≡ weight) }
         ensures drafts { self.new.drafts ≡ None }
         ensures shards { self.new.shards ≡ self.old.shards }
     {
-        self.slots.set(place, slot);
-        self.weight = weight;
+        // Before the slots, which may want the memory.
         self.drafts = None;
+        self.slots.set(place, slot)?;
+        self.weight = weight;
+        Ok(())
     }
 
     /// Takes the document of an id out. The id keeps its place.
@@ -96,23 +95,23 @@ impl Loading {
         ensures { IfOk result (DeletesId id self.old self.new) }
     {
         match self.find(id.as_str())? {
-            Some(place) => Ok(self.delete_at(place, id)),
+            Some(place) => self.delete_at(place, id),
             None => Ok(Applied::NotFound),
         }
     }
 
     /// Takes the document of an id out, which has this place.
-    fn delete_at(&mut self, place: usize, id: Text) -> Applied
+    fn delete_at(&mut self, place: usize, id: Text) -> Result<Applied, AllocError>
         requires loading { IsLoading self.old }
         requires place { place_of id (slot_ids self.old.slots) ≡ Some place }
-        ensures { DeletesId id self.old self.new result }
+        ensures { IfOk result (DeletesId id self.old self.new) }
     {
         match self.live_weight(place) {
-            None => Applied::NotFound,
+            None => Ok(Applied::NotFound),
             Some(weight) => {
                 let weight = self.weight - weight;
-                self.replace(place, Slot { id, live: None }, weight);
-                Applied::Deleted
+                self.replace(place, Slot { id, live: None }, weight)?;
+                Ok(Applied::Deleted)
             }
         }
     }
@@ -149,7 +148,7 @@ impl Loading {
             source,
             weight: added,
         });
-        self.replace(place, Slot { id, live }, weight);
+        self.replace(place, Slot { id, live }, weight)?;
         match replaced {
             Some(_) => Ok(Applied::Updated),
             None => Ok(Applied::Created),
@@ -173,12 +172,12 @@ impl Loading {
             routing,
             root: _,
         } = document;
-        let live = Some(Kept {
+        let kept = Kept {
             routing: other_routing(&id, routing),
             source,
             weight: added,
-        });
-        self.slots.push(Slot { id, live })?;
+        };
+        self.slots.push(id, kept)?;
         self.weight = weight;
         Ok(Applied::Created)
     }
@@ -250,7 +249,7 @@ impl Loading {
         } = self;
         match drafts {
             Some(drafts) => Ok(drafts),
-            None => read_again(alloc, mapping, slots.as_slice(), shards),
+            None => read_again(alloc, mapping, slots.into_slots()?.as_slice(), shards),
         }
     }
 

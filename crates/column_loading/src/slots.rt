@@ -1,9 +1,13 @@
 //! The slots of ids, and where each id stands among them.
-ghost use Rattle.std.specs.Prelude.{◌≡◌, ◌++◌, ◌∷◌, [], None, Some, IfOk, OnErr, OnOk, slice_set};
+ghost use Rattle.std.specs.Prelude.{◌≡◌, ◌++◌, ◌∷◌, ◌<◌, [], None, Some, IfOk, OnOk, length, option_map, slice_set};
 ghost use Rattle.agg_documents.specs.Slots.{place_of};
-ghost use Rattle.column_loading.specs.Slots.{HasPlaces, IsAscending, id_cmp, is_behind, slot_ids};
+ghost use Rattle.column_loading.specs.Forms.{slots_in};
+ghost use Rattle.column_loading.specs.Slots.{HasPlaces, IsAscending, id_cmp, is_behind, live_slot, slot_at, slot_ids};
 
-use crate::slot::Slot;
+use crate::form::Form;
+use crate::packed::PackedSlots;
+use crate::slot::{Kept, Slot};
+use agg_model::Text;
 use std::alloc::{AllocError, Global};
 use std::cmp::Ordering;
 use std::collections::BTreeMap;
@@ -15,72 +19,76 @@ use std::marker::Model;
 /// slots. The first id that does not makes an ordered map of all.
 #[derive(Drop)]
 pub struct Slots {
-    slots: Vec<Slot>,
+    alloc: Global,
+    form: Form,
     /// Where each id stands; none while the ids ascend. Its order is that of the bytes, so that no choice of ids makes it slow.
     places: Option<BTreeMap<String, usize>>,
 }
 
 impl Model for Slots {
     ghost use Rattle.std.specs.Prelude.{List};
+    ghost use Rattle.column_loading.specs.Forms.{slots_in};
     ghost use Rattle.column_loading.specs.Slots.{IsIndexed};
     ghost use Rattle.column_loading.specs.declared.slot.Slot.{Slot};
 
     ghost Value = { List Slot };
 
-    ghost view = { λ s. s.slots.items };
+    ghost view = { λ s. slots_in s.form };
 
-    ghost invariant = { λ s. IsIndexed s.slots.items s.places };
+    ghost invariant = { λ s. IsIndexed (slots_in s.form) s.places };
 }
 
-fn compare_ids(a: &str, b: &str) -> Ordering
+fn compare_ids(a: &[u8], b: &[u8]) -> Ordering
     ensures { result ≡ id_cmp a.now b.now }
 {
     match a.len().cmp(&b.len()) {
-        Ordering::Equal => a.as_bytes().cmp(b.as_bytes()),
+        Ordering::Equal => a.cmp(b),
         unequal => unequal,
     }
 }
 
 // Whether an id comes behind the last of these.
-fn comes_last(id: &str, slots: &[Slot]) -> bool
-    ensures { result ≡ is_behind id.now (slot_ids slots.now) }
+fn comes_last(id: &str, slots: &Form) -> bool
+    ensures { result ≡ is_behind id.now (slot_ids (slots_in slots.now)) }
 {
-    match slots.last() {
-        Some(last) => compare_ids(last.id.as_str(), id).is_lt(),
+    match slots.len().checked_sub(1) {
+        Some(last) => compare_ids(slots.id_bytes(last), id.as_bytes()).is_lt(),
         None => true,
     }
 }
 
 // A map of the places of ids that ascend.
-fn places_of(alloc: Global, slots: &[Slot]) -> Result<BTreeMap<String, usize>, AllocError>
-    requires ascending { IsAscending (slot_ids slots.now) }
-    ensures { IfOk result (HasPlaces (slot_ids slots.now)) }
+fn places_of(alloc: Global, slots: &Form) -> Result<BTreeMap<String, usize>, AllocError>
+    requires ascending { IsAscending (slot_ids (slots_in slots.now)) }
+    ensures { IfOk result (HasPlaces (slot_ids (slots_in slots.now))) }
 {
     let mut places = BTreeMap::new(alloc);
     for place in 0..slots.len() {
-        let id = String::from_str(alloc, slots[place].id.as_str())?;
+        let id = String::from_str(alloc, slots.id(place))?;
         places.insert(id, place)?;
     }
     Ok(places)
 }
 
-// Puts a slot with a new id behind the others. After want of memory they are as before.
+// Puts a slot with a new id behind the others. Where memory is wanting for its place, no slot is left, so that none lacks a place.
 fn put_last(
-    slots: &mut Vec<Slot>,
+    alloc: Global,
+    slots: &mut Form,
     places: &mut BTreeMap<String, usize>,
-    slot: Slot,
+    id: Text,
+    kept: Kept,
 ) -> Result<(), AllocError>
-    requires new { place_of slot.id (slot_ids slots.old.items) ≡ None }
-    requires places { HasPlaces (slot_ids slots.old.items) places.old }
-    ensures slots { OnOk result (slots.new.items ≡ slots.old.items ++ slot ∷ []) }
-    ensures places { HasPlaces (slot_ids slots.new.items) places.new }
-    ensures memory { OnErr result (slots.new.items ≡ slots.old.items) }
+    requires new { place_of id (slot_ids (slots_in slots.old)) ≡ None }
+    requires places { HasPlaces (slot_ids (slots_in slots.old)) places.old }
+    ensures slots { OnOk result (slots_in slots.new ≡ slots_in slots.old ++ live_slot id kept ∷ []) }
+    ensures places { HasPlaces (slot_ids (slots_in slots.new)) places.new }
 {
-    let id = String::from_str(*slots.allocator(), slot.id.as_str())?;
+    let key = String::from_str(alloc, id.as_str())?;
     let place = slots.len();
-    slots.push(slot)?;
-    let Ok(_) = places.insert(id, place) else {
-        slots.pop();
+    slots.push(id, kept)?;
+    let Ok(_) = places.insert(key, place) else {
+        *slots = Form::Packed(PackedSlots::new(alloc));
+        *places = BTreeMap::new(alloc);
         return Err(AllocError);
     };
     Ok(())
@@ -92,20 +100,34 @@ impl Slots {
         ensures { result ≡ [] }
     {
         Slots {
-            slots: Vec::new(alloc),
+            alloc,
+            form: Form::Packed(PackedSlots::new(alloc)),
             places: None,
         }
     }
 
     pub(crate) fn alloc(&self) -> Global {
-        *self.slots.allocator()
+        self.alloc
     }
 
-    pub(crate) fn as_slice(&self) -> &[Slot]
-        ensures { result.now ≡ self.now }
+    /// What the live document at a place weighs; none where it has no document.
+    pub(crate) fn live_weight(&self, place: usize) -> Option<u64>
+        requires { place < length self.now }
+        ensures { result ≡ option_map (λ kept. kept.weight) (slot_at self.now place).live }
     {
-        let _index = &self.places;
-        self.slots.as_slice()
+        self.form.live_weight(place)
+    }
+
+    /// Each slot in memory of its own.
+    pub(crate) fn into_slots(self) -> Result<Vec<Slot>, AllocError>
+        ensures { IfOk result (λ slots. slots.items ≡ self) }
+    {
+        let Slots {
+            alloc,
+            form,
+            places: _,
+        } = self;
+        form.into_slots(alloc)
     }
 
     /// Where an id stands; none where it is new. A new id that comes behind the last takes one comparison; any other takes the
@@ -117,39 +139,38 @@ impl Slots {
         if let Some(places) = &self.places {
             return Ok(places.get(id).copied());
         }
-        if comes_last(id, self.slots.as_slice()) {
+        if comes_last(id, &self.form) {
             return Ok(None);
         }
-        let places = places_of(*self.slots.allocator(), self.slots.as_slice())?;
+        let places = places_of(self.alloc, &self.form)?;
         let place = places.get(id).copied();
         self.places = Some(places);
         Ok(place)
     }
 
-    /// Puts a slot with a new id behind the others, in the time of `find`.
-    pub(crate) fn push(&mut self, slot: Slot) -> Result<(), AllocError>
-        requires new { place_of slot.id (slot_ids self.old) ≡ None }
-        ensures { OnOk result (self.new ≡ self.old ++ slot ∷ []) }
+    /// Puts a live document with a new id behind the others, in the time of `find`. After want of memory they are spent.
+    pub(crate) fn push(&mut self, id: Text, kept: Kept) -> Result<(), AllocError>
+        requires new { place_of id (slot_ids self.old) ≡ None }
+        ensures { OnOk result (self.new ≡ self.old ++ live_slot id kept ∷ []) }
     {
         if let Some(places) = &mut self.places {
-            return put_last(&mut self.slots, places, slot);
+            return put_last(self.alloc, &mut self.form, places, id, kept);
         }
-        if comes_last(slot.id.as_str(), self.slots.as_slice()) {
-            self.slots.push(slot)?;
-            return Ok(());
+        if comes_last(id.as_str(), &self.form) {
+            return self.form.push(id, kept);
         }
-        let mut places = places_of(*self.slots.allocator(), self.slots.as_slice())?;
-        put_last(&mut self.slots, &mut places, slot)?;
+        let mut places = places_of(self.alloc, &self.form)?;
+        let pushed = put_last(self.alloc, &mut self.form, &mut places, id, kept);
         self.places = Some(places);
-        Ok(())
+        pushed
     }
 
-    /// Puts a slot in the place of its id.
-    pub(crate) fn set(&mut self, place: usize, slot: Slot)
+    /// Puts a slot in the place of its id. The first takes the time of all of them.
+    pub(crate) fn set(&mut self, place: usize, slot: Slot) -> Result<(), AllocError>
         requires { place_of slot.id (slot_ids self.old) ≡ Some place }
-        ensures { self.new ≡ slice_set self.old place slot }
+        ensures { OnOk result (self.new ≡ slice_set self.old place slot) }
     {
         let _index = &self.places;
-        self.slots[place] = slot;
+        self.form.set(self.alloc, place, slot)
     }
 }

@@ -8,7 +8,8 @@ use Rattle.std.proofs.lemmas.Map.Text.{btree_map_updates_text}
 use Rattle.agg_documents.specs.Slots.{place_of}
 use Rattle.shard_columns.specs.Words.{Entries, number_in}
 use Rattle.shard_columns.proofs.Laying.{all-taken, take-next}
-use Rattle.column_loading.specs.Slots.{slot_ids}
+use Rattle.column_loading.specs.Forms.{slots_in}
+use Rattle.column_loading.specs.Slots.{slot_at, slot_ids}
 use Rattle.column_loading.specs.declared.slot.Slot.{Slot}
 use Rattle.column_loading.proofs.Indexed.{behind-absent, front-all, none-placed, places-more}
 use Rattle.column_loading.proofs.slots.places_of.Goals as goal
@@ -18,17 +19,17 @@ loop-place-init c = λ id. ap (λ (es : Entries). number_in es id) c.new-places.
 
 pub loop-place-preserved : goal.loop-place-preserved
 loop-place-preserved c =
-    let slots = c.args.slots.now in
+    let slots = slots_in c.args.slots.now in
     let ids = slot_ids slots in
     let k = c.loop-place.place in
-    let s = c.index-slots-place.result in
+    let s = slot_at slots k in
     let old = c.loop-place.places in
-    let below : k < length slots = c.loop-place-test.true in
+    let below : k < length slots = omega (arith, c.loop-place-test.true, c.len-place-end.ensures) in
     let low : k < length ids = omega (arith, below, length-map slots (λ (t : Slot). t.id)) in
-    let at : s.id ≡ get_or ids k s.id = ap (λ (t : Slot). t.id) c.index-slots-place.is ∙ sym (get_or-map (λ (t : Slot). t.id) slots k s s.id below) in
+    let at : s.id ≡ get_or ids k s.id = sym (get_or-map (λ (t : Slot). t.id) slots k (record { id = []; live = None }) s.id below) in
     let next : take (k + 1) ids ≡ take k ids ++ s.id ∷ [] = take-next ids k s.id low at in
     let absent : place_of s.id (take k ids) ≡ None = behind-absent s.id (take k ids) (front-all ids k s.id c.requires.ascending low at) in
-    let key_is : string_bytes c.in_ok-id.id ≡ s.id = c.in_ok-id.ensures.ok ∙ (c.as_str.ensures ∙ ap (λ (t : Slot). t.id) (sym c.index-slots-place.is)) in
+    let key_is : string_bytes c.in_ok-id.id ≡ s.id = c.in_ok-id.ensures.ok ∙ c.id.ensures in
     λ id. places-more s.id (take k ids) (get_by_text old) (get_by_text c.insert.new.self) k absent (omega (arith, length-take k ids, low)) c.loop-place.invariant
     (λ j. btree_map_updates_text (string_bytes c.in_ok-id.id) old c.insert.new.self (Some k) c.in_ok-insert.ensures.updates j
     ∙ ap (λ (key : List ℕ). update bytes_eq (get_by_text old) key (Some k) j) key_is) id
@@ -36,5 +37,6 @@ loop-place-preserved c =
 
 pub returns : goal.returns
 returns c =
-    let ids = slot_ids c.args.slots.now in
-    λ id. c.loop-place.invariant id ∙ ap (place_of id) (all-taken ids c.loop-place.place (omega (arith, c.loop-place-test.false, length-map c.args.slots.now (λ (t : Slot). t.id))))
+    let slots = slots_in c.args.slots.now in
+    let ids = slot_ids slots in
+    λ id. c.loop-place.invariant id ∙ ap (place_of id) (all-taken ids c.loop-place.place (omega (arith, c.loop-place-test.false, c.len-place-end.ensures, length-map slots (λ (t : Slot). t.id))))

@@ -1,4 +1,5 @@
 use Rattle.std.proofs.Common.{◌≡◌, ◌∙◌, None, Some, refl, sym, ap, subst}
+use Rattle.std.specs.Prelude.{IfOk}
 use Rattle.agg_documents.specs.Slots.{place_of}
 use Rattle.agg_documents.proofs.Places.{new-live}
 use Rattle.agg_documents.proofs.Putting.{deleted-new}
@@ -19,7 +20,7 @@ delete_at-requires c =
     }
 
 pub returns-in-Some : goal.returns-in-Some
-returns-in-Some c = subst (λ (l : Loading). DeletesId c.args.id l c.delete_at.new.self c.delete_at.result) c.in_ok-place.ensures.same c.delete_at.ensures
+returns-in-Some c = subst (λ (l : Loading). IfOk c.delete_at.result (DeletesId c.args.id l c.delete_at.new.self)) c.in_ok-place.ensures.same c.delete_at.ensures
 
 pub returns-in-None : goal.returns-in-None
 returns-in-None c = λ m held.

@@ -33,8 +33,8 @@ returns-in-None c = λ m held.
     let found : place_of id (ids es) ≡ Some c.args.place = ap (place_of id) (ids-are m c.args.self.now.slots) ∙ c.requires.place in
     record { deleted_is = deleted-gone id es (found-is id es c.args.place None ([], None) found (c.in-None.ensures m held.read)); loading = held; shards = refl }
 
-pub returns-in-Some : goal.returns-in-Some
-returns-in-Some c = λ m held.
+pub returns-in_ok-replace-in-Some : goal.returns-in_ok-replace-in-Some
+returns-in_ok-replace-in-Some c = λ m held.
     let id = c.args.id in
     let old = c.args.self.now in
     let es = store_of m old in
@@ -43,6 +43,6 @@ returns-in-Some c = λ m held.
     let is : Some w ≡ option_map weight (live_at id es) = found-is id es c.args.place (Some w) ([], None) found (c.in-Some.ensures m held.read) in
     let slot : Slot = record { id = id; live = None } in
     let light = held.light in
-    let made = replaced m old c.replace.new.self c.args.place slot (old.weight - w) None held found refl c.replace.ensures.slots c.replace.ensures.weight c.replace.ensures.drafts c.replace.ensures.shards
+    let made = replaced m old c.replace.new.self c.args.place slot (old.weight - w) None held found refl c.in_ok-replace-in-Some.ensures.slots c.in_ok-replace-in-Some.ensures.weight c.in_ok-replace-in-Some.ensures.drafts c.in_ok-replace-in-Some.ensures.shards
     (gone-weight id es w old.weight is held.weight).1 (omega (arith, light)) tt refl in
-    record { deleted_is = deleted-live id es (store_of m c.replace.new.self) w is made.1; loading = made.0; shards = c.replace.ensures.shards }
+    record { deleted_is = deleted-live id es (store_of m c.replace.new.self) w is made.1; loading = made.0; shards = c.in_ok-replace-in-Some.ensures.shards }

@@ -22,7 +22,7 @@ pub read_again-requires : goal.read_again-requires
 read_again-requires c =
     let m = c.args.mapping.now in
     let held = c.requires.loading in
-    let same = sym c.as_slice.ensures in
+    let same = sym (c.as_slice.ensures.value ∙ c.in_ok-into_slots-in-None.ensures) in
     record {
       ordered = c.requires.ordered;
       few = held.few;
@@ -32,10 +32,10 @@ read_again-requires c =
       light = subst (λ (ss : List Slot). AreLight m (live_documents (entries_of m ss))) same (live-light m c.args.self held);
     }
 
-pub returns : goal.returns
-returns c =
+pub returns-in_ok-into_slots-in-None : goal.returns-in_ok-into_slots-in-None
+returns-in_ok-into_slots-in-None c =
     let m = c.args.mapping.now in
     let es = store_of m c.args.self in
     let n = c.args.self.shards in
-    let same : cut (live_documents (entries_of m c.as_slice.result.now)) n ≡ shards_of es n = ap (λ (ss : List Slot). cut (live_documents (entries_of m ss)) n) c.as_slice.ensures ∙ sym (shards-cut es n) in
+    let same : cut (live_documents (entries_of m c.as_slice.result.now)) n ≡ shards_of es n = ap (λ (ss : List Slot). cut (live_documents (entries_of m ss)) n) (c.as_slice.ensures.value ∙ c.in_ok-into_slots-in-None.ensures) ∙ sym (shards-cut es n) in
     subst (λ (ls : List (List Document)). IfOk c.read_again.result (λ drafts. AreDraftsOf m ls drafts.items)) same c.read_again.ensures

@@ -65,7 +65,7 @@ returns-in-Some c = λ m held read.
     let is : r ≡ option_map weight (live_at d.id (store_of m old)) = found-is d.id (store_of m old) c.args.place r ([], None) at (c.live_weight-replaced.ensures m held.read) in
     let put = put-again m old c.replace.new.self action d.root held read c.args.place c.requires.place c.conflicts.result r c.unwrap_or.result c.weight_of-added.result c.saturating_add-weight.result is
     (c.conflicts.ensures ∙ ap (λ (b : Bool). is_create c.args.kind && b) c.is_some.ensures) c.if-conflicts.false c.unwrap_or.ensures c.weight_of-added.ensures c.saturating_add-weight.ensures c.if-weight-ge-WEIGHT_LIMIT.false c.other_routing.result c.other_routing.ensures
-    c.replace.ensures.slots c.replace.ensures.weight c.replace.ensures.drafts c.replace.ensures.shards in
+    c.in_ok-replace.ensures.slots c.in_ok-replace.ensures.weight c.in_ok-replace.ensures.drafts c.in_ok-replace.ensures.shards in
     subst (λ (o : Option ℕ). Puts m action d.root old c.replace.new.self (Ok (if is_some o then Updated else Created))) c.in-Some.is put
 
 pub returns : goal.returns
@@ -78,5 +78,5 @@ returns c = λ m held read.
     let is : r ≡ option_map weight (live_at d.id (store_of m old)) = found-is d.id (store_of m old) c.args.place r ([], None) at (c.live_weight-replaced.ensures m held.read) in
     let put = put-again m old c.replace.new.self action d.root held read c.args.place c.requires.place c.conflicts.result r c.unwrap_or.result c.weight_of-added.result c.saturating_add-weight.result is
     (c.conflicts.ensures ∙ ap (λ (b : Bool). is_create c.args.kind && b) c.is_some.ensures) c.if-conflicts.false c.unwrap_or.ensures c.weight_of-added.ensures c.saturating_add-weight.ensures c.if-weight-ge-WEIGHT_LIMIT.false c.other_routing.result c.other_routing.ensures
-    c.replace.ensures.slots c.replace.ensures.weight c.replace.ensures.drafts c.replace.ensures.shards in
+    c.in_ok-replace.ensures.slots c.in_ok-replace.ensures.weight c.in_ok-replace.ensures.drafts c.in_ok-replace.ensures.shards in
     subst (λ (o : Option ℕ). Puts m action d.root old c.replace.new.self (Ok (if is_some o then Updated else Created))) c.in-None.is put
