@@ -11,6 +11,8 @@ pub mod Growing
 pub mod Presenting
 pub mod Counting
 pub mod Ascending
+pub mod Beginnings
+pub mod Arranging
 pub mod Noting
 pub mod Ranking
 pub mod Building

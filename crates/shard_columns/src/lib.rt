@@ -5,6 +5,7 @@
 mod columns;
 mod contexts;
 mod draft;
+mod field_words;
 mod ids;
 mod index;
 mod layout;
