@@ -1,6 +1,6 @@
 -- The words of a field in order: no word stands twice, so that sorted words rise strictly.
 use Rattle.std.proofs.Common.{Bool, true, false, cond, ◌≡◌, ◌≢◌, refl, ℕ, ◌+◌, ◌<◌, List, [], ◌∷◌, ◌++◌, map, length, get_or, sym, ◌∙◌, ap, subst, arith, zero, suc, Option, None, Some, Contains}
-use Rattle.std.specs.Prelude.{IsSome, String, string_bytes}
+use Rattle.std.specs.Prelude.{slice_get, IsSome, String, string_bytes}
 use Rattle.std.specs.declared.alloc.Global.{Global}
 use Rattle.std.specs.declared.cmp.Ordering.{Ordering}
 use Rattle.std.specs.declared.cmp.Ordering.TheVariants.{Less, Equal, Greater}
@@ -14,19 +14,23 @@ use Rattle.std.specs.Fn.{Called, ComparesAs}
 use Rattle.std.specs.Map.{lookup, keys_of}
 use Rattle.std.specs.BTreeMap.{is_at}
 use Rattle.std.proofs.lemmas.Cmp.{nat_cmp_total, nat_list_cmp_total, eq_by_cmp_equiv}
-use Rattle.std.proofs.lemmas.List.{length-map, get_or-map}
-use Rattle.std.proofs.lemmas.List.Sorted.{IsPermutation-map, ranks_by}
+use Rattle.std.proofs.lemmas.List.{length-map, map-append}
+use Rattle.std.proofs.lemmas.List.Elements.{Contains-append_right}
+use Rattle.std.proofs.lemmas.List.Sorted.{IsPermutation-map, IsPermutation-sym, Contains-permutation, ranks_by}
 use Rattle.std.proofs.lemmas.Fn.{always_returns_same}
+use Rattle.std.proofs.lemmas.Option.{same_Some}
 use Rattle.std.proofs.lemmas.Map.{NonePasses, lookup-none, none_passes_from_lookup}
-use Rattle.std.proofs.lemmas.Map.Entries.{none_past_head}
+use Rattle.std.proofs.lemmas.Map.Entries.{none_past_head, place_from_lookup}
+use Rattle.std.proofs.lemmas.Map.Views.{lookup-from_Contains}
 use Rattle.std.proofs.lemmas.Map.Keys.{IsDistinct-from_sorted, IsDistinct-cons, IsDistinct-IsPermutation, apart_from_distinct, sorted_from_all_adjacent, sorted_tail}
 use denote.Param.Members.{Mut}
 use denote.Ref.{Bor}
 use Rattle.shard_columns.specs.declared.field_words.Numbered.{Numbered}
 use Rattle.shard_columns.specs.Numbered.{Entries, number_in, words_among, entry_of, entries_of, beginning_of, first_entries, other_entries, IsIndexed}
-use Rattle.shard_columns.proofs.Beginnings.{Begun, first_of, number_if, number-append, number-first, number_if-other, itself}
+use Rattle.shard_columns.proofs.Beginnings.{Begun, first_of, number_if, number-append, number-first, number_if-other, is-it, itself}
+use Rattle.shard_columns.specs.Words.{AreApart, SameWords}
 
-abbrev same_word : List ℕ → List ℕ → Bool
+abbrev pub same_word : List ℕ → List ℕ → Bool
 same_word = eq_by_cmp (slice_cmp nat_cmp)
 
 abbrev Firsts : Type 0
@@ -131,3 +135,66 @@ rise-from_sort {g = g} {f = f} words up calls distinct =
 pub distinct-moved : (es : Entries) (words : List Numbered) → IsPermutation es (entries_of words) → IsDistinct same_word (words_among es) → IsDistinct same_word (words_among (entries_of words))
 distinct-moved es words moved distinct =
     IsDistinct-IsPermutation same_word (eq_by_cmp_equiv nat_list_cmp_total).symm (words_among es) (words_among (entries_of words)) (IsPermutation-map (λ (e : List ℕ × ℕ). e.0) es (entries_of words) moved) distinct
+
+-- words that are put in another order
+
+slice_get-contains : {X : Type 0} (xs : List X) (i : ℕ) (x : X) → slice_get xs i ≡ Some x → Contains xs x
+slice_get-contains [] i x is = absurd (cc is)
+slice_get-contains (y ∷ xs) zero x is = (0, omega arith, same_Some y x is)
+slice_get-contains (y ∷ xs) (suc i) x is = let rest = slice_get-contains xs i x is in (suc rest.0, (let within = rest.1 in omega (arith, within)), rest.2)
+
+pub distinct-from_strict : (es : Entries) → IsStrictlySortedBy (slice_cmp nat_cmp) (words_among es) → IsDistinct same_word (words_among es)
+distinct-from_strict es strict = IsDistinct-from_sorted (slice_cmp nat_cmp) (words_among es) strict
+
+abbrev words-moved : (es fs : Entries) → IsPermutation es fs → IsPermutation (words_among es) (words_among fs)
+words-moved es fs moved = IsPermutation-map (λ (e : List ℕ × ℕ). e.0) es fs moved
+
+pub number-there : (es : Entries) (w : List ℕ) (n : ℕ) → IsDistinct same_word (words_among es) → Contains es (w, n) → number_in es w ≡ Some n
+number-there es w n distinct has = lookup-from_Contains (eq_by_cmp_equiv nat_list_cmp_total) w n es distinct has
+
+entry-there : (es : Entries) (w : List ℕ) (n : ℕ) → number_in es w ≡ Some n → Contains es (w, n)
+entry-there es w n is =
+    let place = place_from_lookup (is_at (slice_cmp nat_cmp w)) es n is in
+    slice_get-contains es place.0 (w, n) (subst (λ (k : List ℕ). slice_get es place.0 ≡ Some (k, n)) (sym (is-it w place.1 place.3)) place.2)
+
+number-moved : (es fs : Entries) → IsPermutation es fs → IsDistinct same_word (words_among fs) → (w : List ℕ) (n : ℕ) → number_in es w ≡ Some n → number_in fs w ≡ Some n
+number-moved es fs moved distinct w n is = number-there fs w n distinct (Contains-permutation es fs (w, n) moved (entry-there es w n is))
+
+-- the words of a field, and the same in order
+pub record AreArranged (es fs : Entries) : Type 0 where
+  pub there : (w : List ℕ) (n : ℕ) → number_in es w ≡ Some n → number_in fs w ≡ Some n
+  pub back : (w : List ℕ) (n : ℕ) → number_in fs w ≡ Some n → number_in es w ≡ Some n
+  pub same : SameWords (words_among es) (words_among fs)
+  pub distinct : IsDistinct same_word (words_among fs)
+
+arranged : (es fs : Entries) → IsPermutation es fs → IsStrictlySortedBy (slice_cmp nat_cmp) (words_among fs) → AreArranged es fs
+arranged es fs moved strict =
+    let distinct = distinct-from_strict fs strict in
+    let before = IsDistinct-IsPermutation same_word (eq_by_cmp_equiv nat_list_cmp_total).symm (words_among fs) (words_among es) (IsPermutation-sym (words_among es) (words_among fs) (words-moved es fs moved)) distinct in
+    record {
+      there = number-moved es fs moved distinct;
+      back = number-moved fs es (IsPermutation-sym es fs moved) before;
+      same = record {
+        strict = strict;
+        kept = λ w has. Contains-permutation (words_among es) (words_among fs) w (words-moved es fs moved) has;
+        nothing_else = λ w has. Contains-permutation (words_among fs) (words_among es) w (IsPermutation-sym (words_among es) (words_among fs) (words-moved es fs moved)) has;
+      };
+      distinct = distinct;
+    }
+
+pub arranged-words : (es : Entries) (words all : List Numbered) → all ≡ words → IsPermutation es (entries_of words) → IsStrictlySortedBy (slice_cmp nat_cmp) (words_among (entries_of words)) → AreArranged es (entries_of all)
+arranged-words es words all is moved strict = subst (λ (ws : List Numbered). AreArranged es (entries_of ws)) (sym is) (arranged es (entries_of words) moved strict)
+
+-- those before a word, the word, and those behind it
+pub entries-next : (yielded rest : List Numbered) (word : Numbered) (all left : List Numbered) → all ≡ yielded ++ left → left ≡ word ∷ rest → entries_of all ≡ entries_of yielded ++ (word.text, word.number) ∷ entries_of rest
+entries-next yielded rest word all left is next = ap entries_of (is ∙ ap (λ (ws : List Numbered). yielded ++ ws) next) ∙ map-append entry_of yielded (word ∷ rest)
+
+pub apart-arranged : (limit : ℕ) (es fs : Entries) → AreArranged es fs → AreApart limit es → AreApart limit fs
+apart-arranged limit es fs arranged apart = record {
+  below = λ n w is. apart.below n w (arranged.back w n is);
+  apart = λ n v w p q. apart.apart n v w (arranged.back v n p) (arranged.back w n q);
+}
+
+pub number-next : (all so_far rest : Entries) (k : List ℕ) (m : ℕ) → IsDistinct same_word (words_among all) → all ≡ so_far ++ (k, m) ∷ rest → number_in all k ≡ Some m
+number-next all so_far rest k m distinct split =
+    number-there all k m distinct (subst (λ (es : Entries). Contains es (k, m)) (sym split) (Contains-append_right so_far ((k, m) ∷ rest) (k, m) (0, omega arith, refl)))

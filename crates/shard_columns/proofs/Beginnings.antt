@@ -49,7 +49,7 @@ beginning-short word padded short is = ap (from_be_bytes w128) (is ∙ short-fro
 
 -- look-ups
 
-is-it : (v w : List ℕ) → is_eq (slice_cmp nat_cmp v w) ≡ true → v ≡ w
+pub is-it : (v w : List ℕ) → is_eq (slice_cmp nat_cmp v w) ≡ true → v ≡ w
 is-it v w e = exact_bytes v w (equal (slice_cmp nat_cmp v w) e)
   where
     equal : (o : Ordering) → is_eq o ≡ true → o ≡ Equal

@@ -24,6 +24,7 @@ use Rattle.shard_columns.specs.declared.words.WordNumbers.{WordNumbers}
 use Rattle.shard_columns.specs.Values.{Words, by_words, ranked, limited, AreRankedAll}
 use Rattle.shard_columns.specs.Numbered.{Entries, number_in, words_among}
 use Rattle.shard_columns.specs.Words.{number_of, entries_of, HasNone, IsNumbered, Notes, Shows, AreApart, AreRanked, SameWords, AreWords, ArePlaced, AreDictionaries, row_words}
+use Rattle.shard_columns.proofs.Arranging.{AreArranged}
 use Rattle.shard_columns.proofs.Storing.{kind-same-words}
 
 slice_get-front : {X : Type 0} (xs ys : List X) (i : ℕ) (x : X) → slice_get xs i ≡ Some x → slice_get (xs ++ ys) i ≡ Some x
@@ -135,6 +136,16 @@ Ranked-push all so_far rest k m words old now apart split found s =
           let other : n ≢ m = λ (h : n ≡ m). none k (found ∙ ap Some (sym h)) in
           get_or-set_other now m n (length words) 0 other ∙ s.others n none;
     }
+
+pub AreRanked-made : (es all : Entries) (words : Words) (old new : List ℕ) → AreArranged es all → IsRankedSoFar all all words old new → SameWords (words_among es) words × AreRanked es words old new
+AreRanked-made es all words old new order s = (
+  subst (SameWords (words_among es)) (sym s.words_are) order.same,
+  record {
+    sizes = s.sizes;
+    placed = λ n w is. s.placed n w (order.there w n is);
+    others = λ n none. s.others n (λ w is. none w (order.back w n is));
+  },
+)
 
 -- the fields before k have their words and places
 pub record AreMade (numbers : WordNumbers) (k : ℕ) (words : List Words) (ranks : List ℕ) : Type 0 where
