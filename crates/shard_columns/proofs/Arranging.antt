@@ -68,8 +68,7 @@ some-later false n o has = has
 cross-all : (firsts : Firsts) (others : Others) → IsIndexed firsts others → (es : Firsts) → ((w : List ℕ) → IsSome (number_in (first_entries es) w) → IsSome (number_in (first_entries firsts) w)) → Cross others es
 cross-all firsts others indexed [] among = tt
 cross-all firsts others indexed (e ∷ es) among =
-    let there = among e.1.text (subst (λ (b : Bool). IsSome (cond b (Some e.1.number) (number_in (first_entries es) e.1.text))) (sym (itself e.1.text)) refl) in
-    (
+    let there = among e.1.text (subst (λ (b : Bool). IsSome (cond b (Some e.1.number) (number_in (first_entries es) e.1.text))) (sym (itself e.1.text)) refl) in (
       here there (number_in (other_entries others) e.1.text) refl,
       cross-all firsts others indexed es (λ w has. among w (some-later (is_eq (slice_cmp nat_cmp w e.1.text)) e.1.number (number_in (first_entries es) w) has)),
     )
@@ -117,10 +116,12 @@ rise-from_sorted words up distinct =
   where
     blank : Numbered
     blank = record { text = []; number = 0 }
+
     texts : (ws : List Numbered) (k : ℕ) → get_or (words_among (entries_of ws)) k [] ≡ (get_or ws k blank).text
     texts [] k = refl
     texts (w ∷ ws) zero = refl
     texts (w ∷ ws) (suc k) = texts ws k
+
     text-at : (j k : ℕ) → is_lt (slice_cmp nat_cmp (get_or (words_among (entries_of words)) k []) (get_or (words_among (entries_of words)) j [])) ≡ by_text (get_or words k blank) (get_or words j blank)
     text-at j k = (λ i. is_lt (slice_cmp nat_cmp (texts words k i) (texts words j i)))
 

@@ -113,6 +113,7 @@ number-first (e ∷ es) w up begun =
   where
     none : is_eq (nat_cmp (beginning_of w) e.0) ≡ true → first_of es w ≡ None
     none same = lookup-none (is_at (nat_cmp (beginning_of w))) es (none_past_head (eq_by_cmp_equiv nat_cmp_total) (beginning_of w) e es (IsDistinct-from_sorted nat_cmp (keys_of (e ∷ es)) up) same)
+
     pick : (b d : Bool) → is_eq (slice_cmp nat_cmp w e.1.text) ≡ b → is_eq (nat_cmp (beginning_of w) e.0) ≡ d → number_in (first_entries es) w ≡ number_if w (first_of es w) →
         cond b (Some e.1.number) (number_in (first_entries es) w) ≡ number_if w (cond d (Some e.1) (first_of es w))
     pick true true p q rest = ap (λ (b : Bool). cond b (Some e.1.number) None) (sym p)
@@ -226,7 +227,6 @@ pub record Puts (firsts new : Firsts) (beginning : ℕ) (e : Numbered) : Type 0 
 
 module _ (firsts new : Firsts) (others : Others) (word : List ℕ) (beginning : ℕ) (e : Numbered) (begins : beginning ≡ beginning_of word) (text : e.text ≡ word)
     (indexed : IsIndexed firsts others) (none : first_of firsts word ≡ None) (puts : Puts firsts new beginning e) where
-
   first-later : (w : List ℕ) → first_of new w ≡ cond (is_eq (nat_cmp (beginning_of word) (beginning_of w))) (Some e) (first_of firsts w)
   first-later w = puts.looked (beginning_of w) ∙ ap (λ (k : ℕ). cond (is_eq (nat_cmp k (beginning_of w))) (Some e) (first_of firsts w)) begins
 
