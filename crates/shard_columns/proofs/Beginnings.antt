@@ -24,6 +24,7 @@ use Rattle.std.proofs.lemmas.Map.Entries.{none_past_head}
 use Rattle.std.proofs.lemmas.Map.Keys.{IsDistinct-from_sorted, sorted_tail}
 use Rattle.std.proofs.lemmas.Map.Lookups.{exact_bytes, exact_unsigned}
 use Rattle.std.proofs.lemmas.Slice.Eq.{bytes_eq-Decides}
+use Rattle.std.proofs.lemmas.Option.{same_Some}
 use Rattle.std.proofs.Math.Seq.{take-append-add}
 use Rattle.shard_columns.specs.declared.field_words.Numbered.{Numbered}
 use Rattle.shard_columns.specs.Numbered.{Entries, number_in, entry_of, beginning_of, first_entries, other_entries, IsIndexed}
@@ -198,6 +199,15 @@ pub indexed-either : {X : Type 0} (firsts : Firsts) (others new : Others) (word 
     IfOk r (λ n. (w : List ℕ) → text_in new w ≡ cond (bytes_eq word w) (Some n) (text_in others w)) → OnErr r (new ≡ others) → IsIndexed firsts new
 indexed-either firsts others new word first (Ok n) indexed is other after same = indexed-other firsts others new word first n indexed is other after
 indexed-either firsts others new word first (Err x) indexed is other after same = subst (IsIndexed firsts) (sym same) indexed
+
+-- the word that is found begins so
+pub begins-so : (firsts : Firsts) (w : List ℕ) (first : Numbered) → Begun firsts → first_of firsts w ≡ Some first → beginning_of first.text ≡ beginning_of w
+begins-so [] w first begun is = absurd (cc is)
+begins-so (e ∷ es) w first begun is = pick (is_eq (nat_cmp (beginning_of w) e.0)) refl is (λ later. begins-so es w first begun.1 later)
+  where
+    pick : (b : Bool) → is_eq (nat_cmp (beginning_of w) e.0) ≡ b → cond b (Some e.1) (first_of es w) ≡ Some first → (first_of es w ≡ Some first → beginning_of first.text ≡ beginning_of w) → beginning_of first.text ≡ beginning_of w
+    pick true same found rest = ap (λ (n : Numbered). beginning_of n.text) (sym (same_Some e.1 first found)) ∙ (sym begun.0 ∙ sym (is-number (beginning_of w) e.0 same))
+    pick false other found rest = rest found
 
 -- no word begins so
 absent-other : (firsts : Firsts) (others : Others) (word : List ℕ) → IsIndexed firsts others → first_of firsts word ≡ None → (o : Option ℕ) → text_in others word ≡ o → o ≡ None

@@ -11,6 +11,7 @@ pub mod Growing
 pub mod Presenting
 pub mod Counting
 pub mod Ascending
+pub mod Telling
 pub mod Beginnings
 pub mod Arranging
 pub mod Noting

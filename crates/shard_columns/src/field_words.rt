@@ -1,5 +1,5 @@
 // The words of a field that are met in rows, each with its number.
-ghost use Rattle.std.specs.Prelude.{◌≡◌, ℕ, List, [], Some, IfOk, OnErr, unwrap_or, if◌then◌else◌};
+ghost use Rattle.std.specs.Prelude.{◌≡◌, ℕ, List, [], Some, IfOk, OnErr, IsTrue, unwrap_or, ◌↔◌, if◌then◌else◌};
 ghost use Rattle.std.specs.BTreeMap.{get_by_text};
 ghost use Rattle.std.specs.Ordering.{nat_cmp};
 ghost use Rattle.std.specs.Cmp.Lexicographic.{slice_cmp};
@@ -55,6 +55,16 @@ fn beginning_of(word: &str) -> u128
     u128::from_be_bytes(padded)
 }
 
+/// Whether two words that begin alike are the same. A short one is told by its length, with no look at its bytes.
+fn is_word(first: &str, word: &str) -> bool
+    requires { beginning_of first.now ≡ beginning_of word.now }
+    ensures { IsTrue result ↔ (first.now ≡ word.now) }
+{
+    let first = first.as_bytes();
+    let word = word.as_bytes();
+    first.len() == word.len() && (word.len() <= BEGINNING || first == word)
+}
+
 /// The number of a word; the next one where it had none. Only a new word is copied.
 fn number_among(
     alloc: Global,
@@ -92,7 +102,7 @@ impl FieldWords {
     {
         let beginning = beginning_of(word);
         if let Some(first) = self.firsts.get(&beginning) {
-            if first.text.as_str() == word {
+            if is_word(first.text.as_str(), word) {
                 return Ok(first.number);
             }
             return number_among(alloc, &mut self.others, word, next);

@@ -5,34 +5,39 @@ use Rattle.std.specs.Map.{lookup}
 use Rattle.std.specs.BTreeMap.{is_at, get_by_text}
 use Rattle.std.specs.Str.{bytes_eq}
 use Rattle.std.proofs.lemmas.Result.{IfOk-weaker}
-use Rattle.std.proofs.lemmas.Slice.Eq.{bytes_eq-Decides}
 use Rattle.shard_columns.specs.declared.field_words.Numbered.{Numbered}
 use Rattle.shard_columns.specs.Numbered.{Entries, number_in, beginning_of, IsIndexed}
-use Rattle.shard_columns.proofs.Beginnings.{first_of, Puts, number-kept, found-first, found-other, indexed-either, after-other, found-none, indexed-first, after-first}
+use Rattle.shard_columns.proofs.Beginnings.{first_of, begins-so, Puts, number-kept, found-first, found-other, indexed-either, after-other, found-none, indexed-first, after-first}
 use Rattle.shard_columns.proofs.field_words.FieldWords.number.Goals as goal
 
+pub is_word-requires : goal.is_word-requires
+is_word-requires c =
+    let is : first_of c.self.inside.firsts.entries c.args.word.now ≡ Some c.in-Some.first.now =
+    ap (λ (k : ℕ). lookup (is_at (nat_cmp k)) c.self.inside.firsts.entries) (sym c.beginning_of-beginning.ensures) ∙ sym c.in-Some.ensures.value in
+    ap beginning_of c.as_str.ensures ∙ begins-so c.self.inside.firsts.entries c.args.word.now c.in-Some.first.now c.self.invariant.begun is
+
 -- this word stands at its beginning
-here : (c : goal.Then-eq) → number_in c.args.self.now c.args.word.now ≡ Some c.in-Some.first.now.number
+here : (c : goal.Then-is_word) → number_in c.args.self.now c.args.word.now ≡ Some c.in-Some.first.now.number
 here c =
     let inside = c.self.inside in
     let word = c.args.word.now in
     let first : Numbered = c.in-Some.first.now in
     let is : first_of inside.firsts.entries word ≡ Some first = ap (λ (k : ℕ). lookup (is_at (nat_cmp k)) inside.firsts.entries) (sym c.beginning_of-beginning.ensures) ∙ sym c.in-Some.ensures.value in
-    let same : first.text ≡ word = sym c.as_str.ensures ∙ (bytes_eq-Decides c.as_str.result.now word).0 (sym c.if-eq.ensures) in
+    let same : first.text ≡ word = sym c.as_str.ensures ∙ c.is_word.ensures.0 c.if-is_word.true in
     ap (λ (es : Entries). number_in es word) (sym c.self.view_is) ∙ found-first inside.firsts.entries inside.others.entries word first c.self.invariant is same
 
-pub returns-then-eq-clause-found : goal.returns-then-eq-clause-found
-returns-then-eq-clause-found c = ap (λ (o : Option ℕ). unwrap_or o c.args.next) (sym (here c))
+pub returns-then-is_word-clause-found : goal.returns-then-is_word-clause-found
+returns-then-is_word-clause-found c = ap (λ (o : Option ℕ). unwrap_or o c.args.next) (sym (here c))
 
-pub returns-then-eq-clause-after : goal.returns-then-eq-clause-after
-returns-then-eq-clause-after c = number-kept (number_in c.args.self.now) c.args.word.now c.in-Some.first.now.number (here c)
+pub returns-then-is_word-clause-after : goal.returns-then-is_word-clause-after
+returns-then-is_word-clause-after c = number-kept (number_in c.args.self.now) c.args.word.now c.in-Some.first.now.number (here c)
 
 -- another word stands there
 stands : (c : goal.After-number_among) → first_of c.self.inside.firsts.entries c.args.word.now ≡ Some c.in-Some.first.now
 stands c = ap (λ (k : ℕ). lookup (is_at (nat_cmp k)) c.self.inside.firsts.entries) (sym c.beginning_of-beginning.ensures) ∙ sym c.in-Some.ensures.value
 
 differs : (c : goal.After-number_among) → c.in-Some.first.now.text ≢ c.args.word.now
-differs c h = absurd (cc (sym ((bytes_eq-Decides c.as_str.result.now c.args.word.now).1 (c.as_str.ensures ∙ h)) ∙ (sym c.eq.ensures ∙ c.if-eq.false)))
+differs c h = absurd (cc (sym (c.is_word.ensures.1 (c.as_str.ensures ∙ h)) ∙ c.if-is_word.false))
 
 pub invariant_of-self : goal.invariant_of-self
 invariant_of-self c = indexed-either c.self.inside.firsts.entries c.self.inside.others.entries c.number_among.new.numbers.entries c.args.word.now c.in-Some.first.now c.number_among.result c.self.invariant (stands c) (differs c) c.number_among.ensures.after c.number_among.ensures.err
