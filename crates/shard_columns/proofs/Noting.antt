@@ -1,5 +1,5 @@
 -- Words that are met: each keeps its number, and no two have one number.
-use Rattle.std.proofs.Common.{T, Bool, true, false, cond, eqb, eq-eqb, flat_map, zero, suc, ◌≡◌, ◌≢◌, refl, ℕ, ◌<◌, ◌≤◌, List, [], ◌∷◌, ◌++◌, map, length, get_or, set, sym, ◌∙◌, ap, subst, arith, Contains, inl, inr, Option, None, Some, unwrap_or}
+use Rattle.std.proofs.Common.{T, Bool, true, false, cond, eqb, eq-eqb, flat_map, zero, suc, ◌≡◌, ◌≢◌, refl, ℕ, ◌<◌, ◌≤◌, List, [], ◌∷◌, ◌++◌, length, get_or, set, sym, ◌∙◌, ap, subst, arith, Contains, inl, inr, Option, None, Some, unwrap_or}
 use Rattle.std.specs.Prelude.{◌&&◌, ◌⊎◌, IsSome}
 use Rattle.std.specs.Str.{bytes_eq}
 use Rattle.std.proofs.lemmas.List.{append-nil, length-set, get_or-set_same, get_or-set_other}

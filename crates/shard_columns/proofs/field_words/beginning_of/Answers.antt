@@ -1,4 +1,4 @@
-use Rattle.std.proofs.Common.{◌≡◌, ℕ, List, ◌++◌, ◌<◌, length, drop, take, replicate, sym, ◌∙◌, ap, subst, arith, refl}
+use Rattle.std.proofs.Common.{◌≡◌, ℕ, List, ◌++◌, ◌<◌, length, drop, take, replicate, ◌∙◌, ap, arith}
 use Rattle.std.specs.Int.{w128, from_be_bytes}
 use Rattle.shard_columns.proofs.Beginnings.{beginning-long, beginning-short}
 use Rattle.shard_columns.proofs.field_words.beginning_of.Goals as goal

@@ -1,5 +1,4 @@
-use Rattle.std.proofs.Common.{◌≡◌, Bool, true, false, ℕ, List, length, ap, subst, sym, ◌∙◌, arith, ◌≤◌, ◌<◌, nat_le}
-use Rattle.std.specs.Prelude.{IsTrue}
+use Rattle.std.proofs.Common.{◌≡◌, length, ap, sym, ◌∙◌, arith, ◌≤◌}
 use Rattle.std.proofs.lemmas.Bool.Decides.{nat_tests}
 use Rattle.shard_columns.proofs.Telling.{AreBytes, told}
 use Rattle.shard_columns.proofs.field_words.is_word.Goals as goal

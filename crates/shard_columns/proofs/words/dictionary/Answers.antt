@@ -1,4 +1,4 @@
-use Rattle.std.proofs.Common.{◌≡◌, ◌++◌, ◌∷◌, ℕ, List, [], Some, set, map, sym, ◌∙◌, ap, subst, arith, refl, length}
+use Rattle.std.proofs.Common.{◌≡◌, ◌++◌, ◌∷◌, ℕ, List, [], set, sym, ◌∙◌, ap, subst, arith, refl, length}
 use Rattle.std.proofs.lemmas.List.{map-append, append-nil, append_assoc}
 use Rattle.shard_columns.specs.declared.field_words.Numbered.{Numbered}
 use Rattle.shard_columns.specs.Numbered.{Entries, entry_of, entries_of, words_among}

@@ -1,12 +1,11 @@
-use Rattle.std.proofs.Common.{◌≡◌, ◌≢◌, Bool, true, false, ℕ, List, Option, Some, None, cond, unwrap_or, sym, ◌∙◌, ap, subst, refl}
-use Rattle.std.specs.Prelude.{String, string_bytes}
+use Rattle.std.proofs.Common.{◌≡◌, ◌≢◌, ℕ, List, Option, Some, None, cond, unwrap_or, sym, ◌∙◌, ap}
 use Rattle.std.specs.Ordering.{nat_cmp}
 use Rattle.std.specs.Map.{lookup}
 use Rattle.std.specs.BTreeMap.{is_at, get_by_text}
 use Rattle.std.specs.Str.{bytes_eq}
 use Rattle.std.proofs.lemmas.Result.{IfOk-weaker}
 use Rattle.shard_columns.specs.declared.field_words.Numbered.{Numbered}
-use Rattle.shard_columns.specs.Numbered.{Entries, number_in, beginning_of, IsIndexed}
+use Rattle.shard_columns.specs.Numbered.{Entries, number_in, beginning_of}
 use Rattle.shard_columns.proofs.Beginnings.{first_of, begins-so, Puts, number-kept, found-first, found-other, indexed-either, after-other, found-none, indexed-first, after-first}
 use Rattle.shard_columns.proofs.field_words.FieldWords.number.Goals as goal
 
