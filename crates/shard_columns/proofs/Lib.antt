@@ -13,6 +13,9 @@ pub mod Counting
 pub mod OneEach
 pub mod EachRoot
 pub mod Ascending
+pub mod Telling
+pub mod Beginnings
+pub mod Arranging
 pub mod Noting
 pub mod Ranking
 pub mod Building

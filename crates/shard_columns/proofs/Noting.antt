@@ -1,11 +1,8 @@
 -- Words that are met: each keeps its number, and no two have one number.
-use Rattle.std.proofs.Common.{T, Bool, true, false, cond, eqb, eq-eqb, flat_map, zero, suc, ◌≡◌, ◌≢◌, refl, ℕ, ◌<◌, ◌≤◌, List, [], ◌∷◌, ◌++◌, map, length, get_or, set, sym, ◌∙◌, ap, subst, arith, Contains, inl, inr, Option, None, Some, unwrap_or}
+use Rattle.std.proofs.Common.{T, Bool, true, false, cond, eqb, eq-eqb, flat_map, zero, suc, ◌≡◌, ◌≢◌, refl, ℕ, ◌<◌, ◌≤◌, List, [], ◌∷◌, ◌++◌, length, get_or, set, sym, ◌∙◌, ap, subst, arith, Contains, inl, inr, Option, None, Some, unwrap_or}
 use Rattle.std.specs.Prelude.{◌&&◌, ◌⊎◌, IsSome}
 use Rattle.std.specs.Str.{bytes_eq}
-use Rattle.std.specs.Prelude.{String}
-use Rattle.std.specs.declared.alloc.Global.{Global}
-use Rattle.std.specs.BTreeMap.{BTreeMap}
-use Rattle.std.proofs.lemmas.List.{append-nil, length-map, map-set, get_or-map, length-set, get_or-set_same, get_or-set_other}
+use Rattle.std.proofs.lemmas.List.{append-nil, length-set, get_or-set_same, get_or-set_other}
 use Rattle.std.proofs.lemmas.List.Elements.{Contains-append_left, Contains-append_right, Contains-append_cases}
 use Rattle.std.proofs.lemmas.Grind.{flat_map-append}
 use Rattle.std.proofs.lemmas.Slice.Eq.{bytes_eq-Decides}
@@ -17,7 +14,9 @@ use Rattle.agg_model.specs.declared.row.FieldValues.{FieldValues}
 use Rattle.shard_columns.specs.declared.layout.Laid.{Laid}
 use Rattle.shard_columns.specs.declared.words.WordNumbers.{WordNumbers}
 use Rattle.shard_columns.specs.Values.{Words, word_in, words_in, words_at, words_for, FieldsBelow}
-use Rattle.shard_columns.specs.Words.{number_of, HasNone, IsNumbered, of_field, Notes, row_words, AllFieldsBelow, Entries, number_in}
+use Rattle.shard_columns.specs.Numbered.{Entries, number_in}
+use Rattle.shard_columns.specs.Words.{number_of, HasNone, IsNumbered, of_field, Notes, row_words, AllFieldsBelow}
+use Rattle.shard_columns.proofs.Storing.{get_or-any}
 
 some-kept : (a b : Option ℕ) → ((n : ℕ) → a ≡ Some n → b ≡ Some n) → IsSome a → IsSome b
 some-kept None b kept is = absurd (cc is)
@@ -113,9 +112,6 @@ both-true : (a b : Bool) → a ≡ true → b ≡ true → (a && b) ≡ true
 both-true true b p q = q
 both-true false b p q = absurd (cc p)
 
-abbrev Word : Type 0
-Word = String Global
-
 abbrev IsIt : ℕ → List ℕ → ℕ → List ℕ → Type 0
 IsIt field word f w = (f ≡ field) × (w ≡ word)
 
@@ -195,36 +191,31 @@ Notes-number old new field n word sound s = record {
   ];
 }
 
-entries-set : (maps : List (BTreeMap Word ℕ)) (field : ℕ) (here noted : BTreeMap Word ℕ) (f : ℕ) (b : Bool) → field < length maps → here ≡ get_or maps field here → eqb field f ≡ b →
-    get_or (map (λ m. m.entries) (set maps field noted)) f [] ≡ cond b noted.entries (get_or (map (λ m. m.entries) maps) f [])
-entries-set maps field here noted f true below read e =
+entries-set : (all : List Entries) (field : ℕ) (noted : Entries) (f : ℕ) (b : Bool) → field < length all → eqb field f ≡ b → get_or (set all field noted) f [] ≡ cond b noted (get_or all f [])
+entries-set all field noted f true below e =
     let same : field ≡ f = eqb_yes (subst T (sym e) tt) in
-    ap (λ (es : List Entries). get_or es f []) (map-set (λ (m : BTreeMap Word ℕ). m.entries) maps field noted)
-    ∙ (ap (λ (g : ℕ). get_or (set (map (λ m. m.entries) maps) field noted.entries) g []) (sym same)
-    ∙ get_or-set_same (map (λ m. m.entries) maps) field noted.entries [] (subst (λ (n : ℕ). field < n) (sym (length-map maps (λ (m : BTreeMap Word ℕ). m.entries))) below))
-entries-set maps field here noted f false below read e =
+    ap (λ (g : ℕ). get_or (set all field noted) g []) (sym same) ∙ get_or-set_same all field noted [] below
+entries-set all field noted f false below e =
     let other : f ≢ field = λ (h : f ≡ field). absurd (cc (sym (eq-eqb field f (sym h)) ∙ e)) in
-    ap (λ (es : List Entries). get_or es f []) (map-set (λ (m : BTreeMap Word ℕ). m.entries) maps field noted)
-    ∙ get_or-set_other (map (λ m. m.entries) maps) field f noted.entries [] other
+    get_or-set_other all field f noted [] other
 
-pub entries-at : (maps : List (BTreeMap Word ℕ)) (field : ℕ) (here : BTreeMap Word ℕ) → field < length maps → here ≡ get_or maps field here → get_or (map (λ m. m.entries) maps) field [] ≡ here.entries
-entries-at maps field here below read = get_or-map (λ (m : BTreeMap Word ℕ). m.entries) maps field here [] below ∙ ap (λ (m : BTreeMap Word ℕ). m.entries) (sym read)
+pub entries-at : (all : List Entries) (field : ℕ) (here : Entries) → field < length all → here ≡ get_or all field here → get_or all field [] ≡ here
+entries-at all field here below read = get_or-any all field [] here below ∙ sym read
 
-number-set : (old : WordNumbers) (new : WordNumbers) (field n : ℕ) (word : List ℕ) (here noted : BTreeMap Word ℕ) → field < length old.by_field.items → here ≡ get_or old.by_field.items field here →
-    new.by_field.items ≡ set old.by_field.items field noted → ((w : List ℕ) → number_in noted.entries w ≡ cond (bytes_eq word w) (Some n) (number_in here.entries w)) →
+number-set : (old : WordNumbers) (new : WordNumbers) (field n : ℕ) (word : List ℕ) (here noted : Entries) → field < length old.by_field.items → here ≡ get_or old.by_field.items field here →
+    new.by_field.items ≡ set old.by_field.items field noted → ((w : List ℕ) → number_in noted w ≡ cond (bytes_eq word w) (Some n) (number_in here w)) →
     (f : ℕ) (w : List ℕ) (b : Bool) → eqb field f ≡ b → number_of new f w ≡ cond (b && bytes_eq word w) (Some n) (number_of old f w)
 number-set old new field n word here noted below read is after f w true e =
     let same : field ≡ f = eqb_yes (subst T (sym e) tt) in
-    ap (λ (ms : List (BTreeMap Word ℕ)). number_in (get_or (map (λ m. m.entries) ms) f []) w) is
-    ∙ (ap (λ (es : Entries). number_in es w) (entries-set old.by_field.items field here noted f true below read e)
-    ∙ (after w ∙ ap (λ (es : Entries). cond (bytes_eq word w) (Some n) (number_in es w)) (sym (entries-at old.by_field.items field here below read) ∙ ap (λ (g : ℕ). get_or (map (λ m. m.entries) old.by_field.items) g []) same)))
+    ap (λ (all : List Entries). number_in (get_or all f []) w) is
+    ∙ (ap (λ (es : Entries). number_in es w) (entries-set old.by_field.items field noted f true below e)
+    ∙ (after w ∙ ap (λ (es : Entries). cond (bytes_eq word w) (Some n) (number_in es w)) (sym (entries-at old.by_field.items field here below read) ∙ ap (λ (g : ℕ). get_or old.by_field.items g []) same)))
 number-set old new field n word here noted below read is after f w false e =
-    ap (λ (ms : List (BTreeMap Word ℕ)). number_in (get_or (map (λ m. m.entries) ms) f []) w) is
-    ∙ ap (λ (es : Entries). number_in es w) (entries-set old.by_field.items field here noted f false below read e)
+    ap (λ (all : List Entries). number_in (get_or all f []) w) is ∙ ap (λ (es : Entries). number_in es w) (entries-set old.by_field.items field noted f false below e)
 
-pub Numbering-made : (old new : WordNumbers) (field n : ℕ) (word : List ℕ) (here noted : BTreeMap Word ℕ) → field < length old.by_field.items → here ≡ get_or old.by_field.items field here →
-    new.by_field.items ≡ set old.by_field.items field noted → ((w : List ℕ) → number_in noted.entries w ≡ cond (bytes_eq word w) (Some n) (number_in here.entries w)) →
-    n ≡ unwrap_or (number_in here.entries word) (length old.ranks.items) → n < length new.ranks.items → length old.ranks.items ≤ length new.ranks.items →
+pub Numbering-made : (old new : WordNumbers) (field n : ℕ) (word : List ℕ) (here noted : Entries) → field < length old.by_field.items → here ≡ get_or old.by_field.items field here →
+    new.by_field.items ≡ set old.by_field.items field noted → ((w : List ℕ) → number_in noted w ≡ cond (bytes_eq word w) (Some n) (number_in here w)) →
+    n ≡ unwrap_or (number_in here word) (length old.ranks.items) → n < length new.ranks.items → length old.ranks.items ≤ length new.ranks.items →
     Numbering old new field n word
 Numbering-made old new field n word here noted below read is after found low grown = record {
   sizes = ap length is ∙ length-set old.by_field.items field noted;
@@ -235,18 +226,18 @@ Numbering-made old new field n word here noted below read is after found low gro
 }
 
 -- a number that is not below the next one is the next one
-pub next-number : (old : WordNumbers) (field n : ℕ) (word : List ℕ) (here : BTreeMap Word ℕ) (o : Option ℕ) → IsNumbered old → field < length old.by_field.items → here ≡ get_or old.by_field.items field here →
-    number_in here.entries word ≡ o → n ≡ unwrap_or (number_in here.entries word) (length old.ranks.items) → n ≤ length old.ranks.items
+pub next-number : (old : WordNumbers) (field n : ℕ) (word : List ℕ) (here : Entries) (o : Option ℕ) → IsNumbered old → field < length old.by_field.items → here ≡ get_or old.by_field.items field here →
+    number_in here word ≡ o → n ≡ unwrap_or (number_in here word) (length old.ranks.items) → n ≤ length old.ranks.items
 next-number old field n word here None sound below read is found = omega (arith, found ∙ ap (λ (o : Option ℕ). unwrap_or o (length old.ranks.items)) is)
 next-number old field n word here (Some m) sound below read is found =
     let low = sound.below field m word (ap (λ (es : Entries). number_in es word) (entries-at old.by_field.items field here below read) ∙ is) in
     omega (arith, low, found ∙ ap (λ (o : Option ℕ). unwrap_or o (length old.ranks.items)) is)
 
-pub no-entries-push : (maps : List (BTreeMap Word ℕ)) (m : BTreeMap Word ℕ) → m.entries ≡ [] → ((f : ℕ) → get_or (map (λ m. m.entries) maps) f [] ≡ []) → (f : ℕ) → get_or (map (λ m. m.entries) (maps ++ m ∷ [])) f [] ≡ []
-no-entries-push [] m none all zero = none
-no-entries-push [] m none all (suc f) = refl
-no-entries-push (n ∷ ns) m none all zero = all 0
-no-entries-push (n ∷ ns) m none all (suc f) = no-entries-push ns m none (λ g. all (suc g)) f
+pub no-entries-push : (all : List Entries) (es : Entries) → es ≡ [] → ((f : ℕ) → get_or all f [] ≡ []) → (f : ℕ) → get_or (all ++ es ∷ []) f [] ≡ []
+no-entries-push [] es none all zero = none
+no-entries-push [] es none all (suc f) = refl
+no-entries-push (n ∷ ns) es none all zero = all 0
+no-entries-push (n ∷ ns) es none all (suc f) = no-entries-push ns es none (λ g. all (suc g)) f
 
 pub IsNumbered-none : (numbers : WordNumbers) → HasNone numbers → IsNumbered numbers
 IsNumbered-none numbers none = record {

@@ -1,17 +1,14 @@
--- The words of ordered maps, and their places by number.
+-- The words of fields in order, and their places by number.
 use Rattle.std.proofs.Common.{T, Bool, true, false, cond, eqb, eq-eqb, flat_map, zero, suc, ◌≡◌, ◌≢◌, refl, ℕ, ◌+◌, ◌<◌, ◌≤◌, List, [], ◌∷◌, ◌++◌, map, length, get_or, set, sym, ◌∙◌, ap, subst, arith, length-append, Contains, inl, inr, Option, None, Some}
 use Rattle.std.specs.Prelude.{◌⊎◌, ◌^◌, pos, IsSome, slice_get, unwrap_or, Vec}
 use Rattle.std.specs.declared.alloc.Global.{Global}
-use Rattle.std.specs.Prelude.{String, string_bytes}
 use Rattle.std.specs.Option.{option_map_or}
 use Rattle.std.specs.Ordering.{nat_cmp, is_eq}
 use Rattle.std.specs.declared.cmp.Ordering.{Ordering}
 use Rattle.std.specs.declared.cmp.Ordering.TheVariants.{Less, Equal, Greater}
 use Rattle.std.specs.Cmp.Lexicographic.{slice_cmp}
 use Rattle.std.specs.Cmp.{tied_itself}
-use Rattle.std.specs.List.{AllByRecursion}
 use Rattle.std.specs.List.Sorted.{IsStrictlySortedBy}
-use Rattle.std.specs.BTreeMap.{BTreeMap}
 use Rattle.std.proofs.lemmas.Cmp.{nat_list_cmp_total}
 use Rattle.std.proofs.lemmas.List.{map-append, length-map, length-set, get_or-set_same, get_or-set_other, get_or_past, get_or_append_left}
 use Rattle.std.proofs.lemmas.Bool.{cases_lt}
@@ -25,11 +22,10 @@ use Rattle.shard_columns.specs.declared.layout.Laid.{Laid}
 use Rattle.shard_columns.specs.declared.values.Typed.TheVariants as typed
 use Rattle.shard_columns.specs.declared.words.WordNumbers.{WordNumbers}
 use Rattle.shard_columns.specs.Values.{Words, by_words, ranked, limited, AreRankedAll}
-use Rattle.shard_columns.specs.Words.{Entries, number_in, number_of, words_among, entries_of, HasNone, IsNumbered, Notes, Shows, AreApart, AreRanked, AreWords, ArePlaced, AreDictionaries, row_words}
+use Rattle.shard_columns.specs.Numbered.{Entries, number_in, words_among}
+use Rattle.shard_columns.specs.Words.{number_of, entries_of, HasNone, IsNumbered, Notes, Shows, AreApart, AreRanked, SameWords, AreWords, ArePlaced, AreDictionaries, row_words}
+use Rattle.shard_columns.proofs.Arranging.{AreArranged}
 use Rattle.shard_columns.proofs.Storing.{kind-same-words}
-
-abbrev Word : Type 0
-Word = String Global
 
 slice_get-front : {X : Type 0} (xs ys : List X) (i : ℕ) (x : X) → slice_get xs i ≡ Some x → slice_get (xs ++ ys) i ≡ Some x
 slice_get-front [] ys i x is = absurd (cc is)
@@ -63,17 +59,17 @@ at-itself w = ap is_eq (tied_itself nat_list_cmp_total w)
 
 number-front : (es fs : Entries) (w : List ℕ) (n : ℕ) → number_in es w ≡ Some n → number_in (es ++ fs) w ≡ Some n
 number-front [] fs w n is = absurd (cc is)
-number-front (e ∷ es) fs w n is = elim (cond-some (is_eq (slice_cmp nat_cmp w (string_bytes e.0))) e.1 n (number_in es w) is) [
+number-front (e ∷ es) fs w n is = elim (cond-some (is_eq (slice_cmp nat_cmp w e.0)) e.1 n (number_in es w) is) [
   | inl here ↦ ap (λ (b : Bool). cond b (Some e.1) (number_in (es ++ fs) w)) here.0 ∙ ap Some here.1
   | inr later ↦ ap (λ (b : Bool). cond b (Some e.1) (number_in (es ++ fs) w)) later.0 ∙ number-front es fs w n later.1
 ]
 
-number-last : (es : Entries) (k : Word) (m : ℕ) (w : List ℕ) (n : ℕ) → number_in (es ++ (k, m) ∷ []) w ≡ Some n → (number_in es w ≡ Some n) ⊎ ((w ≡ (string_bytes k)) × (m ≡ n))
-number-last [] k m w n is = elim (cond-some (is_eq (slice_cmp nat_cmp w (string_bytes k))) m n None is) [
-  | inl here ↦ inr (is-at w (string_bytes k) here.0, here.1)
+number-last : (es : Entries) (k : List ℕ) (m : ℕ) (w : List ℕ) (n : ℕ) → number_in (es ++ (k, m) ∷ []) w ≡ Some n → (number_in es w ≡ Some n) ⊎ ((w ≡ k) × (m ≡ n))
+number-last [] k m w n is = elim (cond-some (is_eq (slice_cmp nat_cmp w k)) m n None is) [
+  | inl here ↦ inr (is-at w k here.0, here.1)
   | inr later ↦ absurd (cc later.1)
 ]
-number-last (e ∷ es) k m w n is = elim (cond-some (is_eq (slice_cmp nat_cmp w (string_bytes e.0))) e.1 n (number_in (es ++ (k, m) ∷ []) w) is) [
+number-last (e ∷ es) k m w n is = elim (cond-some (is_eq (slice_cmp nat_cmp w e.0)) e.1 n (number_in (es ++ (k, m) ∷ []) w) is) [
   | inl here ↦ inl (ap (λ (b : Bool). cond b (Some e.1) (number_in es w)) here.0 ∙ ap Some here.1)
   | inr later ↦ elim (number-last es k m w n later.1) [
     | inl front ↦ inl (ap (λ (b : Bool). cond b (Some e.1) (number_in es w)) later.0 ∙ front)
@@ -84,8 +80,8 @@ number-last (e ∷ es) k m w n is = elim (cond-some (is_eq (slice_cmp nat_cmp w 
 -- the words of a map are those with a number
 word-numbered : (es : Entries) (w : List ℕ) (n : ℕ) → number_in es w ≡ Some n → Contains (words_among es) w
 word-numbered [] w n is = absurd (cc is)
-word-numbered (e ∷ es) w n is = elim (cond-some (is_eq (slice_cmp nat_cmp w (string_bytes e.0))) e.1 n (number_in es w) is) [
-  | inl here ↦ (0, omega arith, sym (is-at w (string_bytes e.0) here.0))
+word-numbered (e ∷ es) w n is = elim (cond-some (is_eq (slice_cmp nat_cmp w e.0)) e.1 n (number_in es w) is) [
+  | inl here ↦ (0, omega arith, sym (is-at w e.0 here.0))
   | inr later ↦ (let rest = word-numbered es w n later.1 in (suc rest.0, (let within = rest.1 in omega (arith, within)), rest.2))
 ]
 
@@ -100,7 +96,7 @@ some-either false x o is = is
 number-there : (es : Entries) (w : List ℕ) (k : ℕ) → k < length (words_among es) → get_or (words_among es) k w ≡ w → IsSome (number_in es w)
 number-there [] w k below is = absurd (omega arith)
 number-there (e ∷ es) w zero below is = subst (λ (b : Bool). IsSome (cond b (Some e.1) (number_in es w))) (sym (ap (λ (v : List ℕ). is_eq (slice_cmp nat_cmp w v)) is ∙ at-itself w)) refl
-number-there (e ∷ es) w (suc k) below is = some-either (is_eq (slice_cmp nat_cmp w (string_bytes e.0))) e.1 (number_in es w) (number-there es w k (omega arith) is)
+number-there (e ∷ es) w (suc k) below is = some-either (is_eq (slice_cmp nat_cmp w e.0)) e.1 (number_in es w) (number-there es w k (omega arith) is)
 
 pub number-has : (es : Entries) (w : List ℕ) → Contains (words_among es) w → IsSome (number_in es w)
 number-has es w has = number-there es w has.0 has.1 has.2
@@ -119,51 +115,50 @@ same-or-other : (m n : ℕ) (b : Bool) → eqb n m ≡ b → (n ≡ m) ⊎ (n �
 same-or-other m n true e = inl (eqb_yes (subst T (sym e) tt))
 same-or-other m n false e = inr (λ (h : n ≡ m). absurd (cc (sym (eq-eqb n m h) ∙ e)))
 
-pub Ranked-push : (all so_far rest : Entries) (k : Word) (m : ℕ) (words : Words) (old now : List ℕ) → AreApart (length old) all → all ≡ so_far ++ rest → number_in all (string_bytes k) ≡ Some m →
-    IsRankedSoFar all so_far words old now → IsRankedSoFar all (so_far ++ (k, m) ∷ []) (words ++ (string_bytes k) ∷ []) old (set now m (length words))
+pub Ranked-push : (all so_far rest : Entries) (k : List ℕ) (m : ℕ) (words : Words) (old now : List ℕ) → AreApart (length old) all → all ≡ so_far ++ rest → number_in all k ≡ Some m →
+    IsRankedSoFar all so_far words old now → IsRankedSoFar all (so_far ++ (k, m) ∷ []) (words ++ k ∷ []) old (set now m (length words))
 Ranked-push all so_far rest k m words old now apart split found s =
-    let low : m < length now = (let l = apart.below m (string_bytes k) found in let e = s.sizes in omega (arith, l, e)) in
+    let low : m < length now = (let l = apart.below m k found in let e = s.sizes in omega (arith, l, e)) in
     let rank : get_or (set now m (length words)) m 0 ≡ length words = get_or-set_same now m (length words) 0 low in
-    let here : slice_get (words ++ (string_bytes k) ∷ []) (get_or (set now m (length words)) m 0) ≡ Some (string_bytes k) = ap (slice_get (words ++ (string_bytes k) ∷ [])) rank ∙ slice_get-seam words (string_bytes k) in
+    let here : slice_get (words ++ k ∷ []) (get_or (set now m (length words)) m 0) ≡ Some k = ap (slice_get (words ++ k ∷ [])) rank ∙ slice_get-seam words k in
     record {
-      words_are = ap (λ (ws : Words). ws ++ (string_bytes k) ∷ []) s.words_are ∙ sym (map-append (λ (e : Word × ℕ). (string_bytes e.0)) so_far ((k, m) ∷ []));
+      words_are = ap (λ (ws : Words). ws ++ k ∷ []) s.words_are ∙ sym (map-append (λ (e : List ℕ × ℕ). e.0) so_far ((k, m) ∷ []));
       sizes = length-set now m (length words) ∙ s.sizes;
       placed = λ n w is. elim (number-last so_far k m w n is) [
         | inl front ↦ elim (same-or-other m n (eqb n m) refl) [
-          | inl same ↦ (let w_is : w ≡ (string_bytes k) = apart.apart m w (string_bytes k) (ap (λ (es : Entries). number_in es w) split ∙ (number-front so_far rest w n front ∙ ap Some same)) found in
-              ap (λ (r : ℕ). slice_get (words ++ (string_bytes k) ∷ []) (get_or (set now m (length words)) r 0)) same ∙ (here ∙ ap Some (sym w_is)))
-          | inr other ↦ ap (slice_get (words ++ (string_bytes k) ∷ [])) (get_or-set_other now m n (length words) 0 other) ∙ slice_get-front words ((string_bytes k) ∷ []) (get_or now n 0) w (s.placed n w front)
+          | inl same ↦ (let w_is : w ≡ k = apart.apart m w k (ap (λ (es : Entries). number_in es w) split ∙ (number-front so_far rest w n front ∙ ap Some same)) found in
+              ap (λ (r : ℕ). slice_get (words ++ k ∷ []) (get_or (set now m (length words)) r 0)) same ∙ (here ∙ ap Some (sym w_is)))
+          | inr other ↦ ap (slice_get (words ++ k ∷ [])) (get_or-set_other now m n (length words) 0 other) ∙ slice_get-front words (k ∷ []) (get_or now n 0) w (s.placed n w front)
         ]
-        | inr last ↦ ap (λ (r : ℕ). slice_get (words ++ (string_bytes k) ∷ []) (get_or (set now m (length words)) r 0)) (sym last.1) ∙ (here ∙ ap Some (sym last.0))
+        | inr last ↦ ap (λ (r : ℕ). slice_get (words ++ k ∷ []) (get_or (set now m (length words)) r 0)) (sym last.1) ∙ (here ∙ ap Some (sym last.0))
       ];
       others = λ n none.
-          let other : n ≢ m = λ (h : n ≡ m). none (string_bytes k) (found ∙ ap Some (sym h)) in
+          let other : n ≢ m = λ (h : n ≡ m). none k (found ∙ ap Some (sym h)) in
           get_or-set_other now m n (length words) 0 other ∙ s.others n none;
     }
 
-after-words : (k : Word) (es : Entries) → AllByRecursion (λ (y : Word). slice_cmp nat_cmp (string_bytes k) (string_bytes y) ≡ Less) (map (λ e. e.0) es) → AllByRecursion (λ v. slice_cmp nat_cmp (string_bytes k) v ≡ Less) (words_among es)
-after-words k [] after = after
-after-words k (e ∷ es) after = (after.0, after-words k es after.1)
-
-pub words-strict : (es : Entries) → IsStrictlySortedBy (λ (v w : Word). slice_cmp nat_cmp (string_bytes v) (string_bytes w)) (map (λ e. e.0) es) → IsStrictlySortedBy (slice_cmp nat_cmp) (words_among es)
-unfolding IsStrictlySortedBy
-words-strict [] strict = strict
-words-strict (e ∷ es) strict = (after-words e.0 es strict.0, words-strict es strict.1)
+pub AreRanked-made : (es all : Entries) (words : Words) (old new : List ℕ) → AreArranged es all → IsRankedSoFar all all words old new → SameWords (words_among es) words × AreRanked es words old new
+AreRanked-made es all words old new order s = (
+  subst (SameWords (words_among es)) (sym s.words_are) order.same,
+  record {
+    sizes = s.sizes;
+    placed = λ n w is. s.placed n w (order.there w n is);
+    others = λ n none. s.others n (λ w is. none w (order.back w n is));
+  },
+)
 
 -- the fields before k have their words and places
 pub record AreMade (numbers : WordNumbers) (k : ℕ) (words : List Words) (ranks : List ℕ) : Type 0 where
   pub sizes : length words ≡ k
   pub room : length ranks ≡ length numbers.ranks.items
-  pub words_are : (f : ℕ) → f < k → get_or words f [] ≡ words_among (entries_of numbers f)
-  pub strict : (f : ℕ) → f < k → IsStrictlySortedBy (slice_cmp nat_cmp) (get_or words f [])
+  pub same : (f : ℕ) → f < k → SameWords (words_among (entries_of numbers f)) (get_or words f [])
   pub placed : (f n : ℕ) (w : List ℕ) → f < k → number_of numbers f w ≡ Some n → slice_get (get_or words f []) (get_or ranks n 0) ≡ Some w
 
 pub AreMade-none : (numbers : WordNumbers) → AreMade numbers 0 [] numbers.ranks.items
 AreMade-none numbers = record {
   sizes = refl;
   room = refl;
-  words_are = λ f below. absurd (omega arith);
-  strict = λ f below. absurd (omega arith);
+  same = λ f below. absurd (omega arith);
   placed = λ f n w below is. absurd (omega arith);
 }
 
@@ -174,8 +169,8 @@ apart-in numbers f es limit sound is same = record {
 }
 
 pub AreMade-push : (numbers : WordNumbers) (k : ℕ) (words : List Words) (ranks new : List ℕ) (es : Entries) (d : Words) → IsNumbered numbers → es ≡ entries_of numbers k → AreMade numbers k words ranks →
-    d ≡ words_among es → IsStrictlySortedBy (slice_cmp nat_cmp) d → AreRanked es d ranks new → AreMade numbers (k + 1) (words ++ d ∷ []) new
-AreMade-push numbers k words ranks new es d sound is made d_is strict ranks_are =
+    SameWords (words_among es) d → AreRanked es d ranks new → AreMade numbers (k + 1) (words ++ d ∷ []) new
+AreMade-push numbers k words ranks new es d sound is made d_is ranks_are =
     let size = made.sizes in
     let front : (f : ℕ) → f < k → get_or (words ++ d ∷ []) f [] ≡ get_or words f [] = λ f below. get_or_append_left words (d ∷ []) [] f (omega (arith, below, size)) in
     let last : (f : ℕ) → k ≤ f → f < k + 1 → (f ≡ k) × (get_or (words ++ d ∷ []) f [] ≡ d) =
@@ -183,13 +178,11 @@ AreMade-push numbers k words ranks new es d sound is made d_is strict ranks_are 
     record {
       sizes = omega (arith, length-append words (d ∷ []), size);
       room = ranks_are.sizes ∙ made.room;
-      words_are = λ f below. elim (cases_lt f k) [
-        | inl inside ↦ front f inside ∙ made.words_are f inside
-        | inr from ↦ (let l = last f from below in l.1 ∙ (d_is ∙ (ap words_among is ∙ ap (λ (g : ℕ). words_among (entries_of numbers g)) (sym l.0))))
-      ];
-      strict = λ f below. elim (cases_lt f k) [
-        | inl inside ↦ subst (IsStrictlySortedBy (slice_cmp nat_cmp)) (sym (front f inside)) (made.strict f inside)
-        | inr from ↦ (let l = last f from below in subst (IsStrictlySortedBy (slice_cmp nat_cmp)) (sym l.1) strict)
+      same = λ f below. elim (cases_lt f k) [
+        | inl inside ↦ subst (SameWords (words_among (entries_of numbers f))) (sym (front f inside)) (made.same f inside)
+        | inr from ↦ (let l = last f from below in
+            subst (λ (g : ℕ). SameWords (words_among (entries_of numbers g)) (get_or (words ++ d ∷ []) f [])) (sym l.0)
+            (subst (SameWords (words_among (entries_of numbers k))) (sym l.1) (subst (λ (xs : Entries). SameWords (words_among xs) d) is d_is)))
       ];
       placed = λ f n w below has. elim (cases_lt f k) [
         | inl inside ↦
@@ -201,25 +194,22 @@ AreMade-push numbers k words ranks new es d sound is made d_is strict ranks_are 
       ];
     }
 
-no-words : IsStrictlySortedBy (slice_cmp nat_cmp) []
+no-words : SameWords [] []
 unfolding IsStrictlySortedBy
-no-words = tt
+no-words = record { strict = tt; kept = λ w has. has; nothing_else = λ w has. has }
 
 entries-past : (numbers : WordNumbers) (f : ℕ) → length numbers.by_field.items ≤ f → entries_of numbers f ≡ []
-entries-past numbers f past = get_or_past (map (λ m. m.entries) numbers.by_field.items) f [] (omega (arith, past, length-map numbers.by_field.items (λ (m : BTreeMap Word ℕ). m.entries)))
+entries-past numbers f past = get_or_past numbers.by_field.items f [] past
 
 pub AreWords-made : (numbers : WordNumbers) (k : ℕ) (words : List Words) (ranks : List ℕ) → length numbers.by_field.items ≡ k → AreMade numbers k words ranks → AreWords numbers words × ArePlaced numbers words ranks
 AreWords-made numbers k words ranks all made =
     let size = made.sizes in (
       record {
         sizes = size ∙ sym all;
-        words_are = λ f. elim (cases_lt f k) [
-          | inl inside ↦ made.words_are f inside
-          | inr past ↦ get_or_past words f [] (omega (arith, size, past)) ∙ ap words_among (sym (entries-past numbers f (omega (arith, all, past))))
-        ];
-        strict = λ f. elim (cases_lt f k) [
-          | inl inside ↦ made.strict f inside
-          | inr past ↦ subst (IsStrictlySortedBy (slice_cmp nat_cmp)) (sym (get_or_past words f [] (omega (arith, size, past)))) no-words
+        same = λ f. elim (cases_lt f k) [
+          | inl inside ↦ made.same f inside
+          | inr past ↦ subst (λ (es : Entries). SameWords (words_among es) (get_or words f [])) (sym (entries-past numbers f (omega (arith, all, past))))
+              (subst (SameWords []) (sym (get_or_past words f [] (omega (arith, size, past)))) no-words)
         ];
       },
       λ f n w has. elim (cases_lt f k) [
@@ -233,12 +223,12 @@ pub AreDictionaries-made : (count : ℕ) (rows : List Laid) (empty numbers : Wor
 AreDictionaries-made count rows empty numbers words size none notes are = record {
   sizes = are.sizes ∙ (notes.sizes ∙ size);
   same = λ f below. record {
-    strict = are.strict f;
+    strict = (are.same f).strict;
     kept = λ w has.
         let n = numbered-some (number_of numbers f w) (notes.known f w has) in
-        subst (λ (ws : Words). Contains ws w) (sym (are.words_are f)) (word-numbered (entries_of numbers f) w n.0 n.1);
+        (are.same f).kept w (word-numbered (entries_of numbers f) w n.0 n.1);
     nothing_else = λ w has.
-        elim (notes.nothing_else f w (number-has (entries_of numbers f) w (subst (λ (ws : Words). Contains ws w) (are.words_are f) has))) [
+        elim (notes.nothing_else f w (number-has (entries_of numbers f) w ((are.same f).nothing_else w has))) [
           | inl before ↦ (let n = numbered-some (number_of empty f w) before in absurd (cc (sym (none f w) ∙ n.1)))
           | inr met ↦ met
         ];

@@ -7,6 +7,7 @@ pub mod Values
 pub mod Lent
 pub mod Columnar
 pub mod Stored
+pub mod Numbered
 pub mod Words
 pub mod Storing
 pub mod Drafted

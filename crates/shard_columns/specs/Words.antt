@@ -1,29 +1,16 @@
 -- The words that are met in rows: each word of a field has a number of its own, and later its place in a dictionary.
-use Rattle.std.specs.Prelude.{◌≡◌, ◌≢◌, ◌⊎◌, ◌∷◌, ℕ, ◌<◌, ◌==◌, if◌then◌else◌, List, [], length, slice_index_or, slice_get, flat_map, map, Option, None, Some, IsSome, Contains}
-use Rattle.std.specs.declared.alloc.Global.{Global}
-use Rattle.std.specs.Prelude.{String, string_bytes}
-use Rattle.std.specs.Map.{lookup}
-use Rattle.std.specs.BTreeMap.{is_at}
+use Rattle.std.specs.Prelude.{◌≡◌, ◌≢◌, ◌⊎◌, ◌∷◌, ℕ, ◌<◌, ◌==◌, if◌then◌else◌, List, [], length, slice_index_or, slice_get, flat_map, Option, None, Some, IsSome, Contains}
 use Rattle.std.specs.Ordering.{nat_cmp}
 use Rattle.std.specs.Cmp.Lexicographic.{slice_cmp}
 use Rattle.std.specs.List.Sorted.{IsStrictlySortedBy}
 use Rattle.agg_model.specs.declared.row.Scalar.TheVariants as scalar
 use Rattle.shard_columns.specs.declared.layout.Laid.{Laid}
 use Rattle.shard_columns.specs.declared.words.WordNumbers.{WordNumbers}
+use Rattle.shard_columns.specs.Numbered.{Entries, number_in, words_among}
 use Rattle.shard_columns.specs.Values.{Words, Reader, words_for, AllAmong, FieldsBelow}
 
--- words with their numbers, ascending by the words
-abbrev pub Entries : Type 0
-Entries = List (String Global × ℕ)
-
-abbrev pub number_in : Entries → List ℕ → Option ℕ
-number_in entries word = lookup (is_at (λ k. slice_cmp nat_cmp word (string_bytes k))) entries
-
-abbrev pub words_among : Entries → Words
-words_among entries = map (λ e. string_bytes e.0) entries
-
 abbrev pub entries_of : WordNumbers → ℕ → Entries
-entries_of numbers field = slice_index_or (map (λ m. m.entries) numbers.by_field.items) field []
+entries_of numbers field = slice_index_or numbers.by_field.items field []
 
 -- the number of a word of a field
 abbrev pub number_of : WordNumbers → ℕ → List ℕ → Option ℕ
@@ -64,22 +51,21 @@ pub record AreRanked (entries : Entries) (words : Words) (old new : List ℕ) : 
   pub placed : (n : ℕ) (w : List ℕ) → number_in entries w ≡ Some n → slice_get words (slice_index_or new n 0) ≡ Some w
   pub others : (n : ℕ) → ((w : List ℕ) → number_in entries w ≢ Some n) → slice_index_or new n 0 ≡ slice_index_or old n 0
 
--- the words of each field, ascending
-pub record AreWords (numbers : WordNumbers) (words : List Words) : Type 0 where
-  pub sizes : length words ≡ length numbers.by_field.items
-  pub words_are : (f : ℕ) → slice_index_or words f [] ≡ words_among (entries_of numbers f)
-  pub strict : (f : ℕ) → IsStrictlySortedBy (slice_cmp nat_cmp) (slice_index_or words f [])
-
--- at the number of each word of a field stands its place among the words of the field
-abbrev pub ArePlaced : WordNumbers → List Words → List ℕ → Type 0
-ArePlaced numbers words ranks =
-    (f n : ℕ) (w : List ℕ) → number_of numbers f w ≡ Some n → slice_get (slice_index_or words f []) (slice_index_or ranks n 0) ≡ Some w
-
 -- the distinct words of a list, ascending
 pub record SameWords (words distinct : Words) : Type 0 where
   pub strict : IsStrictlySortedBy (slice_cmp nat_cmp) distinct
   pub kept : AllAmong words distinct
   pub nothing_else : AllAmong distinct words
+
+-- the words of each field, ascending
+pub record AreWords (numbers : WordNumbers) (words : List Words) : Type 0 where
+  pub sizes : length words ≡ length numbers.by_field.items
+  pub same : (f : ℕ) → SameWords (words_among (entries_of numbers f)) (slice_index_or words f [])
+
+-- at the number of each word of a field stands its place among the words of the field
+abbrev pub ArePlaced : WordNumbers → List Words → List ℕ → Type 0
+ArePlaced numbers words ranks =
+    (f n : ℕ) (w : List ℕ) → number_of numbers f w ≡ Some n → slice_get (slice_index_or words f []) (slice_index_or ranks n 0) ≡ Some w
 
 unfoldable pub AllFieldsBelow : ℕ → List Laid → Type 0
 AllFieldsBelow n [] = Unit {0}

@@ -6,6 +6,7 @@ mod columns;
 mod contexts;
 mod draft;
 mod entries;
+mod field_words;
 mod held_rows;
 mod ids;
 mod index;

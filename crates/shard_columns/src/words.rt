@@ -1,42 +1,20 @@
 // The words of each field of a shard: distinct, and in ascending order.
 ghost use Rattle.std.specs.Prelude.{◌≡◌, ◌∷◌, ◌<◌, ◌≤◌, ◌+◌, ◌*◌, ℕ, List as Items, [], Some, OnOk, IfOk, length, map, sum_by, slice_index_or, unwrap_or, if◌then◌else◌};
-ghost use Rattle.std.specs.Ordering.{nat_cmp};
-ghost use Rattle.std.specs.Cmp.Lexicographic.{slice_cmp};
-ghost use Rattle.std.specs.List.Sorted.{IsStrictlySortedBy};
-ghost use Rattle.std.specs.Str.{bytes_eq};
 ghost use Rattle.agg_evaluation.specs.Ceiling.{greatest_of};
-ghost use Rattle.shard_columns.specs.Words.{number_in, number_of, HasNone, IsNumbered, of_field, Notes, AreApart, words_among, AreRanked, AreWords, ArePlaced};
+ghost use Rattle.shard_columns.specs.Numbered.{words_among};
+ghost use Rattle.shard_columns.specs.Words.{number_of, HasNone, IsNumbered, of_field, Notes, AreApart, AreRanked, SameWords, AreWords, ArePlaced};
 
+use crate::field_words::FieldWords;
 use agg_model::limits::{MAX_PATHS, WEIGHT_LIMIT};
 use agg_model::{List, Text};
 use std::alloc::{AllocError, Global};
-use std::collections::BTreeMap;
 
 /// The words of each field that are met in rows, each with a number of its own, whatever its field.
 #[derive(Drop)]
 pub struct WordNumbers {
-    /// Their order is that of the bytes, so that no choice of words makes a look-up slow.
-    pub by_field: Vec<BTreeMap<String, usize>>,
+    pub by_field: Vec<FieldWords>,
     /// By number, the place of the word in its dictionary, which is known once all words are.
     pub ranks: Vec<usize>,
-}
-
-/// The number of a word; the next one where it had none. Only a new word is copied.
-fn number_in(
-    alloc: Global,
-    numbers: &mut BTreeMap<String, usize>,
-    word: &str,
-    next: usize,
-) -> Result<usize, AllocError>
-    ensures found { IfOk result (λ n. n ≡ unwrap_or (number_in numbers.old.entries word.now) next) }
-    ensures after { IfOk result (λ n. (w : Items ℕ) → number_in numbers.new.entries w ≡ (if bytes_eq word.now w then Some n else number_in numbers.old.entries w)) }
-{
-    if let Some(number) = numbers.get(word) {
-        return Ok(*number);
-    }
-    let word = String::from_str(alloc, word)?;
-    numbers.insert(word, next)?;
-    Ok(next)
 }
 
 impl WordNumbers {
@@ -49,7 +27,7 @@ impl WordNumbers {
     {
         let mut by_field = Vec::new(alloc);
         for _field in 0..fields {
-            by_field.push(BTreeMap::new(alloc))?;
+            by_field.push(FieldWords::new(alloc))?;
         }
         Ok(WordNumbers {
             by_field,
@@ -67,7 +45,7 @@ impl WordNumbers {
     {
         let alloc = *self.ranks.allocator();
         let next = self.ranks.len();
-        let number = number_in(alloc, &mut self.by_field[field], word, next)?;
+        let number = self.by_field[field].number(alloc, word, next)?;
         if number < next {
             return Ok(number);
         }
@@ -79,20 +57,20 @@ impl WordNumbers {
 /// The words of a field, ascending; the place of each is written at its number.
 fn dictionary(
     alloc: Global,
-    numbers: &BTreeMap<String, usize>,
+    words: FieldWords,
     ranks: &mut Vec<usize>,
 ) -> Result<List<Text>, AllocError>
-    requires { AreApart (length ranks.old.items) numbers.now.entries }
-    ensures words { IfOk result (λ d. d ≡ words_among numbers.now.entries) }
-    ensures strict { IfOk result (λ d. IsStrictlySortedBy (slice_cmp nat_cmp) d) }
-    ensures ranked { IfOk result (λ d. AreRanked numbers.now.entries d ranks.old.items ranks.new.items) }
+    requires { AreApart (length ranks.old.items) words }
+    ensures words { IfOk result (λ d. SameWords (words_among words) d) }
+    ensures ranked { IfOk result (λ d. AreRanked words d ranks.old.items ranks.new.items) }
 {
-    let mut words = List::new(alloc);
-    for (word, number) in numbers {
-        ranks[*number] = words.len();
-        words.push(Text::of(alloc, word.as_str())?)?;
+    let sorted = words.into_sorted(alloc)?;
+    let mut texts = Vec::with_capacity(alloc, sorted.len())?;
+    for word in sorted {
+        ranks[word.number] = texts.len();
+        texts.push(word.text)?;
     }
-    Ok(words)
+    Ok(List::from_vec(texts))
 }
 
 /// For each field its distinct words in ascending order, and for each number the place of its word there.
@@ -108,11 +86,11 @@ pub fn dictionaries(
         by_field,
         mut ranks,
     } = numbers;
-    let mut words = Vec::new(alloc);
-    for numbers in by_field.as_slice() {
-        words.push(dictionary(alloc, numbers, &mut ranks)?)?;
+    let mut all = Vec::with_capacity(alloc, by_field.len())?;
+    for words in by_field {
+        all.push(dictionary(alloc, words, &mut ranks)?)?;
     }
-    Ok((words, ranks))
+    Ok((all, ranks))
 }
 
 // The length of the longest of these words in bytes, 0 where there is none.

@@ -1,4 +1,4 @@
-use Rattle.std.proofs.Common.{◌-◌, get_or, arith}
+use Rattle.std.proofs.Common.{◌-◌, get_or}
 use Rattle.std.proofs.lemmas.Bool.{ltb-true}
 use Rattle.shard_columns.proofs.Searching.{front-below-bound}
 use Rattle.shard_columns.proofs.search.front_is_below.Goals as goal

@@ -1,41 +1,51 @@
-use Rattle.std.proofs.Common.{◌≡◌, ◌+◌, ◌<◌, ℕ, List, length, get_or, sym, ◌∙◌, ap, subst, arith}
-use Rattle.std.specs.Prelude.{String}
-use Rattle.std.specs.declared.alloc.Global.{Global}
-use Rattle.std.specs.BTreeMap.{BTreeMap}
+use Rattle.std.proofs.Common.{◌≡◌, ◌+◌, ◌++◌, ◌∷◌, ℕ, List, [], length, length-append, get_or, sym, ◌∙◌, ap, subst, arith}
+use Rattle.std.proofs.lemmas.List.{append_assoc}
+use Rattle.std.proofs.Math.Seq.{get_or-append_seam}
+use Rattle.shard_columns.specs.Numbered.{Entries}
 use Rattle.shard_columns.specs.Values.{Words}
-use Rattle.shard_columns.proofs.Noting.{entries-at}
 use Rattle.shard_columns.proofs.Ranking.{AreMade, AreMade-none, AreMade-push, AreWords-made, apart-in}
 use Rattle.shard_columns.proofs.words.dictionaries.Goals as goal
 
-pub loop-numbers-init : goal.loop-numbers-init
-loop-numbers-init c = subst (λ (ws : List Words). AreMade c.args.numbers 0 ws c.args.numbers.ranks.items) (sym c.new-words.ensures.items) (AreMade-none c.args.numbers)
+-- the words of this field
+this : (all yielded left rest : List Entries) (words : Entries) → all ≡ yielded ++ left → left ≡ words ∷ rest → words ≡ get_or all (length yielded) []
+this all yielded left rest words is next = sym (ap (λ (ws : List Entries). get_or ws (length yielded) []) (is ∙ ap (λ (ws : List Entries). yielded ++ ws) next) ∙ get_or-append_seam yielded words rest [])
+
+pub loop-words-init : goal.loop-words-init
+loop-words-init c = record {
+  made = subst (λ (ws : List Words). AreMade c.args.numbers 0 ws c.args.numbers.ranks.items) (sym c.in_ok-all.ensures.items) (AreMade-none c.args.numbers);
+  rest = sym c.into_iter-words-iterator.ensures.into_iter_gives.0;
+}
 
 pub dictionary-requires : goal.dictionary-requires
 dictionary-requires c =
-    let maps = c.args.numbers.by_field.items in
-    let k = c.loop-numbers.numbers-index in
-    let here = c.numbers-item.result in
-    let items = c.as_slice-numbers-items.ensures.value in
-    let below : k < length maps = omega (arith, c.loop-numbers-test.true, ap length items) in
-    let read : here ≡ get_or maps k here = c.numbers-item.is ∙ ap (λ (ms : List (BTreeMap (String Global) ℕ)). get_or ms k here) items in
-    apart-in c.args.numbers k here.entries (length c.loop-numbers.ranks.items) c.requires (sym (entries-at maps k here below read)) c.loop-numbers.invariant.room
+    let yielded = c.loop-words.yielded in
+    apart-in c.args.numbers (length yielded) c.in-Some.words (length c.loop-words.ranks.items) c.requires
+    (this c.args.numbers.by_field.items yielded c.loop-words.words-iterator.rest.items c.next.new.self.rest.items c.in-Some.words c.loop-words.invariant.rest c.in-Some.ensures.steps.0) c.loop-words.invariant.made.room
 
-pub loop-numbers-preserved : goal.loop-numbers-preserved
-loop-numbers-preserved c =
-    let maps = c.args.numbers.by_field.items in
-    let k = c.loop-numbers.numbers-index in
-    let here = c.numbers-item.result in
-    let items = c.as_slice-numbers-items.ensures.value in
-    let below : k < length maps = omega (arith, c.loop-numbers-test.true, ap length items) in
-    let read : here ≡ get_or maps k here = c.numbers-item.is ∙ ap (λ (ms : List (BTreeMap (String Global) ℕ)). get_or ms k here) items in
-    let made = c.in_ok-dictionary.ensures in
-    subst (λ (ws : List Words). AreMade c.args.numbers (k + 1) ws c.dictionary.new.ranks.items) (sym c.in_ok-push.ensures.items)
-    (AreMade-push c.args.numbers k c.loop-numbers.words.items c.loop-numbers.ranks.items c.dictionary.new.ranks.items here.entries c.in_ok-dictionary.field-0 c.requires (sym (entries-at maps k here below read)) c.loop-numbers.invariant made.words made.strict made.ranked)
+pub loop-words-preserved : goal.loop-words-preserved
+loop-words-preserved c =
+    let yielded = c.loop-words.yielded in
+    let words = c.in-Some.words in
+    let rest = c.next.new.self.rest.items in
+    let left = c.loop-words.words-iterator.rest.items in
+    let one = c.in_ok-dictionary.ensures in
+    let count : length (yielded ++ words ∷ []) ≡ length yielded + 1 = length-append yielded (words ∷ []) in
+    record {
+      made =
+          subst (λ (n : ℕ). AreMade c.args.numbers n c.push.new.self.items c.dictionary.new.ranks.items) (sym count)
+          (subst (λ (ws : List Words). AreMade c.args.numbers (length yielded + 1) ws c.dictionary.new.ranks.items) (sym c.in_ok-push.ensures.items)
+          (AreMade-push c.args.numbers (length yielded) c.loop-words.all.items c.loop-words.ranks.items c.dictionary.new.ranks.items words c.in_ok-dictionary.field-0 c.requires
+          (this c.args.numbers.by_field.items yielded left rest words c.loop-words.invariant.rest c.in-Some.ensures.steps.0) c.loop-words.invariant.made one.words one.ranked));
+      rest = c.loop-words.invariant.rest ∙ (ap (λ (ws : List Entries). yielded ++ ws) c.in-Some.ensures.steps.0 ∙ sym (append_assoc yielded (words ∷ []) rest));
+    }
+
+-- no field is left
+whole : (all yielded left : List Entries) → all ≡ yielded ++ left → length left ≡ 0 → length all ≡ length yielded
+whole all yielded left is none = ap length is ∙ omega (arith, length-append yielded left, none)
 
 pub returns : goal.returns
 returns c =
-    let k = c.loop-numbers.numbers-index in
-    let items = ap length c.as_slice-numbers-items.ensures.value in
-    let all : length c.args.numbers.by_field.items ≡ k = omega (arith, items, c.loop-numbers-test.false, c.loop-numbers.auto.numbers-index-end) in
-    let made = AreWords-made c.args.numbers k c.loop-numbers.words.items c.loop-numbers.ranks.items all c.loop-numbers.invariant in
+    let left = c.loop-words.words-iterator.rest in
+    let none : length left.items ≡ 0 = omega (arith, c.in-None.ensures.steps.0, left.ok) in
+    let made = AreWords-made c.args.numbers (length c.loop-words.yielded) c.loop-words.all.items c.loop-words.ranks.items (whole c.args.numbers.by_field.items c.loop-words.yielded left.items c.loop-words.invariant.rest none) c.loop-words.invariant.made in
     record { words = made.0; ranks = made.1 }

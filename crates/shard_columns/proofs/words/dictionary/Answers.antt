@@ -1,55 +1,76 @@
-use Rattle.std.proofs.Common.{◌≡◌, ◌++◌, ◌∷◌, ℕ, List, [], map, set, sym, ◌∙◌, ap, subst, arith}
-use Rattle.std.proofs.lemmas.List.{map-append}
-use Rattle.std.proofs.lemmas.Cmp.{nat_list_cmp_total, on_total}
-use Rattle.std.proofs.lemmas.Map.Iter.{btree_map_turn, rest_so_far, iter_end}
-use Rattle.std.specs.Map.Iter.{deref_pair}
-use Rattle.std.specs.Prelude.{string_bytes}
-use Rattle.std.specs.List.Sorted.{IsStrictlySortedBy}
-use Rattle.std.specs.Ordering.{nat_cmp}
-use Rattle.std.specs.Cmp.Lexicographic.{slice_cmp}
+use Rattle.std.proofs.Common.{◌≡◌, ◌++◌, ◌∷◌, ℕ, List, [], set, sym, ◌∙◌, ap, subst, arith, refl, length}
+use Rattle.std.proofs.lemmas.List.{map-append, append-nil, append_assoc}
+use Rattle.shard_columns.specs.declared.field_words.Numbered.{Numbered}
+use Rattle.shard_columns.specs.Numbered.{Entries, entry_of, entries_of, words_among}
 use Rattle.shard_columns.specs.Values.{Words}
-use Rattle.shard_columns.specs.Words.{Entries}
-use Rattle.shard_columns.proofs.Ranking.{IsRankedSoFar, Ranked-none, Ranked-push, words-strict}
+use Rattle.shard_columns.specs.Words.{SameWords, AreRanked}
+use Rattle.shard_columns.proofs.Arranging.{arranged-words, entries-next, apart-arranged, number-next}
+use Rattle.shard_columns.proofs.Ranking.{IsRankedSoFar, Ranked-none, Ranked-push, AreRanked-made}
 use Rattle.shard_columns.proofs.words.dictionary.Goals as goal
 
 pub index_mut-requires : goal.index_mut-requires
 index_mut-requires c =
-    let gives = c.into_iter-word-iterator.ensures.into_iter_gives in
-    let turn = btree_map_turn deref_pair c.loop-word.yielded c.into_iter-word-iterator.result c.loop-word.word-iterator c.next.new.self c.next.result (c.in-Some.word, c.in-Some.number) c.loop-word.yielded_by c.in-Some.is c.next.ensures.steps
-    (on_total string_bytes nat_list_cmp_total) c.args.numbers.now gives.0 gives.5 in
-    let low = c.requires.below c.in-Some.number.now (string_bytes c.in-Some.word.now) turn.1 in
+    let all = c.into_iter-word-iterator.result.rest.items in
+    let word = c.in-Some.word in
+    let sorted = c.in_ok-sorted.sorted.items in
+    let order = arranged-words c.args.words sorted all c.into_iter-word-iterator.ensures.into_iter_gives.0 c.in_ok-sorted.ensures.same c.in_ok-sorted.ensures.strict in
+    let next = entries-next c.loop-word.yielded c.next.new.self.rest.items word all c.loop-word.word-iterator.rest.items c.loop-word.invariant.rest c.in-Some.ensures.steps.0 in
+    let found = number-next (entries_of all) (entries_of c.loop-word.yielded) (entries_of c.next.new.self.rest.items) word.text word.number order.distinct next in
+    let low = c.requires.below word.number word.text (order.back word.text word.number found) in
     let size = c.loop-word.ranks.ok.0 in
-    let same = c.loop-word.invariant.sizes in
+    let same = c.loop-word.invariant.ranked.sizes in
     omega (arith, low, size, same)
 
 pub loop-word-init : goal.loop-word-init
 loop-word-init c =
-    subst (λ (ws : Words). IsRankedSoFar c.args.numbers.now.entries [] ws c.args.ranks.now.items c.args.ranks.now.items) (sym c.new-words.ensures) (Ranked-none c.args.numbers.now.entries c.args.ranks.now.items)
+    let all = entries_of c.into_iter-word-iterator.result.rest.items in
+    record {
+      ranked = subst (λ (ws : Words). IsRankedSoFar all [] ws c.args.ranks.now.items c.args.ranks.now.items) (sym c.in_ok-texts.ensures.items) (Ranked-none all c.args.ranks.now.items);
+      rest = refl;
+    }
 
 pub loop-word-preserved : goal.loop-word-preserved
 loop-word-preserved c =
-    let gives = c.into_iter-word-iterator.ensures.into_iter_gives in
-    let all : Entries = c.args.numbers.now.entries in
-    let so_far : Entries = map deref_pair c.loop-word.yielded in
-    let k = c.in-Some.word.now in
-    let m = c.in-Some.number.now in
-    let turn = btree_map_turn deref_pair c.loop-word.yielded c.into_iter-word-iterator.result c.loop-word.word-iterator c.next.new.self c.next.result (c.in-Some.word, c.in-Some.number) c.loop-word.yielded_by c.in-Some.is c.next.ensures.steps
-    (on_total string_bytes nat_list_cmp_total) c.args.numbers.now gives.0 gives.5 in
-    let split = sym gives.0 ∙ rest_so_far deref_pair c.loop-word.yielded c.into_iter-word-iterator.result c.loop-word.word-iterator c.loop-word.yielded_by in
-    let step = Ranked-push all so_far c.loop-word.word-iterator k m c.loop-word.words c.args.ranks.now.items c.loop-word.ranks.items c.requires split turn.1 c.loop-word.invariant in
-    let ranks = set c.loop-word.ranks.items m c.len.result in
-    let words_are : c.push.new.self ≡ c.loop-word.words ++ string_bytes k ∷ [] = c.in_ok-push.ensures.ok ∙ ap (λ (w : List ℕ). c.loop-word.words ++ w ∷ []) (c.in_ok-of.ensures ∙ c.as_str.ensures.value) in
-    subst (λ (es : Entries). IsRankedSoFar all es c.push.new.self c.args.ranks.now.items ranks) (sym (map-append deref_pair c.loop-word.yielded ((c.in-Some.word, c.in-Some.number) ∷ [])))
-    (subst (λ (ws : Words). IsRankedSoFar all (so_far ++ (k, m) ∷ []) ws c.args.ranks.now.items ranks) (sym words_are)
-    (subst (λ (r : ℕ). IsRankedSoFar all (so_far ++ (k, m) ∷ []) (c.loop-word.words ++ string_bytes k ∷ []) c.args.ranks.now.items (set c.loop-word.ranks.items m r)) (sym c.len.ensures) step))
-
-pub returns : goal.returns
-returns c =
-    let gives = c.into_iter-word-iterator.ensures.into_iter_gives in
-    let whole = iter_end deref_pair c.args.numbers.now.entries c.loop-word.yielded c.into_iter-word-iterator.result c.loop-word.word-iterator c.next.new.self c.next.result gives.0 c.loop-word.yielded_by c.in-None.is c.next.ensures.steps in
-    let s = subst (λ (es : Entries). IsRankedSoFar c.args.numbers.now.entries es c.loop-word.words c.args.ranks.now.items c.loop-word.ranks.items) whole.0 c.loop-word.invariant in
+    let all = c.into_iter-word-iterator.result.rest.items in
+    let word = c.in-Some.word in
+    let yielded = c.loop-word.yielded in
+    let rest = c.next.new.self.rest.items in
+    let sorted = c.in_ok-sorted.sorted.items in
+    let old = c.args.ranks.now.items in
+    let now = c.loop-word.ranks.items in
+    let texts : Words = c.loop-word.texts.items in
+    let order = arranged-words c.args.words sorted all c.into_iter-word-iterator.ensures.into_iter_gives.0 c.in_ok-sorted.ensures.same c.in_ok-sorted.ensures.strict in
+    let next = entries-next yielded rest word all c.loop-word.word-iterator.rest.items c.loop-word.invariant.rest c.in-Some.ensures.steps.0 in
+    let found = number-next (entries_of all) (entries_of yielded) (entries_of rest) word.text word.number order.distinct next in
+    let step = Ranked-push (entries_of all) (entries_of yielded) ((word.text, word.number) ∷ entries_of rest) word.text word.number texts old now (apart-arranged (length old) c.args.words (entries_of all) order c.requires) next found c.loop-word.invariant.ranked in
+    let place : c.len-in-loop-word.result ≡ length texts = c.len-in-loop-word.ensures ∙ c.loop-word.texts.ok.0 in
     record {
-      words = s.words_are;
-      strict = subst (IsStrictlySortedBy (slice_cmp nat_cmp)) (sym s.words_are) (words-strict c.args.numbers.now.entries gives.5);
-      ranked = record { sizes = s.sizes; placed = s.placed; others = s.others };
+      ranked =
+          subst (λ (es : Entries). IsRankedSoFar (entries_of all) es c.push.new.self.items old (set now word.number c.len-in-loop-word.result)) (sym (map-append entry_of yielded (word ∷ [])))
+          (subst (λ (ws : Words). IsRankedSoFar (entries_of all) (entries_of yielded ++ (word.text, word.number) ∷ []) ws old (set now word.number c.len-in-loop-word.result)) (sym c.in_ok-push.ensures.items)
+          (subst (λ (r : ℕ). IsRankedSoFar (entries_of all) (entries_of yielded ++ (word.text, word.number) ∷ []) (texts ++ word.text ∷ []) old (set now word.number r)) (sym place) step));
+      rest = c.loop-word.invariant.rest ∙ (ap (λ (ws : List Numbered). yielded ++ ws) c.in-Some.ensures.steps.0 ∙ sym (append_assoc yielded (word ∷ []) rest));
     }
+
+-- all of them are ranked
+whole : (all yielded left : List Numbered) (words : Words) (old new : List ℕ) → all ≡ yielded ++ left → length left ≡ 0 → IsRankedSoFar (entries_of all) (entries_of yielded) words old new → IsRankedSoFar (entries_of all) (entries_of all) words old new
+whole all yielded [] words old new is none ranked = subst (λ (ws : List Numbered). IsRankedSoFar (entries_of all) (entries_of ws) words old new) (sym (append-nil yielded) ∙ sym is) ranked
+whole all yielded (w ∷ ws) words old new is none ranked = absurd (omega (arith, none))
+
+pub returns-clause-words : goal.returns-clause-words
+returns-clause-words c =
+    let all = c.into_iter-word-iterator.result.rest.items in
+    let left = c.loop-word.word-iterator.rest in
+    let order = arranged-words c.args.words c.in_ok-sorted.sorted.items all c.into_iter-word-iterator.ensures.into_iter_gives.0 c.in_ok-sorted.ensures.same c.in_ok-sorted.ensures.strict in
+    let none : length left.items ≡ 0 = omega (arith, c.in-None.ensures.steps.0, left.ok) in
+    let made = AreRanked-made c.args.words (entries_of all) c.loop-word.texts.items c.args.ranks.now.items c.loop-word.ranks.items order (whole all c.loop-word.yielded left.items c.loop-word.texts.items c.args.ranks.now.items c.loop-word.ranks.items c.loop-word.invariant.rest none c.loop-word.invariant.ranked) in
+    subst (SameWords (words_among c.args.words)) (sym c.from_vec.ensures) made.0
+
+pub returns-clause-ranked : goal.returns-clause-ranked
+returns-clause-ranked c =
+    let all = c.into_iter-word-iterator.result.rest.items in
+    let left = c.loop-word.word-iterator.rest in
+    let order = arranged-words c.args.words c.in_ok-sorted.sorted.items all c.into_iter-word-iterator.ensures.into_iter_gives.0 c.in_ok-sorted.ensures.same c.in_ok-sorted.ensures.strict in
+    let none : length left.items ≡ 0 = omega (arith, c.in-None.ensures.steps.0, left.ok) in
+    let made = AreRanked-made c.args.words (entries_of all) c.loop-word.texts.items c.args.ranks.now.items c.loop-word.ranks.items order (whole all c.loop-word.yielded left.items c.loop-word.texts.items c.args.ranks.now.items c.loop-word.ranks.items c.loop-word.invariant.rest none c.loop-word.invariant.ranked) in
+    subst (λ (d : Words). AreRanked c.args.words d c.args.ranks.now.items c.loop-word.ranks.items) (sym c.from_vec.ensures) made.1

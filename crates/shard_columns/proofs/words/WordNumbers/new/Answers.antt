@@ -1,5 +1,5 @@
-use Rattle.std.proofs.Common.{◌≡◌, [], ◌∷◌, ap, subst, sym, length, arith, length-append, map, get_or}
-use Rattle.shard_columns.specs.Words.{Entries, number_in}
+use Rattle.std.proofs.Common.{◌≡◌, List, [], ◌∷◌, ap, subst, sym, length, arith, length-append, get_or}
+use Rattle.shard_columns.specs.Numbered.{Entries, number_in}
 use Rattle.shard_columns.proofs.Noting.{IsNumbered-none, no-entries-push}
 use Rattle.shard_columns.proofs.words.WordNumbers.new.Goals as goal
 
@@ -7,7 +7,7 @@ pub loop-field-preserved : goal.loop-field-preserved
 loop-field-preserved c =
     let pushed = c.in_ok-push.ensures.items in (
       omega (arith, ap length pushed, length-append c.loop-field.by_field.items (c.new.result ∷ []), c.loop-field.invariant.0),
-      λ f. subst (λ maps. get_or (map (λ m. m.entries) maps) f [] ≡ []) (sym pushed) (no-entries-push c.loop-field.by_field.items c.new.result c.new.ensures.empty c.loop-field.invariant.1 f),
+      λ f. subst (λ (all : List Entries). get_or all f [] ≡ []) (sym pushed) (no-entries-push c.loop-field.by_field.items c.new.result c.new.ensures c.loop-field.invariant.1 f),
     )
 
 pub returns-clause-empty : goal.returns-clause-empty

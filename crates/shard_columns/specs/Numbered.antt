@@ -1,0 +1,48 @@
+-- The words of a field with their numbers, found by how they begin.
+use Rattle.std.specs.Prelude.{◌≡◌, ◌≢◌, ℕ, List, ◌++◌, map, take, replicate, Option, Some, IsSome, String, string_bytes}
+use Rattle.std.specs.declared.alloc.Global.{Global}
+use Rattle.std.specs.List.{AllByRecursion}
+use Rattle.std.specs.Map.{lookup, keys_of}
+use Rattle.std.specs.BTreeMap.{is_at}
+use Rattle.std.specs.Ordering.{nat_cmp}
+use Rattle.std.specs.Int.{w128, from_be_bytes}
+use Rattle.std.specs.Cmp.Lexicographic.{slice_cmp}
+use Rattle.std.specs.List.Sorted.{IsStrictlySortedBy}
+use Rattle.shard_columns.specs.declared.field_words.Numbered.{Numbered}
+
+-- words with their numbers
+abbrev pub Entries : Type 0
+Entries = List (List ℕ × ℕ)
+
+-- the number of a word, if it has one
+abbrev pub number_in : Entries → List ℕ → Option ℕ
+number_in entries word = lookup (is_at (slice_cmp nat_cmp word)) entries
+
+-- the words without their numbers
+abbrev pub words_among : Entries → List (List ℕ)
+words_among entries = map (λ e. e.0) entries
+
+abbrev pub entry_of : Numbered → List ℕ × ℕ
+entry_of word = (word.text, word.number)
+
+-- these words with their numbers
+abbrev pub entries_of : List Numbered → Entries
+entries_of words = map entry_of words
+
+-- the first 16 bytes of a word, with zeros behind a shorter one, as a number whose first byte weighs most
+unfoldable pub beginning_of : List ℕ → ℕ
+beginning_of word = from_be_bytes w128 (take 16 (word ++ replicate 16 0))
+
+-- the words that stand at their beginnings
+abbrev pub first_entries : List (ℕ × Numbered) → Entries
+first_entries firsts = map (λ e. entry_of e.1) firsts
+
+-- the words that stand for themselves
+abbrev pub other_entries : List (String Global × ℕ) → Entries
+other_entries others = map (λ e. (string_bytes e.0, e.1)) others
+
+-- The words of one part stand at their beginnings, and those of the other begin like a different word of the first part.
+pub record IsIndexed (firsts : List (ℕ × Numbered)) (others : List (String Global × ℕ)) : Type 0 where
+  pub firsts_ascend : IsStrictlySortedBy nat_cmp (keys_of firsts)
+  pub begun : AllByRecursion (λ e. e.0 ≡ beginning_of e.1.text) firsts
+  pub apart : (w : List ℕ) → IsSome (number_in (other_entries others) w) → (first : Numbered) × ((lookup (is_at (nat_cmp (beginning_of w))) firsts ≡ Some first) × (first.text ≢ w))
