@@ -1,5 +1,5 @@
 -- Buckets are chosen by the numbers of their rows, one after another.
-use Rattle.std.specs.Prelude.{◌≡◌, ◌≤◌, ◌<◌, min, refl, ℕ, zero, suc, ℤ, ◌+◌, Bool, true, false, cond, nat_le, List, [], ◌∷◌, ◌++◌, map, filter, length, drop, slice_get, Some, sum_by}
+use Rattle.std.specs.Prelude.{◌≡◌, ◌≤◌, ◌<◌, min, refl, ℕ, zero, suc, ℤ, ◌+◌, true, false, cond, nat_le, List, [], ◌∷◌, ◌++◌, map, filter, length, drop, slice_get, Some, sum_by}
 use Rattle.std.proofs.Common.{sym, ◌∙◌, ap, arith, inl, inr, add-one, append_assoc}
 use Rattle.std.proofs.lemmas.Bool.Decides.{nat_tests}
 use Rattle.std.proofs.lemmas.List.{length-map}
@@ -13,7 +13,7 @@ use Rattle.agg_model.specs.declared.partial.Node.{Node}
 use Rattle.agg_evaluation.specs.Orders.{bucket_count}
 use Rattle.growing_tree.specs.CodedBuckets.{coded_bucket}
 use Rattle.growing_tree.specs.Frequent.{IsLeast, Suffices, frequent, has_rows}
-use Rattle.growing_tree.specs.Measures.{Measure, measures_from}
+use Rattle.growing_tree.specs.Measures.{measures_from}
 use Rattle.growing_tree.specs.Trees.{bucket_with, coded_with, measured_at, measured_buckets}
 use Rattle.growing_tree.specs.declared.coded.Coded.{Coded}
 use Rattle.growing_tree.proofs.Cuts.{drop-at}

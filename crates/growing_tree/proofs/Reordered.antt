@@ -1,14 +1,13 @@
 -- Buckets in the order of their codes are, sorted by key, what they are in the order in which their codes came.
-use Rattle.std.specs.Prelude.{◌≡◌, refl, ℕ, ℤ, ◌||◌, ◌++◌, Bool, true, false, not, cond, List, [], ◌∷◌, map, drop, slice_get, Some}
+use Rattle.std.specs.Prelude.{◌≡◌, refl, ℕ, ℤ, ◌||◌, ◌++◌, Bool, true, false, not, cond, List, [], ◌∷◌, map}
 use Rattle.std.specs.declared.cmp.Ordering.{Ordering}
 use Rattle.std.specs.declared.cmp.Ordering.TheVariants.{Less, Equal, Greater}
 use Rattle.std.specs.Cmp.{IsTotalOrder}
 use Rattle.std.specs.List.{IsDistinct, list_any}
 use Rattle.std.specs.Ordering.{int_eq, is_eq, is_le, ordering_reverse}
-use Rattle.std.proofs.Common.{sym, ◌∙◌, ap, ◌+◌, ⊎_elim, append_assoc}
+use Rattle.std.proofs.Common.{sym, ◌∙◌, ap, ⊎_elim, append_assoc}
 use Rattle.std.proofs.lemmas.Bool.{cases_Bool, true≢false, or_parts}
 use Rattle.std.proofs.lemmas.Cmp.{on_total}
-use Rattle.list_laws.proofs.Lists.{map-append}
 use Rattle.list_laws.proofs.StableSort.{above, at_most, weak}
 use Rattle.list_laws.specs.Sorting.{insert_sorted, sorted}
 use Rattle.agg_model.specs.declared.aggregation.Agg.{Agg}

@@ -1,19 +1,16 @@
-use Rattle.std.proofs.Common.{◌∙◌, sym, ap, subst, arith, ⊎_elim, ◌≡◌, ◌<◌, ◌++◌, ◌∷◌, [], List, ℤ, length, map, get_or}
+use Rattle.std.proofs.Common.{◌∙◌, sym, ap, subst, arith, ⊎_elim, ◌≡◌, ◌<◌, ◌++◌, ◌∷◌, [], List, length, map, get_or}
 use Rattle.std.specs.Prelude.{All, slice_get}
 use Rattle.std.proofs.lemmas.List.Elements.{All-push}
 use Rattle.list_laws.proofs.Lists.{map-append}
-use Rattle.agg_model.specs.declared.aggregation.Agg.{Agg, out-Agg}
+use Rattle.agg_model.specs.declared.aggregation.Agg.{out-Agg}
 use Rattle.agg_model.specs.declared.partial.Node.{Node}
-use Rattle.agg_model.specs.declared.partial.Node.TheVariants.{Keyed, Fixed, Number}
+use Rattle.agg_model.specs.declared.partial.Node.TheVariants.{Fixed, Number}
 use Rattle.agg_evaluation.specs.Whole.{empty_node}
 use Rattle.agg_evaluation.proofs.NodeForms.{out-Keyed, out-Fixed, out-Number}
-use Rattle.shard_columns.specs.Columns.{Columns}
 use Rattle.growing_tree.specs.Codes.{code_key}
 use Rattle.growing_tree.specs.Decoded.{decoded, decoded_children}
 use Rattle.growing_tree.specs.Shown.{AreEmpty, IsEmptyBucket}
-use Rattle.growing_tree.specs.Trees.{coded_buckets}
-use Rattle.growing_tree.specs.declared.ready.Ready.{Ready, out-Ready}
-use Rattle.growing_tree.specs.declared.tree.Growing.{Growing}
+use Rattle.growing_tree.specs.declared.ready.Ready.{out-Ready}
 use Rattle.growing_tree.proofs.Children.{child-begun, decoded-nil}
 use Rattle.growing_tree.proofs.Empties.{empty-level, fixed-empty}
 use Rattle.growing_tree.proofs.Levels.{decoded-out}

@@ -1,4 +1,4 @@
-use Rattle.std.proofs.Common.{◌≡◌, ◌∙◌, List, sym, ap, subst, map, sum_by}
+use Rattle.std.proofs.Common.{◌≡◌, ◌∙◌, sym, ap, subst, map, sum_by}
 use Rattle.agg_evaluation.specs.Orders.{bucket_count}
 use Rattle.growing_tree.specs.Frequent.{IsLeast}
 use Rattle.growing_tree.specs.Trees.{coded_buckets}

@@ -1,4 +1,4 @@
-use Rattle.std.proofs.Common.{◌≡◌, ◌≤◌, ◌∙◌, List, sym, ap, arith, subst, map, length, sum_by}
+use Rattle.std.proofs.Common.{◌≡◌, ◌∙◌, ap, arith, subst, map, length, sum_by}
 use Rattle.agg_model.specs.declared.partial.Node.TheVariants.{Number}
 use Rattle.agg_evaluation.specs.Orders.{bucket_count}
 use Rattle.growing_tree.specs.Frequent.{IsLeast}

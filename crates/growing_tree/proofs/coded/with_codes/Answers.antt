@@ -1,4 +1,4 @@
-use Rattle.std.proofs.Common.{◌≡◌, ◌<◌, ◌≤◌, ◌+◌, ◌∙◌, [], ◌∷◌, ◌++◌, List, true, false, sym, ap, arith, rules, length, map, drop, get_or, pos, w64, to_z, of_z}
+use Rattle.std.proofs.Common.{◌≡◌, ◌<◌, ◌≤◌, ◌+◌, ◌∙◌, [], ◌∷◌, ◌++◌, List, sym, ap, arith, rules, length, map, drop, get_or, pos, w64, to_z, of_z}
 use Rattle.std.specs.Global.{Vec}
 use Rattle.std.specs.Vec.Iter.{into_iter_items}
 use Rattle.std.proofs.lemmas.Int.{to_z-of_z}
@@ -7,7 +7,7 @@ use Rattle.list_laws.proofs.Lists.{append-nil}
 use Rattle.agg_model.specs.declared.key.Key.TheVariants as key
 use Rattle.agg_model.specs.declared.partial.Bucket.{Bucket}
 use Rattle.growing_tree.specs.CodedBuckets.{coded_bucket}
-use Rattle.growing_tree.specs.Frequent.{frequent, has_rows}
+use Rattle.growing_tree.specs.Frequent.{frequent}
 use Rattle.growing_tree.specs.Trees.{bucket_at, coded_buckets}
 use Rattle.growing_tree.specs.declared.coded.Coded.{Coded}
 use Rattle.growing_tree.proofs.Choosing.{coded-empty, coded-next, kept-less, kept-more, enough-rows, few-rows}

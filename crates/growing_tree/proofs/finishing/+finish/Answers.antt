@@ -2,12 +2,8 @@ use Rattle.std.proofs.Common.{◌≡◌, ◌<◌, ◌≤◌, ◌+◌, ◌∙◌,
 use Rattle.std.specs.Vec.Iter.{into_iter_items}
 use Rattle.std.proofs.lemmas.Int.{to_z-of_z}
 use Rattle.std.specs.Prelude.{sum_by}
-use Rattle.list_laws.proofs.Lists.{append-nil, map-map, sum_by-map}
-use Rattle.list_laws.specs.Sorting.{sorted}
-use Rattle.agg_evaluation.specs.Orders.{bucket_count, bucket_key}
-use Rattle.growing_tree.specs.declared.coded.Coded.{Coded}
-use Rattle.std.specs.List.{IsDistinct}
-use Rattle.std.specs.Ordering.{int_eq}
+use Rattle.list_laws.proofs.Lists.{append-nil}
+use Rattle.agg_evaluation.specs.Orders.{bucket_count}
 use Rattle.agg_model.specs.declared.aggregation.Agg.{out-Agg}
 use Rattle.agg_model.specs.declared.key.Key.TheVariants as key
 use Rattle.agg_model.specs.declared.partial.Bucket.{Bucket}
@@ -29,7 +25,6 @@ use Rattle.growing_tree.proofs.Codes.{codes-own}
 use Rattle.growing_tree.proofs.Cuts.{child-finished, drop-full, fixed-finished, keyed-finished, number-finished, numbered-more}
 use Rattle.growing_tree.proofs.Levels.{children-ready, level-ready}
 use Rattle.growing_tree.proofs.Frequents.{chosen-within, finished-rows, suffices-cut, terms-cut}
-use Rattle.growing_tree.specs.Grouped.{AreApart}
 use Rattle.growing_tree.proofs.Reordered.{finished-more, keys-apart}
 use Rattle.growing_tree.proofs.Steps.{item-at}
 use Rattle.growing_tree.proofs.finishing.+finish.Goals as goal

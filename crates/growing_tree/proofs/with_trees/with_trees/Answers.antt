@@ -1,4 +1,4 @@
-use Rattle.std.proofs.Common.{◌≡◌, ◌<◌, ◌≤◌, ◌+◌, ◌∙◌, [], ◌∷◌, ◌++◌, List, true, false, sym, ap, arith, rules, length, map, drop, get_or, pos, w64, to_z, of_z}
+use Rattle.std.proofs.Common.{◌≡◌, ◌<◌, ◌≤◌, ◌+◌, ◌∙◌, [], ◌∷◌, ◌++◌, List, sym, ap, arith, rules, length, map, drop, get_or, pos, w64, to_z, of_z}
 use Rattle.std.specs.Global.{Vec}
 use Rattle.std.proofs.lemmas.Int.{to_z-of_z}
 use Rattle.std.proofs.lemmas.Option.{slice_get-get_or}
@@ -8,11 +8,10 @@ use Rattle.agg_model.specs.declared.partial.Bucket.{Bucket}
 use Rattle.agg_model.specs.declared.partial.Node.TheVariants.{Number}
 use Rattle.growing_tree.specs.CodedBuckets.{coded_bucket}
 use Rattle.growing_tree.specs.Frequent.{frequent}
-use Rattle.growing_tree.specs.Measures.{Measure, measures_from, measures_of, metrics_at}
+use Rattle.growing_tree.specs.Measures.{measures_from, measures_of, metrics_at}
 use Rattle.growing_tree.specs.Trees.{measured_at, measured_buckets}
 use Rattle.growing_tree.specs.declared.coded.Coded.{Coded}
-use Rattle.growing_tree.proofs.Choosing.{coded-empty, coded-is, coded-next, enough-rows, few-rows, kept-less, kept-more, measures-next, none-behind}
-use Rattle.growing_tree.proofs.Cuts.{drop-full}
+use Rattle.growing_tree.proofs.Choosing.{coded-is, coded-next, enough-rows, few-rows, kept-less, kept-more, measures-next, none-behind}
 use Rattle.growing_tree.proofs.with_trees.with_trees.Goals as goal
 use Rattle.growing_tree.proofs.with_trees.with_trees.Goals.{then-counts-place+in_ok-trees_at+in_ok-push, else-counts-place}
 
