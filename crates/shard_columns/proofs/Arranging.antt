@@ -26,7 +26,7 @@ use Rattle.std.proofs.lemmas.Map.Keys.{IsDistinct-from_sorted, IsDistinct-cons, 
 use denote.Param.Members.{Mut}
 use denote.Ref.{Bor}
 use Rattle.shard_columns.specs.declared.field_words.Numbered.{Numbered}
-use Rattle.shard_columns.specs.Numbered.{Entries, number_in, words_among, entry_of, entries_of, beginning_of, first_entries, other_entries, IsIndexed}
+use Rattle.shard_columns.specs.Numbered.{Entries, number_in, words_among, entry_of, all_entries, beginning_of, first_entries, other_entries, IsIndexed}
 use Rattle.shard_columns.proofs.Beginnings.{Begun, first_of, number_if, number-append, number-first, number_if-other, is-it, itself}
 use Rattle.shard_columns.specs.Words.{AreApart, SameWords}
 
@@ -106,36 +106,36 @@ less-between v w up apart Less at = refl
 less-between v w up apart Equal at = absurd (cc (sym (ap is_eq at) ∙ apart))
 less-between v w up apart Greater at = absurd (cc (sym (ap is_lt (nat_list_cmp_total.antisymm w v ∙ ap ordering_reverse at)) ∙ up))
 
-pub rise-from_sorted : (words : List Numbered) → IsSortedBy by_text words → IsDistinct same_word (words_among (entries_of words)) → IsStrictlySortedBy (slice_cmp nat_cmp) (words_among (entries_of words))
+pub rise-from_sorted : (words : List Numbered) → IsSortedBy by_text words → IsDistinct same_word (words_among (all_entries words)) → IsStrictlySortedBy (slice_cmp nat_cmp) (words_among (all_entries words))
 rise-from_sorted words up distinct =
-    sorted_from_all_adjacent nat_list_cmp_total (words_among (entries_of words)) [] (λ k below.
-    let size : length (words_among (entries_of words)) ≡ length words = length-map (entries_of words) (λ (e : List ℕ × ℕ). e.0) ∙ length-map words entry_of in
-    less-between (get_or (words_among (entries_of words)) k []) (get_or (words_among (entries_of words)) (k + 1) [])
+    sorted_from_all_adjacent nat_list_cmp_total (words_among (all_entries words)) [] (λ k below.
+    let size : length (words_among (all_entries words)) ≡ length words = length-map (all_entries words) (λ (e : List ℕ × ℕ). e.0) ∙ length-map words entry_of in
+    less-between (get_or (words_among (all_entries words)) k []) (get_or (words_among (all_entries words)) (k + 1) [])
     (ap (λ (b : Bool). b) (text-at k (k + 1)) ∙ up k blank (omega arith) (omega (arith, below, size)))
-    (apart_from_distinct same_word (words_among (entries_of words)) k (k + 1) [] distinct (omega arith) below) _ refl)
+    (apart_from_distinct same_word (words_among (all_entries words)) k (k + 1) [] distinct (omega arith) below) _ refl)
   where
     blank : Numbered
     blank = record { text = []; number = 0 }
 
-    texts : (ws : List Numbered) (k : ℕ) → get_or (words_among (entries_of ws)) k [] ≡ (get_or ws k blank).text
+    texts : (ws : List Numbered) (k : ℕ) → get_or (words_among (all_entries ws)) k [] ≡ (get_or ws k blank).text
     texts [] k = refl
     texts (w ∷ ws) zero = refl
     texts (w ∷ ws) (suc k) = texts ws k
 
-    text-at : (j k : ℕ) → is_lt (slice_cmp nat_cmp (get_or (words_among (entries_of words)) k []) (get_or (words_among (entries_of words)) j [])) ≡ by_text (get_or words k blank) (get_or words j blank)
+    text-at : (j k : ℕ) → is_lt (slice_cmp nat_cmp (get_or (words_among (all_entries words)) k []) (get_or (words_among (all_entries words)) j [])) ≡ by_text (get_or words k blank) (get_or words j blank)
     text-at j k = (λ i. is_lt (slice_cmp nat_cmp (texts words k i) (texts words j i)))
 
 -- what a sort by the texts ensures
 pub rise-from_sort : {F : Type 0} {g : Mut F (Bor Numbered × (Bor Numbered × Unit {0})) Ordering} {f : F} (words : List Numbered) → IsSortedByClosure g f words →
     ((a : Bor Numbered × (Bor Numbered × Unit {0})) (r : Ordering) (f' : F) → Called g f a r f' → (r ≡ slice_cmp nat_cmp a.0.now.text a.1.0.now.text) × (f' ≡ f)) →
-    IsDistinct same_word (words_among (entries_of words)) → IsStrictlySortedBy (slice_cmp nat_cmp) (words_among (entries_of words))
+    IsDistinct same_word (words_among (all_entries words)) → IsStrictlySortedBy (slice_cmp nat_cmp) (words_among (all_entries words))
 rise-from_sort {g = g} {f = f} words up calls distinct =
     let compares : ComparesAs g by_text f = always_returns_same g (λ a r. is_lt r ≡ by_text a.0.now a.1.0.now) f (λ a r f' k. (ap is_lt (calls a r f' k).0, (calls a r f' k).1)) in
     rise-from_sorted words (up by_text (ranks_by nat_list_cmp_total (λ (n : Numbered). n.text)) compares) distinct
 
-pub distinct-moved : (es : Entries) (words : List Numbered) → IsPermutation es (entries_of words) → IsDistinct same_word (words_among es) → IsDistinct same_word (words_among (entries_of words))
+pub distinct-moved : (es : Entries) (words : List Numbered) → IsPermutation es (all_entries words) → IsDistinct same_word (words_among es) → IsDistinct same_word (words_among (all_entries words))
 distinct-moved es words moved distinct =
-    IsDistinct-IsPermutation same_word (eq_by_cmp_equiv nat_list_cmp_total).symm (words_among es) (words_among (entries_of words)) (IsPermutation-map (λ (e : List ℕ × ℕ). e.0) es (entries_of words) moved) distinct
+    IsDistinct-IsPermutation same_word (eq_by_cmp_equiv nat_list_cmp_total).symm (words_among es) (words_among (all_entries words)) (IsPermutation-map (λ (e : List ℕ × ℕ). e.0) es (all_entries words) moved) distinct
 
 -- words that are put in another order
 
@@ -183,12 +183,12 @@ arranged es fs moved strict =
       distinct = distinct;
     }
 
-pub arranged-words : (es : Entries) (words all : List Numbered) → all ≡ words → IsPermutation es (entries_of words) → IsStrictlySortedBy (slice_cmp nat_cmp) (words_among (entries_of words)) → AreArranged es (entries_of all)
-arranged-words es words all is moved strict = subst (λ (ws : List Numbered). AreArranged es (entries_of ws)) (sym is) (arranged es (entries_of words) moved strict)
+pub arranged-words : (es : Entries) (words all : List Numbered) → all ≡ words → IsPermutation es (all_entries words) → IsStrictlySortedBy (slice_cmp nat_cmp) (words_among (all_entries words)) → AreArranged es (all_entries all)
+arranged-words es words all is moved strict = subst (λ (ws : List Numbered). AreArranged es (all_entries ws)) (sym is) (arranged es (all_entries words) moved strict)
 
 -- those before a word, the word, and those behind it
-pub entries-next : (yielded rest : List Numbered) (word : Numbered) (all left : List Numbered) → all ≡ yielded ++ left → left ≡ word ∷ rest → entries_of all ≡ entries_of yielded ++ (word.text, word.number) ∷ entries_of rest
-entries-next yielded rest word all left is next = ap entries_of (is ∙ ap (λ (ws : List Numbered). yielded ++ ws) next) ∙ map-append entry_of yielded (word ∷ rest)
+pub entries-next : (yielded rest : List Numbered) (word : Numbered) (all left : List Numbered) → all ≡ yielded ++ left → left ≡ word ∷ rest → all_entries all ≡ all_entries yielded ++ (word.text, word.number) ∷ all_entries rest
+entries-next yielded rest word all left is next = ap all_entries (is ∙ ap (λ (ws : List Numbered). yielded ++ ws) next) ∙ map-append entry_of yielded (word ∷ rest)
 
 pub apart-arranged : (limit : ℕ) (es fs : Entries) → AreArranged es fs → AreApart limit es → AreApart limit fs
 apart-arranged limit es fs arranged apart = record {

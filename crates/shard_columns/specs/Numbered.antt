@@ -22,12 +22,13 @@ number_in entries word = lookup (is_at (slice_cmp nat_cmp word)) entries
 abbrev pub words_among : Entries → List (List ℕ)
 words_among entries = map (λ e. e.0) entries
 
+-- a word with its number
 abbrev pub entry_of : Numbered → List ℕ × ℕ
 entry_of word = (word.text, word.number)
 
--- these words with their numbers
-abbrev pub entries_of : List Numbered → Entries
-entries_of words = map entry_of words
+-- these words with their numbers, in their order
+abbrev pub all_entries : List Numbered → Entries
+all_entries words = map entry_of words
 
 -- the first 16 bytes of a word, with zeros behind a shorter one, as a number whose first byte weighs most
 unfoldable pub beginning_of : List ℕ → ℕ

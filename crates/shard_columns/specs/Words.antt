@@ -9,6 +9,7 @@ use Rattle.shard_columns.specs.declared.words.WordNumbers.{WordNumbers}
 use Rattle.shard_columns.specs.Numbered.{Entries, number_in, words_among}
 use Rattle.shard_columns.specs.Values.{Words, Reader, words_for, AllAmong, FieldsBelow}
 
+-- the words of a field with their numbers
 abbrev pub entries_of : WordNumbers → ℕ → Entries
 entries_of numbers field = slice_index_or numbers.by_field.items field []
 
@@ -16,6 +17,7 @@ entries_of numbers field = slice_index_or numbers.by_field.items field []
 abbrev pub number_of : WordNumbers → ℕ → List ℕ → Option ℕ
 number_of numbers field word = number_in (entries_of numbers field) word
 
+-- no word of any field has a number
 abbrev pub HasNone : WordNumbers → Type 0
 HasNone numbers = (field : ℕ) (word : List ℕ) → number_of numbers field word ≡ None
 

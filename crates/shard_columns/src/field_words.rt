@@ -5,7 +5,7 @@ ghost use Rattle.std.specs.Ordering.{nat_cmp};
 ghost use Rattle.std.specs.Cmp.Lexicographic.{slice_cmp};
 ghost use Rattle.std.specs.List.Sorted.{IsPermutation, IsStrictlySortedBy};
 ghost use Rattle.std.specs.Str.{bytes_eq};
-ghost use Rattle.shard_columns.specs.Numbered.{beginning_of, number_in, words_among, entries_of};
+ghost use Rattle.shard_columns.specs.Numbered.{beginning_of, number_in, words_among, all_entries};
 
 use agg_model::Text;
 use std::alloc::{AllocError, Global};
@@ -47,7 +47,7 @@ fn beginning_of(word: &str) -> u128
     ensures { result ≡ beginning_of word.now }
 {
     let bytes = word.as_bytes();
-    if let Some(first) = bytes.first_chunk::<16>() {
+    if let Some(first) = bytes.first_chunk::<BEGINNING>() {
         return u128::from_be_bytes(*first);
     }
     let mut padded = [0; BEGINNING];
@@ -115,8 +115,8 @@ impl FieldWords {
 
     /// The words themselves, ascending.
     pub fn into_sorted(self, alloc: Global) -> Result<Vec<Numbered>, AllocError>
-        ensures same { IfOk result (λ sorted. IsPermutation self (entries_of sorted.items)) }
-        ensures strict { IfOk result (λ sorted. IsStrictlySortedBy (slice_cmp nat_cmp) (words_among (entries_of sorted.items))) }
+        ensures same { IfOk result (λ sorted. IsPermutation self (all_entries sorted.items)) }
+        ensures strict { IfOk result (λ sorted. IsStrictlySortedBy (slice_cmp nat_cmp) (words_among (all_entries sorted.items))) }
     {
         let FieldWords { firsts, others } = self;
         let mut words = Vec::with_capacity(alloc, firsts.len() + others.len())?;
