@@ -1,15 +1,15 @@
 -- Ids that ascend, and the places of ids.
 use Rattle.std.proofs.Common.{◌≡◌, refl, zero, suc, ℕ, ◌<◌, ◌-◌, Bool, true, false, List, [], ◌∷◌, ◌++◌, length, take, get_or, set, Option, None, Some, Ok, Err, if◌then◌else◌, sym, ◌∙◌, ap, subst, arith}
-use Rattle.std.specs.Prelude.{Result, OnErr, OnOk, slice_get, cond}
-use Rattle.std.specs.BTreeMap.{BTreeMap}
+use Rattle.std.specs.Prelude.{Result, OnErr, OnOk, slice_get, cond, string_bytes}
+use Rattle.std.specs.BTreeMap.{BTreeMap, is_at}
 use Rattle.std.specs.Cmp.{IsTotalOrder}
-use Rattle.std.specs.Map.{update}
+use Rattle.std.specs.Map.{lookup, update}
 use Rattle.std.specs.declared.alloc.Global.{Global}
 use Rattle.std.specs.declared.string.String.{String}
-use Rattle.std.specs.Cmp.Lexicographic.{bytes_decides, nat_list_cmp_total}
+use Rattle.std.specs.Cmp.Lexicographic.{bytes_decides, nat_list_cmp_total, slice_cmp}
 use Rattle.std.specs.List.{list_all}
 use Rattle.std.specs.Option.{option_map, option_map_or}
-use Rattle.std.specs.Ordering.{is_lt}
+use Rattle.std.specs.Ordering.{is_lt, nat_cmp}
 use Rattle.std.specs.Str.{bytes_eq}
 use Rattle.std.specs.declared.cmp.Ordering.{Ordering}
 use Rattle.std.specs.declared.cmp.Ordering.TheVariants.{Less, Equal, Greater}
@@ -27,6 +27,10 @@ use Rattle.column_loading.specs.declared.slot.Slot.{Slot}
 pub either-way : {T E P Q R : Type 0} (result : Result T E) → OnOk result P → OnErr result Q → (P → R) → (Q → R) → R
 either-way (Ok x) p q one two = one p
 either-way (Err e) p q one two = two q
+
+-- the place of an id among the entries of a map
+abbrev pub place_among : List (String Global × ℕ) → List ℕ → Option ℕ
+place_among entries id = lookup (is_at (λ k. slice_cmp nat_cmp id (string_bytes k))) entries
 
 -- the ids of slots are those of what they stand for
 pub ids-are : (m : Mapping) (slots : List Slot) → ids (entries_of m slots) ≡ slot_ids slots

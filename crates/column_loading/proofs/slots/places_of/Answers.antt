@@ -1,10 +1,8 @@
 use Rattle.std.proofs.Common.{◌≡◌, ◌<◌, ◌+◌, ◌∷◌, [], ◌++◌, ℕ, List, None, Some, length, take, get_or, sym, ◌∙◌, ap, arith}
 use Rattle.std.specs.Prelude.{String, string_bytes}
 use Rattle.std.specs.declared.alloc.Global.{Global}
-use Rattle.std.specs.BTreeMap.{get_by_text, is_at}
-use Rattle.std.specs.Cmp.Lexicographic.{slice_cmp}
-use Rattle.std.specs.Map.{lookup, update}
-use Rattle.std.specs.Ordering.{nat_cmp}
+use Rattle.std.specs.BTreeMap.{get_by_text}
+use Rattle.std.specs.Map.{update}
 use Rattle.std.specs.Str.{bytes_eq}
 use Rattle.std.proofs.lemmas.List.{get_or-map, length-map, length-take}
 use Rattle.std.proofs.lemmas.Map.Text.{btree_map_updates_text}
@@ -13,11 +11,11 @@ use Rattle.shard_columns.proofs.Laying.{all-taken, take-next}
 use Rattle.column_loading.specs.Forms.{slots_in}
 use Rattle.column_loading.specs.Slots.{slot_at, slot_ids}
 use Rattle.column_loading.specs.declared.slot.Slot.{Slot}
-use Rattle.column_loading.proofs.Indexed.{behind-absent, front-all, none-placed, places-more}
+use Rattle.column_loading.proofs.Indexed.{behind-absent, front-all, none-placed, place_among, places-more}
 use Rattle.column_loading.proofs.slots.places_of.Goals as goal
 
 pub loop-place-init : goal.loop-place-init
-loop-place-init c = λ id. ap (λ (es : List (String Global × ℕ)). lookup (is_at (λ (k : String Global). slice_cmp nat_cmp id (string_bytes k))) es) c.new-places.ensures.empty ∙ sym (none-placed id)
+loop-place-init c = λ id. ap (λ (es : List (String Global × ℕ)). place_among es id) c.new-places.ensures.empty ∙ sym (none-placed id)
 
 pub loop-place-preserved : goal.loop-place-preserved
 loop-place-preserved c =

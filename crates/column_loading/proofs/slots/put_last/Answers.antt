@@ -1,16 +1,16 @@
 use Rattle.std.proofs.Common.{◌≡◌, ℕ, List, Some, [], ◌∷◌, ◌++◌, length, sym, ◌∙◌, ap, arith}
-use Rattle.std.specs.Prelude.{string_bytes}
+use Rattle.std.specs.Prelude.{String, string_bytes}
+use Rattle.std.specs.declared.alloc.Global.{Global}
 use Rattle.std.specs.BTreeMap.{get_by_text}
 use Rattle.std.specs.Map.{update}
 use Rattle.std.specs.Str.{bytes_eq}
 use Rattle.std.proofs.lemmas.List.{length-map, map-append}
 use Rattle.std.proofs.lemmas.Map.Text.{btree_map_updates_text}
 use Rattle.agg_documents.specs.Slots.{place_of}
-use Rattle.shard_columns.specs.Words.{Entries, number_in}
 use Rattle.column_loading.specs.Forms.{slots_in}
 use Rattle.column_loading.specs.Slots.{live_slot, slot_ids}
 use Rattle.column_loading.specs.declared.slot.Slot.{Slot}
-use Rattle.column_loading.proofs.Indexed.{none-placed, places-more}
+use Rattle.column_loading.proofs.Indexed.{none-placed, place_among, places-more}
 use Rattle.column_loading.proofs.slots.put_last.Goals as goal
 
 pub returns-clause-places : goal.returns-clause-places
@@ -28,4 +28,4 @@ returns-clause-places c =
     ∙ ap (place_of id) (sym more)
 
 pub returns-in_default-clause-places : goal.returns-in_default-clause-places
-returns-in_default-clause-places c = λ id. ap (λ (es : Entries). number_in es id) c.new-in_default.ensures.empty ∙ (sym (none-placed id) ∙ ap (λ (ss : List Slot). place_of id (slot_ids ss)) (sym c.new.ensures))
+returns-in_default-clause-places c = λ id. ap (λ (es : List (String Global × ℕ)). place_among es id) c.new-in_default.ensures.empty ∙ (sym (none-placed id) ∙ ap (λ (ss : List Slot). place_of id (slot_ids ss)) (sym c.new.ensures))
