@@ -14,8 +14,8 @@ ghost use Rattle.agg_bulk.specs.Loading.{loaded_of};
 
 use crate::sections::{Sections, load_sections};
 use agg_base::{Lines, Source};
-use agg_model::{Item, List};
 use agg_reading::IndexLine;
+use bulk_items::Items;
 use column_loading::Loading;
 use script_lines::ScriptFault;
 use shard_columns::Index;
@@ -26,7 +26,7 @@ use std::alloc::{AllocError, Global};
 pub struct LoadedIndex {
     pub index: Index,
     /// In the order of the actions.
-    pub items: List<Item>,
+    pub items: Items,
 }
 
 /// The index of what was loaded: its shards have the documents that the routings choose.

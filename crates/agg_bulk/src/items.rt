@@ -7,7 +7,8 @@ ghost use Rattle.agg_reading.specs.declared.parts.IndexLine.{IndexLine};
 ghost use Rattle.column_loading.specs.Loadings.{IsLoadingOf, store_of};
 ghost use Rattle.agg_bulk.specs.Loading.{loading_of};
 
-use agg_model::{Action, Copying, Item, ItemEnd, List, Mapping};
+use agg_model::{Action, Copying, ItemEnd, Mapping};
+use bulk_items::Items;
 use column_loading::Loading;
 use document_rows::{ItemFault, Scratch};
 use std::alloc::{AllocError, Global};
@@ -17,7 +18,7 @@ pub(crate) fn apply(
     alloc: Global,
     mapping: &Mapping,
     loading: &mut Loading,
-    items: &mut List<Item>,
+    items: &mut Items,
     action: Action,
     scratch: &mut Scratch,
 ) -> Result<(), AllocError>
@@ -36,6 +37,5 @@ pub(crate) fn apply(
         Err(ItemFault::Refused(refusal)) => ItemEnd::Refused(refusal),
         Err(ItemFault::Memory) => return Err(AllocError),
     };
-    items.push(Item { kind, id, end })?;
-    Ok(())
+    items.push(kind, id.as_str(), end)
 }

@@ -15,8 +15,9 @@ use crate::columns::columns_charge;
 use crate::end::LoadEnd;
 use crate::index::{LoadedIndex, load_index};
 use agg_base::{Lines, Source};
-use agg_model::{Item, List, Settings};
+use agg_model::Settings;
 use breaker_words::{Pass, Words};
+use bulk_items::Items;
 use script_lines::ScriptFault;
 use shard_columns::Index;
 use std::alloc::Global;
@@ -26,7 +27,7 @@ use std::alloc::Global;
 pub struct Loaded {
     pub index: Index,
     /// The items of the bulk actions, in their order.
-    pub items: List<Item>,
+    pub items: Items,
     pub words: Words,
     /// The one pass to the words. It holds the charge of the columns, and nothing else.
     pub pass: Pass,

@@ -20,8 +20,8 @@ use crate::items::apply;
 use agg_base::{Lines, Source};
 use agg_mapping::{MapFault, index_line_of};
 use agg_model::script_refusal::{BAD_INDEX_LINE, MISSING_SECTION};
-use agg_model::{Item, List};
 use agg_reading::IndexLine;
+use bulk_items::Items;
 use column_loading::Loading;
 use document_rows::Scratch;
 use script_lines::{ScriptFault, ScriptRefusal, is_empty_line, refused_here, take_line};
@@ -34,7 +34,7 @@ pub struct Sections {
     /// The documents that the bulk actions leave, on their way into columns.
     pub loading: Loading,
     /// The items of the bulk actions, in their order.
-    pub items: List<Item>,
+    pub items: Items,
 }
 
 /// Reads the index line.
@@ -107,7 +107,7 @@ fn bulk_actions<S: Source>(
 {
     let mut scratch = Scratch::new(alloc);
     let mut loading = Loading::new(alloc, &index.mapping, index.shards)?;
-    let mut items = List::new(alloc);
+    let mut items = Items::new(alloc);
     while let Some(action) = next_action(
         alloc,
         lines,

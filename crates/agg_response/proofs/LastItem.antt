@@ -1,5 +1,5 @@
 -- The last item of a list, by its place.
-use Rattle.std.specs.Prelude.{◌≡◌, refl, ℕ, ◌-◌, List, [], ◌∷◌, length, Some, None, slice_get}
+use Rattle.std.specs.Prelude.{◌≡◌, refl, ◌-◌, List, [], ◌∷◌, length, Some, None, slice_get}
 use Rattle.std.specs.List.{last_or}
 use Rattle.std.proofs.Common.{◌∙◌, ap, sym, arith}
 

@@ -1,14 +1,16 @@
 //! The line that answers bulk actions.
-ghost use Rattle.std.specs.Prelude.{◌≡◌, ◌++◌, ◌∷◌, [], IfOk, OnOk, codes, map, false, true};
+ghost use Rattle.std.specs.Prelude.{◌≡◌, ◌++◌, ◌∷◌, ◌<◌, [], IfOk, OnOk, codes, length, map, false, true};
 ghost use Rattle.std.specs.List.{list_any};
 ghost use Rattle.serde_json.specs.Data.{string, boolean};
 ghost use Rattle.agg_spec.specs.Json.{object_of, count};
 ghost use Rattle.agg_spec.specs.BulkLine as definition;
+ghost use Rattle.bulk_items.specs.Items.{end_of, item_at};
 ghost use Rattle.agg_response.specs.Tokens.{Adds, member_tokens, value_tokens, values_tokens};
 
 use crate::values::{Object, flag_value};
 use agg_model::item_refusal::{INDEX_FULL, STRICT_MAPPING, VERSION_CONFLICT};
-use agg_model::{ActionKind, Applied, Item, ItemEnd, ItemRefusal, List, Text};
+use agg_model::{ActionKind, Applied, ItemRefusal, Text};
+use bulk_items::{EndView, Items};
 use json::Writer;
 use std::alloc::{AllocError, Global};
 
@@ -61,11 +63,11 @@ fn refusal_status(number: u8) -> u64
 }
 
 /// Whether an item was refused.
-fn has_refusal(items: &List<Item>) -> bool
+fn has_refusal(items: &Items) -> bool
     ensures { result ≡ list_any (λ i. definition.is_refusal i.end) items.now }
 {
-    for item in items.as_slice() {
-        if let ItemEnd::Refused(_) = item.end {
+    for place in 0..items.len() {
+        if let EndView::Refused(_) = items.end(place) {
             return true;
         }
     }
@@ -115,16 +117,16 @@ fn write_error(out: &mut Writer, refusal: &ItemRefusal) -> Result<(), AllocError
 }
 
 /// Writes how an item ended, behind the members that say which item it is.
-fn write_end(out: &mut Writer, end: &ItemEnd) -> Result<(), AllocError>
-    ensures { OnOk result (Adds out.old out.new (member_tokens (definition.end_members end.now))) }
+fn write_end(out: &mut Writer, end: EndView) -> Result<(), AllocError>
+    ensures { OnOk result (Adds out.old out.new (member_tokens (definition.end_members (end_of end.entry)))) }
 {
     match end {
-        ItemEnd::Applied(applied) => {
-            write_text(out, "result", applied_name(*applied))?;
-            write_count(out, "status", applied_status(*applied))?;
+        EndView::Applied(applied) => {
+            write_text(out, "result", applied_name(applied))?;
+            write_count(out, "status", applied_status(applied))?;
             Ok(())
         }
-        ItemEnd::Refused(refusal) => {
+        EndView::Refused(refusal) => {
             out.key("error")?;
             write_error(out, refusal)?;
             write_count(out, "status", refusal_status(refusal.number))?;
@@ -133,27 +135,28 @@ fn write_end(out: &mut Writer, end: &ItemEnd) -> Result<(), AllocError>
     }
 }
 
-/// Writes one item.
-fn write_item(out: &mut Writer, index: &Text, item: &Item) -> Result<(), AllocError>
-    ensures { OnOk result (Adds out.old out.new (value_tokens (definition.item_value index.now item.now))) }
+/// Writes the item at a place.
+fn write_item(out: &mut Writer, index: &Text, items: &Items, place: usize) -> Result<(), AllocError>
+    requires { place < length items.now }
+    ensures { OnOk result (Adds out.old out.new (value_tokens (definition.item_value index.now (item_at items.now place)))) }
 {
     out.begin_object()?;
-    out.key(action_name(item.kind))?;
+    out.key(action_name(items.kind(place)))?;
     out.begin_object()?;
-    write_text(out, "_id", item.id.as_str())?;
+    write_text(out, "_id", items.id(place))?;
     write_text(out, "_index", index.as_str())?;
-    write_end(out, &item.end)?;
+    write_end(out, items.end(place))?;
     out.end_object()?;
     out.end_object()?;
     Ok(())
 }
 
 /// Writes all items and the bracket behind them.
-fn write_items(out: &mut Writer, index: &Text, items: &List<Item>) -> Result<(), AllocError>
+fn write_items(out: &mut Writer, index: &Text, items: &Items) -> Result<(), AllocError>
     ensures { OnOk result (Adds out.old out.new (values_tokens (map (definition.item_value index.now) items.now))) }
 {
-    for item in items.as_slice() {
-        write_item(out, index, item)?;
+    for place in 0..items.len() {
+        write_item(out, index, items, place)?;
     }
     out.end_array()?;
     Ok(())
@@ -161,7 +164,7 @@ fn write_items(out: &mut Writer, index: &Text, items: &List<Item>) -> Result<(),
 
 /// Writes the line with all the items. An input has up to 1,048,576 items, so they are written one after another, and
 /// there is never a value of them all.
-fn write_line(out: &mut Writer, index: &Text, items: &List<Item>) -> Result<(), AllocError>
+fn write_line(out: &mut Writer, index: &Text, items: &Items) -> Result<(), AllocError>
     ensures { OnOk result (Adds out.old out.new (value_tokens (object_of (
         (codes "errors", boolean (list_any (λ i. definition.is_refusal i.end) items.now))
         ∷ (codes "items", definition.items_value index.now items.now false) ∷ (codes "took", count 0) ∷ [])))) }
@@ -178,7 +181,7 @@ fn write_line(out: &mut Writer, index: &Text, items: &List<Item>) -> Result<(), 
 }
 
 /// The line with all the items.
-fn listed(alloc: Global, index: &Text, items: &List<Item>) -> Result<Text, AllocError>
+fn listed(alloc: Global, index: &Text, items: &Items) -> Result<Text, AllocError>
     ensures { IfOk result (λ t. t ≡ definition.bulk_line index.now items.now false) }
 {
     let mut out = Writer::new(Vec::new(alloc));
@@ -190,7 +193,7 @@ fn listed(alloc: Global, index: &Text, items: &List<Item>) -> Result<Text, Alloc
 }
 
 /// The line with the number of the items.
-fn counted(alloc: Global, index: &Text, items: &List<Item>) -> Result<Text, AllocError>
+fn counted(alloc: Global, index: &Text, items: &Items) -> Result<Text, AllocError>
     ensures { IfOk result (λ t. t ≡ definition.bulk_line index.now items.now true) }
 {
     Object::new(alloc)
@@ -206,7 +209,7 @@ fn counted(alloc: Global, index: &Text, items: &List<Item>) -> Result<Text, Allo
 pub fn bulk_line(
     alloc: Global,
     index: &Text,
-    items: &List<Item>,
+    items: &Items,
     generated: bool,
 ) -> Result<Text, AllocError>
     ensures { IfOk result (λ t. t ≡ definition.bulk_line index.now items.now generated) }

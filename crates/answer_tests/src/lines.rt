@@ -1,34 +1,27 @@
 //! The lines that the program prints.
 use agg_model::{
-    ActionKind, Applied, BreakerStats, Failure, Item, ItemEnd, ItemRefusal, List, Refused, Text,
+    ActionKind, Applied, BreakerStats, Failure, ItemEnd, ItemRefusal, List, Refused, Text,
     Totals, Tripped, Usage, Which,
 };
 use agg_response::{
     bulk_line, exception, refusal, script_line, settings_line, stats_line, usage_line,
 };
+use bulk_items::Items;
 use std::alloc::{AllocError, Global};
 use std::test::Fail;
 
-fn item(alloc: Global, kind: ActionKind, id: &str, end: ItemEnd) -> Result<Item, AllocError> {
-    Ok(Item {
-        kind,
-        id: Text::of(alloc, id)?,
-        end,
-    })
-}
-
 /// A create, the same again, and the delete of an id that is not there.
-fn items(alloc: Global) -> Result<List<Item>, AllocError> {
+fn items(alloc: Global) -> Result<Items, AllocError> {
     let refused = ItemEnd::Refused(ItemRefusal {
         number: 26,
         path: Text::of(alloc, "")?,
     });
     let created = ItemEnd::Applied(Applied::Created);
     let missing = ItemEnd::Applied(Applied::NotFound);
-    let mut items = List::new(alloc);
-    items.push(item(alloc, ActionKind::Create, "1", created)?)?;
-    items.push(item(alloc, ActionKind::Create, "1", refused)?)?;
-    items.push(item(alloc, ActionKind::Delete, "9", missing)?)?;
+    let mut items = Items::new(alloc);
+    items.push(ActionKind::Create, "1", created)?;
+    items.push(ActionKind::Create, "1", refused)?;
+    items.push(ActionKind::Delete, "9", missing)?;
     Ok(items)
 }
 

@@ -1,7 +1,8 @@
 //! The first two sections of a script, loaded or refused.
 use agg_base::{Block, Lines, MemorySource};
 use agg_bulk::{LoadEnd, load, load_sections};
-use agg_model::{Applied, Bytes, ItemEnd, Limits, List as Numbers, Settings, Which};
+use agg_model::{Applied, Bytes, Limits, List as Numbers, Settings, Which};
+use bulk_items::EndView;
 use script_lines::ScriptFault;
 use std::alloc::Global;
 use std::test::Fail;
@@ -60,13 +61,13 @@ const INDEX: &[u8] =
     b"{\"index\":\"i\",\"mappings\":{\"properties\":{\"b\":{\"type\":\"boolean\"},\"n\":{\"type\":\"byte\"},\"t\":{\"type\":\"keyword\"}}},\"settings\":{\"number_of_shards\":2}}\n\n";
 
 /// How an item ended: `c` created, `u` updated, `d` deleted, `n` nothing found, `r` refused.
-fn letter_of(end: &ItemEnd) -> u8 {
+fn letter_of(end: EndView) -> u8 {
     match end {
-        ItemEnd::Applied(Applied::Created) => b'c',
-        ItemEnd::Applied(Applied::Updated) => b'u',
-        ItemEnd::Applied(Applied::Deleted) => b'd',
-        ItemEnd::Applied(Applied::NotFound) => b'n',
-        ItemEnd::Refused(_refusal) => b'r',
+        EndView::Applied(Applied::Created) => b'c',
+        EndView::Applied(Applied::Updated) => b'u',
+        EndView::Applied(Applied::Deleted) => b'd',
+        EndView::Applied(Applied::NotFound) => b'n',
+        EndView::Refused(_refusal) => b'r',
     }
 }
 
@@ -100,8 +101,8 @@ fn loaded(alloc: Global, bulk: &[u8], fielddata: u64) -> Result<(Vec<u8>, u64), 
     let mut ends = Vec::new(alloc);
     match load(alloc, &mut lines, &settings_of(fielddata)) {
         Ok(loaded) => {
-            for item in loaded.items.as_slice() {
-                ends.push(letter_of(&item.end))?;
+            for place in 0..loaded.items.len() {
+                ends.push(letter_of(loaded.items.end(place)))?;
             }
             Ok((ends, loaded.pass.hold(Which::Fielddata)))
         }

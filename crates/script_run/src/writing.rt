@@ -10,8 +10,9 @@ ghost use Rattle.script_answers.specs.Puts.{Puts};
 
 use agg_base::Sink;
 use agg_listen::{Audience, Listener};
-use agg_model::{Item, List, Text, Tripped, Usage};
+use agg_model::{List, Text, Tripped, Usage};
 use agg_response::{bulk_line, exception, usage_line};
+use bulk_items::Items;
 use script_answers::{Stop, write_line};
 use std::alloc::Global;
 
@@ -21,7 +22,7 @@ pub(crate) fn write_items<K: Sink, L: Listener>(
     sink: &mut K,
     audience: &mut Audience<L>,
     index: &Text,
-    items: &List<Item>,
+    items: &Items,
     generated: bool,
 ) -> Result<(), Stop>
     ensures puts { Puts

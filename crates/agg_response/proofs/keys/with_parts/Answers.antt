@@ -1,5 +1,5 @@
 -- Part after part is put, until there is no source or no key left.
-use Rattle.std.proofs.Common.{◌≡◌, ◌∷◌, ◌+◌, ◌∙◌, sym, ap, drop}
+use Rattle.std.proofs.Common.{◌+◌, ◌∙◌, sym, ap, drop}
 use Rattle.std.specs.Prelude.{option_copied}
 use Rattle.serde_json.specs.View.{view, members_view}
 use Rattle.agg_model.specs.declared.key.Key.{Key}

@@ -1,11 +1,9 @@
-use Rattle.std.proofs.Common.{◌≡◌, ◌<◌, ◌∙◌, Option, ap, arith, sym}
+use Rattle.std.proofs.Common.{◌≡◌, ◌∙◌, Option, ap, arith, sym}
 use Rattle.std.specs.Option.{option_copied}
-use Rattle.agg_model.specs.declared.bulk.Applied.{Applied}
 use Rattle.agg_model.specs.declared.bulk.Item.{Item}
-use Rattle.agg_model.specs.declared.bulk.ItemEnd.{ItemEnd}
 use Rattle.agg_model.specs.declared.bulk.ItemRefusal.{ItemRefusal}
-use Rattle.bulk_items.specs.Items.{end_in, item_at, refusal_in, start_at}
-use Rattle.bulk_items.proofs.Keeping.{IsItemAt, item-in, place-low}
+use Rattle.bulk_items.specs.Items.{end_in, item_at, refusal_in}
+use Rattle.bulk_items.proofs.Keeping.{item-in, place-low}
 use Rattle.bulk_items.proofs.items.Items.end.Goals as goal
 use Rattle.bulk_items.proofs.items.Items.end.Goals.{After-get}
 
