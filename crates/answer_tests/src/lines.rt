@@ -1,7 +1,7 @@
 //! The lines that the program prints.
 use agg_model::{
-    ActionKind, Applied, BreakerStats, Failure, ItemEnd, ItemRefusal, List, Refused, Text,
-    Totals, Tripped, Usage, Which,
+    ActionKind, Applied, BreakerStats, Failure, ItemEnd, ItemRefusal, List, Refused, Text, Totals,
+    Tripped, Usage, Which,
 };
 use agg_response::{
     bulk_line, exception, refusal, script_line, settings_line, stats_line, usage_line,
