@@ -1,0 +1,2 @@
+-- What is said of texts behind one another.
+pub mod Pieces
