@@ -1,5 +1,5 @@
 //! Byte strings behind one another.
-ghost use Rattle.std.specs.Prelude.{◌≡◌, ◌++◌, ◌∷◌, ◌<◌, [], Some, OnErr, OnOk, length, option_map, slice_get, sum_by};
+ghost use Rattle.std.specs.Prelude.{◌≡◌, ◌++◌, ◌∷◌, ◌<◌, [], Some, OnErr, OnOk, length, option_map, slice_get, sum_by, take};
 
 use std::alloc::{AllocError, Global};
 use std::marker::Model;
@@ -48,8 +48,10 @@ impl PackedBytes {
         self.bytes.len() as u64
     }
 
-    // Where the one at this place begins.
+    // Where the one at this place begins: behind those before it.
     fn start(&self, place: usize) -> usize
+        requires { place < length self.now }
+        ensures { result ≡ sum_by length (take place self.now) }
     {
         match place.checked_sub(1) {
             Some(before) => self.ends[before] as usize,
