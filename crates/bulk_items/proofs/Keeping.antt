@@ -1,136 +1,136 @@
--- Ids of items behind one another.
-use Rattle.std.proofs.Common.{◌≡◌, refl, zero, suc, ℕ, ◌+◌, ◌<◌, ◌≤◌, List, [], ◌∷◌, ◌++◌, length, get_or, drop, Option, sym, ◌∙◌, ap, subst, arith, length-append}
-use Rattle.std.specs.List.{slice_range}
-use Rattle.std.specs.Str.{IsUtf8}
-use Rattle.std.proofs.lemmas.List.{take-append-le, drop_at}
-use Rattle.std.proofs.lemmas.Slice.{between_is, between_to_end}
+-- Items by their ids and marks.
+use Rattle.std.proofs.Common.{◌≡◌, refl, zero, suc, ℕ, ◌<◌, List, [], ◌∷◌, ◌++◌, length, get_or, Option, None, Some, IsSome, sym, ◌∙◌, ap, subst, arith, length-append}
+use Rattle.std.specs.List.{slice_get}
+use Rattle.std.specs.Option.{unwrap_or}
+use Rattle.std.proofs.lemmas.Bool.{false≢true}
+use Rattle.std.proofs.lemmas.Option.{get_or_from_slice_get}
+use Rattle.agg_model.specs.declared.bulk.Applied.{Applied}
 use Rattle.agg_model.specs.declared.bulk.Item.{Item}
 use Rattle.agg_model.specs.declared.bulk.ItemEnd.{ItemEnd}
+use Rattle.agg_model.specs.declared.bulk.ItemEnd.TheVariants as end
 use Rattle.agg_model.specs.declared.bulk.ItemRefusal.{ItemRefusal}
-use Rattle.bulk_items.specs.Items.{AreLaid, IsLaid, end_in, item_in, item_of, items_from, start_at}
+use Rattle.bulk_items.specs.Items.{AreKept, HaveEnded, end_in, item_in, item_of, items_of, no_item}
 use Rattle.bulk_items.specs.declared.items.Mark.{Mark}
 
--- a part of a list stays when the list grows
-range-stays : {X : Type 0} (xs ys : List X) (a b : ℕ) → b ≤ length xs → slice_range (xs ++ ys) a b ≡ slice_range xs a b
-range-stays xs ys a b within = between_is (xs ++ ys) a b ∙ (ap (λ zs. drop a zs) (take-append-le b xs ys within) ∙ sym (between_is xs a b))
+length-of : (refusal : ℕ → Option ItemRefusal) (ids : List (List ℕ)) (marks : List Mark) → length ids ≡ length marks → length (items_of refusal ids marks) ≡ length marks
+unfolding items_of
+length-of refusal [] marks paired = paired
+length-of refusal (id ∷ ids) [] paired = refl
+length-of refusal (id ∷ ids) (m ∷ ms) paired = ap suc (length-of (λ place. refusal (suc place)) ids ms (omega (arith, paired)))
 
--- what was put behind a list is its last part
-range-seam : {X : Type 0} (xs ys : List X) (n : ℕ) → n ≡ length (xs ++ ys) → slice_range (xs ++ ys) (length xs) n ≡ ys
-range-seam xs ys n is = between_to_end (xs ++ ys) (length xs) n (omega (arith, is)) ∙ drop_at xs ys (length xs) refl
+item-from : (refusal : ℕ → Option ItemRefusal) (ids : List (List ℕ)) (marks : List Mark) (n : ℕ) (id : List ℕ) (mark : Mark) (default : Item) → length ids ≡ length marks → n < length marks →
+    get_or (items_of refusal ids marks) n default ≡ item_in (refusal n) (get_or ids n id) (get_or marks n mark)
+unfolding items_of
+item-from refusal [] marks n id mark default paired low = absurd (omega (arith, paired, low))
+item-from refusal (i ∷ ids) [] n id mark default paired low = absurd (omega (arith, low))
+item-from refusal (i ∷ ids) (m ∷ ms) zero id mark default paired low = refl
+item-from refusal (i ∷ ids) (m ∷ ms) (suc n) id mark default paired low = item-from (λ place. refusal (suc place)) ids ms n id mark default (omega (arith, paired)) (omega (arith, low))
 
-within : (bytes : List ℕ) (start : ℕ) (marks : List Mark) → AreLaid bytes start marks → start ≤ length bytes
-unfolding AreLaid
-within bytes start [] laid = omega (arith, laid)
-within bytes start (m ∷ ms) laid =
-    let ordered = laid.0.ordered in
-    omega (arith, ordered, within bytes m.end ms laid.1)
-
-pub length-items : (bytes : List ℕ) (refusal : ℕ → Option ItemRefusal) (place start : ℕ) (marks : List Mark) → length (items_from bytes refusal place start marks) ≡ length marks
-unfolding items_from
-length-items bytes refusal place start [] = refl
-length-items bytes refusal place start (m ∷ ms) = ap suc (length-items bytes refusal (suc place) m.end ms)
-
--- ---- one more item
-
--- its id lies behind all the bytes
-pub record IsNext (bytes id : List ℕ) (mark : Mark) : Type 0 where
-  pub ends : mark.end ≡ length (bytes ++ id)
-  pub text : IsUtf8 id
-
-module _ (bytes id : List ℕ) where
-  abbrev more : List ℕ
-  more = bytes ++ id
-
-  module _ (mark : Mark) (next : IsNext bytes id mark) (start : ℕ) (here : start ≡ length bytes) where
-    id-is : slice_range more start mark.end ≡ id
-    id-is = (λ i. slice_range more (here i) (next.ends i)) ∙ range-seam bytes id (length more) refl
-
-    item-is : (refusal : Option ItemRefusal) (end : ItemEnd) → end_in refusal mark.applied ≡ end → item_in more refusal start mark ≡ item_of mark.kind id end
-    item-is refusal end is = λ i. item_of mark.kind (id-is i) (is i)
-
-    laid-last : IsLaid more start mark
-    laid-last =
-        let ends = next.ends in
-        record { ordered = omega (arith, here, ends, length-append bytes id); text = subst IsUtf8 (sym id-is) next.text }
-
-  item-stays : (start : ℕ) (m : Mark) (before after : Option ItemRefusal) → m.end ≤ length bytes → after ≡ before → item_in more after start m ≡ item_in bytes before start m
-  item-stays start m before after low same = λ i. item_of m.kind (range-stays bytes id start m.end low i) (end_in (same i) m.applied)
-
-  laid-stays : (start : ℕ) (m : Mark) → IsLaid bytes start m → m.end ≤ length bytes → IsLaid more start m
-  laid-stays start m laid low = record { ordered = laid.ordered; text = subst IsUtf8 (sym (range-stays bytes id start m.end low)) laid.text }
-
-  -- the ids before it stay, and it is the last
-  pub laid-push : (start : ℕ) (marks : List Mark) (mark : Mark) → AreLaid bytes start marks → IsNext bytes id mark → AreLaid more start (marks ++ mark ∷ [])
-  unfolding AreLaid
-  laid-push start [] mark laid next = (laid-last mark next start laid, next.ends)
-  laid-push start (m ∷ ms) mark laid next = (laid-stays start m laid.0 (within bytes m.end ms laid.1), laid-push m.end ms mark laid.1 next)
-
-  pub items-push : (before after : ℕ → Option ItemRefusal) (end : ItemEnd) (place start : ℕ) (marks : List Mark) (mark : Mark) → AreLaid bytes start marks → IsNext bytes id mark →
-      ((j : ℕ) → j < place + length marks → after j ≡ before j) → end_in (after (place + length marks)) mark.applied ≡ end →
-      items_from more after place start (marks ++ mark ∷ []) ≡ items_from bytes before place start marks ++ item_of mark.kind id end ∷ []
-  unfolding AreLaid items_from
-  items-push before after end place start [] mark laid next same last =
-      let here : place ≡ place + 0 = omega arith in
-      ap (λ (t : Item). t ∷ []) (item-is mark next start laid (after place) end (ap (λ (k : ℕ). end_in (after k) mark.applied) here ∙ last))
-  items-push before after end place start (m ∷ ms) mark laid next same last =
-      let step : suc place + length ms ≡ place + suc (length ms) = omega arith in
-      let first = item-stays start m (before place) (after place) (within bytes m.end ms laid.1) (same place (omega arith)) in
-      let rest = items-push before after end (suc place) m.end ms mark laid.1 next (λ j low. same j (omega (arith, low))) (ap (λ (k : ℕ). end_in (after k) mark.applied) step ∙ last) in
-      λ i. first i ∷ rest i
+ended-from : (refusal : ℕ → Option ItemRefusal) (marks : List Mark) (n : ℕ) (mark : Mark) → HaveEnded refusal marks → n < length marks → IsSome (end_in (get_or marks n mark).applied (refusal n))
+unfolding HaveEnded
+ended-from refusal [] n mark ended low = absurd (omega (arith, low))
+ended-from refusal (m ∷ ms) zero mark ended low = ended.0
+ended-from refusal (m ∷ ms) (suc n) mark ended low = ended-from (λ place. refusal (suc place)) ms n mark ended.1 (omega (arith, low))
 
 -- ---- the item at a place
 
-pub record IsItemAt (bytes : List ℕ) (refusal : Option ItemRefusal) (items : List Item) (n start : ℕ) (mark : Mark) : Type 0 where
-  pub laid : IsLaid bytes start mark
-  pub inside : mark.end ≤ length bytes
-  pub item : (default : Item) → get_or items n default ≡ item_in bytes refusal start mark
+module _ (refusal : ℕ → Option ItemRefusal) (ids : List (List ℕ)) (marks : List Mark) (kept : AreKept refusal ids marks) (items : List Item) (view : items_of refusal ids marks ≡ items) where
+  pub length-is : length items ≡ length marks
+  length-is = ap (λ (ts : List Item). length ts) (sym view) ∙ length-of refusal ids marks kept.paired
 
-item-from : (bytes : List ℕ) (refusal : ℕ → Option ItemRefusal) (place start : ℕ) (marks : List Mark) (n : ℕ) (mark : Mark) → AreLaid bytes start marks → n < length marks → mark ≡ get_or marks n mark →
-    IsItemAt bytes (refusal (place + n)) (items_from bytes refusal place start marks) n (start_at start marks n) mark
-unfolding AreLaid items_from start_at
-item-from bytes refusal place start [] n mark laid low at = absurd (omega (arith, low))
-item-from bytes refusal place start (m ∷ ms) zero mark laid low at =
-    let here : place ≡ place + 0 = omega arith in
-    subst (λ (q : Mark). IsItemAt bytes (refusal (place + 0)) (items_from bytes refusal place start (m ∷ ms)) 0 start q) (sym at)
-    (subst (λ (r : Option ItemRefusal). IsItemAt bytes r (items_from bytes refusal place start (m ∷ ms)) 0 start m) (ap refusal here)
-    (record { laid = laid.0; inside = within bytes m.end ms laid.1; item = λ default. refl }))
-item-from bytes refusal place start (m ∷ ms) (suc n) mark laid low at =
-    let rest = item-from bytes refusal (suc place) m.end ms n mark laid.1 (omega (arith, low)) at in
-    let step : suc place + n ≡ place + suc n = omega arith in
-    record { laid = rest.laid; inside = rest.inside; item = λ default. rest.item default ∙ ap (λ (k : ℕ). item_in bytes (refusal k) (start_at m.end ms n) mark) step }
+  module _ (n : ℕ) (low : n < length items) where
+    place-low : n < length marks
+    place-low = omega (arith, low, length-is)
 
-item-first : (bytes : List ℕ) (refusal : ℕ → Option ItemRefusal) (marks : List Mark) (n : ℕ) (mark : Mark) → AreLaid bytes 0 marks → n < length marks → mark ≡ get_or marks n mark →
-    IsItemAt bytes (refusal n) (items_from bytes refusal 0 0 marks) n (start_at 0 marks n) mark
-item-first bytes refusal marks n mark laid low at =
-    let here : 0 + n ≡ n = omega arith in
-    subst (λ (k : ℕ). IsItemAt bytes (refusal k) (items_from bytes refusal 0 0 marks) n (start_at 0 marks n) mark) here (item-from bytes refusal 0 0 marks n mark laid low at)
+    pub id-at : (id : List ℕ) (default : Item) → slice_get ids n ≡ Some id → (get_or items n default).id ≡ id
+    id-at id default at =
+        let mark : Mark = record { kind = no_item.kind; applied = None } in
+        ap (λ (ts : List Item). (get_or ts n default).id) (sym view) ∙ (ap (λ (t : Item). t.id) (item-from refusal ids marks n id mark default kept.paired place-low) ∙ get_or_from_slice_get ids n id id at)
 
-module _ (bytes : List ℕ) (refusal : ℕ → Option ItemRefusal) (marks : List Mark) (items : List Item) (view : items_from bytes refusal 0 0 marks ≡ items) (n : ℕ) (low : n < length items) where
-  -- a place of an item is that of a mark
-  pub place-low : n < length marks
-  place-low = omega (arith, low, length-items bytes refusal 0 0 marks, ap (λ (ts : List Item). length ts) view)
+    module _ (mark : Mark) (at : mark ≡ get_or marks n mark) (default : Item) where
+      pub kind-at : (get_or items n default).kind ≡ mark.kind
+      kind-at = ap (λ (ts : List Item). (get_or ts n default).kind) (sym view) ∙ (ap (λ (t : Item). t.kind) (item-from refusal ids marks n [] mark default kept.paired place-low) ∙ sym (ap (λ (m : Mark). m.kind) at))
 
-  pub item-in : (mark : Mark) → AreLaid bytes 0 marks → mark ≡ get_or marks n mark → IsItemAt bytes (refusal n) items n (start_at 0 marks n) mark
-  item-in mark laid at = subst (λ (ts : List Item). IsItemAt bytes (refusal n) ts n (start_at 0 marks n) mark) view (item-first bytes refusal marks n mark laid place-low at)
+      end-at : (get_or items n default).end ≡ unwrap_or (end_in mark.applied (refusal n)) no_item.end
+      end-at =
+          ap (λ (ts : List Item). (get_or ts n default).end) (sym view)
+          ∙ (ap (λ (t : Item). t.end) (item-from refusal ids marks n [] mark default kept.paired place-low) ∙ sym (ap (λ (m : Mark). unwrap_or (end_in m.applied (refusal n)) no_item.end) at))
 
-pub start-first : (start : ℕ) (marks : List Mark) → start_at start marks 0 ≡ start
-unfolding start_at
-start-first start [] = refl
-start-first start (m ∷ ms) = refl
+      pub applied-at : (applied : Applied) → mark.applied ≡ Some applied → (get_or items n default).end ≡ end.Applied applied
+      applied-at applied is = end-at ∙ ap (λ (a : Option Applied). unwrap_or (end_in a (refusal n)) no_item.end) is
 
--- an id begins where the one before ends
-pub start-next : (start : ℕ) (marks : List Mark) (n : ℕ) (default : Mark) → n < length marks → start_at start marks (suc n) ≡ (get_or marks n default).end
-unfolding start_at
-start-next start [] n default low = absurd (omega (arith, low))
-start-next start (m ∷ ms) zero default low = start-first m.end ms
-start-next start (m ∷ ms) (suc n) default low = start-next m.end ms n default (omega (arith, low))
+      pub refused-at : (refused : ItemRefusal) → mark.applied ≡ None → refusal n ≡ Some refused → (get_or items n default).end ≡ end.Refused refused
+      refused-at refused none is = end-at ∙ (λ i. unwrap_or (end_in (none i) (is i)) no_item.end)
+
+    -- its end is not lost
+    pub not-lost : (mark : Mark) → mark ≡ get_or marks n mark → mark.applied ≡ None → refusal n ≡ None → ⊥
+    not-lost mark at none lost =
+        let ended = subst (λ (m : Mark). IsSome (end_in m.applied (refusal n))) (sym at) (ended-from refusal marks n mark kept.ended place-low) in
+        let no : end_in mark.applied (refusal n) ≡ None = λ i. end_in (none i) (lost i) in
+        false≢true (subst (λ (e : Option ItemEnd). IsSome e) no ended)
+
+-- ---- refusals of other places
+
+-- the places of marks have the refusals that they had
+abbrev pub AreAsBefore : (ℕ → Option ItemRefusal) → (ℕ → Option ItemRefusal) → List Mark → Type 0
+AreAsBefore before after marks = (place : ℕ) → place < length marks → after place ≡ before place
+
+items-stay : (before after : ℕ → Option ItemRefusal) (ids : List (List ℕ)) (marks : List Mark) → AreAsBefore before after marks → items_of after ids marks ≡ items_of before ids marks
+unfolding items_of
+items-stay before after [] marks same = refl
+items-stay before after (id ∷ ids) [] same = refl
+items-stay before after (id ∷ ids) (m ∷ ms) same =
+    let first = ap (λ (r : Option ItemRefusal). item_in r id m) (same 0 (omega arith)) in
+    let rest = items-stay (λ place. before (suc place)) (λ place. after (suc place)) ids ms (λ place low. same (suc place) (omega (arith, low))) in
+    λ i. first i ∷ rest i
+
+ended-stay : (before after : ℕ → Option ItemRefusal) (marks : List Mark) → AreAsBefore before after marks → HaveEnded before marks → HaveEnded after marks
+unfolding HaveEnded
+ended-stay before after [] same ended = tt
+ended-stay before after (m ∷ ms) same ended = (
+  subst (λ (r : Option ItemRefusal). IsSome (end_in m.applied r)) (sym (same 0 (omega arith))) ended.0,
+  ended-stay (λ place. before (suc place)) (λ place. after (suc place)) ms (λ place low. same (suc place) (omega (arith, low))) ended.1,
+)
+
+-- then the items stay
+pub items-same : (before after : ℕ → Option ItemRefusal) (ids more : List (List ℕ)) (marks next : List Mark) → AreKept before ids marks → more ≡ ids → next ≡ marks → AreAsBefore before after marks →
+    (items_of after more next ≡ items_of before ids marks) × AreKept after more next
+items-same before after ids more marks next kept more_is next_is same =
+    subst (λ (ms : List Mark). (items_of after more ms ≡ items_of before ids marks) × AreKept after more ms) (sym next_is)
+    (subst (λ (is : List (List ℕ)). (items_of after is marks ≡ items_of before ids marks) × AreKept after is marks) (sym more_is)
+    (items-stay before after ids marks same, record { paired = kept.paired; ended = ended-stay before after marks same kept.ended }))
+
+-- ---- one more item
+
+items-push : (refusal : ℕ → Option ItemRefusal) (ids : List (List ℕ)) (id : List ℕ) (marks : List Mark) (mark : Mark) (end : ItemEnd) → length ids ≡ length marks → end_in mark.applied (refusal (length marks)) ≡ Some end →
+    items_of refusal (ids ++ id ∷ []) (marks ++ mark ∷ []) ≡ items_of refusal ids marks ++ item_of mark.kind id end ∷ []
+unfolding items_of
+items-push refusal [] id [] mark end paired is = ap (λ (e : Option ItemEnd). item_of mark.kind id (unwrap_or e no_item.end) ∷ []) is
+items-push refusal [] id (m ∷ ms) mark end paired is = absurd (omega (arith, paired))
+items-push refusal (i ∷ ids) id [] mark end paired is = absurd (omega (arith, paired))
+items-push refusal (i ∷ ids) id (m ∷ ms) mark end paired is = ap (λ (ts : List Item). item_in (refusal 0) i m ∷ ts) (items-push (λ place. refusal (suc place)) ids id ms mark end (omega (arith, paired)) is)
+
+ended-push : (refusal : ℕ → Option ItemRefusal) (marks : List Mark) (mark : Mark) → HaveEnded refusal marks → IsSome (end_in mark.applied (refusal (length marks))) → HaveEnded refusal (marks ++ mark ∷ [])
+unfolding HaveEnded
+ended-push refusal [] mark ended is = (is, tt)
+ended-push refusal (m ∷ ms) mark ended is = (ended.0, ended-push (λ place. refusal (suc place)) ms mark ended.1 is)
+
+-- the items are one more where the ids and marks are, and no other refusal is another
+pub items-more : (before after : ℕ → Option ItemRefusal) (ids more : List (List ℕ)) (marks next : List Mark) (id : List ℕ) (mark : Mark) (end : ItemEnd) → AreKept before ids marks → more ≡ ids ++ id ∷ [] → next ≡ marks ++ mark ∷ [] →
+    AreAsBefore before after marks → end_in mark.applied (after (length marks)) ≡ Some end →
+    (items_of after more next ≡ items_of before ids marks ++ item_of mark.kind id end ∷ []) × AreKept after more next
+items-more before after ids more marks next id mark end kept more_is next_is same is =
+    let pushed = items-push after ids id marks mark end kept.paired is ∙ ap (λ (ts : List Item). ts ++ item_of mark.kind id end ∷ []) (items-stay before after ids marks same) in
+    let some : IsSome (end_in mark.applied (after (length marks))) = subst (λ (e : Option ItemEnd). IsSome e) (sym is) refl in
+    let paired : length (ids ++ id ∷ []) ≡ length (marks ++ mark ∷ []) = omega (arith, kept.paired, length-append ids (id ∷ []), length-append marks (mark ∷ [])) in
+    subst (λ (ms : List Mark). (items_of after more ms ≡ items_of before ids marks ++ item_of mark.kind id end ∷ []) × AreKept after more ms) (sym next_is)
+    (subst (λ (is : List (List ℕ)). (items_of after is (marks ++ mark ∷ []) ≡ items_of before ids marks ++ item_of mark.kind id end ∷ []) × AreKept after is (marks ++ mark ∷ [])) (sym more_is)
+    (pushed, record { paired = paired; ended = ended-push after marks mark (ended-stay before after marks same kept.ended) some }))
 
 -- ---- no item
 
-pub laid-none : AreLaid [] 0 []
-unfolding AreLaid
-laid-none = refl
-
-pub items-none : (bytes : List ℕ) (refusal : ℕ → Option ItemRefusal) → items_from bytes refusal 0 0 [] ≡ []
-unfolding items_from
-items-none bytes refusal = refl
+pub no-items : (refusal : ℕ → Option ItemRefusal) (ids : List (List ℕ)) (marks : List Mark) → ids ≡ [] → marks ≡ [] → (items_of refusal ids marks ≡ []) × AreKept refusal ids marks
+unfolding items_of HaveEnded
+no-items refusal ids marks no_ids no_marks =
+    subst (λ (ms : List Mark). (items_of refusal ids ms ≡ []) × AreKept refusal ids ms) (sym no_marks)
+    (subst (λ (is : List (List ℕ)). (items_of refusal is [] ≡ []) × AreKept refusal is []) (sym no_ids) (refl, record { paired = refl; ended = tt }))

@@ -1,9 +1,9 @@
--- The items of a bulk response, whose ids stand behind one another in one list of bytes.
-use Rattle.std.specs.Prelude.{◌≡◌, ℕ, zero, suc, ◌≤◌, List, [], ◌∷◌, Option, None, Some, length, slice_range}
+-- The items of a bulk response, by their ids and marks, and by the refusals of some places.
+use Rattle.std.specs.Prelude.{◌≡◌, ℕ, suc, List, [], ◌∷◌, Option, None, Some, IsSome, ⊤, length}
 use Rattle.std.specs.BTreeMap.{BTreeMap, get}
 use Rattle.std.specs.List.{slice_index_or}
+use Rattle.std.specs.Option.{unwrap_or}
 use Rattle.std.specs.Ordering.{nat_cmp}
-use Rattle.std.specs.Str.{IsUtf8}
 use Rattle.agg_model.specs.declared.bulk.ActionKind.{ActionKind}
 use Rattle.agg_model.specs.declared.bulk.ActionKind.TheVariants as kind
 use Rattle.agg_model.specs.declared.bulk.Applied.{Applied}
@@ -37,37 +37,28 @@ end_of (view.Refused refusal) = end.Refused refusal.now
 abbrev pub refusal_in : BTreeMap ℕ ItemRefusal → ℕ → Option ItemRefusal
 refusal_in refusals place = get nat_cmp refusals place
 
--- an end by the refusal that is kept for it, and by what its mark says where there is none
-abbrev pub end_in : Option ItemRefusal → Applied → ItemEnd
-end_in (Some refusal) applied = end.Refused refusal
-end_in None applied = end.Applied applied
+-- an end by what the action did, and by the refusal that is kept where it did nothing
+abbrev pub end_in : Option Applied → Option ItemRefusal → Option ItemEnd
+end_in (Some applied) refusal = Some (end.Applied applied)
+end_in None (Some refusal) = Some (end.Refused refusal)
+end_in None None = None
 
--- the item of a mark, whose id begins here, with this refusal
-abbrev pub item_in : List ℕ → Option ItemRefusal → ℕ → Mark → Item
-item_in bytes refusal start mark = item_of mark.kind (slice_range bytes start mark.end) (end_in refusal mark.applied)
+-- the item of an id and a mark, with this refusal
+abbrev pub item_in : Option ItemRefusal → List ℕ → Mark → Item
+item_in refusal id mark = item_of mark.kind id (unwrap_or (end_in mark.applied refusal) no_item.end)
 
--- the items of marks, of which the first has this place and its id begins here
-unfoldable pub items_from : List ℕ → (ℕ → Option ItemRefusal) → ℕ → ℕ → List Mark → List Item
-items_from bytes refusal place start [] = []
-items_from bytes refusal place start (mark ∷ marks) = item_in bytes (refusal place) start mark ∷ items_from bytes refusal (suc place) mark.end marks
+-- the items of ids and marks side by side, with the refusals of their places
+unfoldable pub items_of : (ℕ → Option ItemRefusal) → List (List ℕ) → List Mark → List Item
+items_of refusal [] marks = []
+items_of refusal (id ∷ ids) [] = []
+items_of refusal (id ∷ ids) (mark ∷ marks) = item_in (refusal 0) id mark ∷ items_of (λ place. refusal (suc place)) ids marks
 
--- where the id at a place begins, where the first begins here
-unfoldable pub start_at : ℕ → List Mark → ℕ → ℕ
-start_at start marks zero = start
-start_at start [] (suc place) = start
-start_at start (mark ∷ marks) (suc place) = start_at mark.end marks place
+-- each that was not applied has a refusal
+unfoldable pub HaveEnded : (ℕ → Option ItemRefusal) → List Mark → Type 0
+HaveEnded refusal [] = ⊤
+HaveEnded refusal (mark ∷ marks) = IsSome (end_in mark.applied (refusal 0)) × HaveEnded (λ place. refusal (suc place)) marks
 
--- an id that begins here ends no earlier, and is text
-pub record IsLaid (bytes : List ℕ) (start : ℕ) (mark : Mark) : Type 0 where
-  pub ordered : start ≤ mark.end
-  pub text : IsUtf8 (slice_range bytes start mark.end)
-
--- each id begins where the one before ends, and the last ends with the bytes
-unfoldable pub AreLaid : List ℕ → ℕ → List Mark → Type 0
-AreLaid bytes start [] = start ≡ length bytes
-AreLaid bytes start (mark ∷ marks) = IsLaid bytes start mark × AreLaid bytes mark.end marks
-
--- the ids take all the bytes, and no place behind them has a refusal
-pub record AreKept (bytes : List ℕ) (refusals : BTreeMap ℕ ItemRefusal) (marks : List Mark) : Type 0 where
-  pub laid : AreLaid bytes 0 marks
-  pub none_behind : (place : ℕ) → length marks ≤ place → refusal_in refusals place ≡ None
+-- each id has a mark, and each mark an end
+pub record AreKept (refusal : ℕ → Option ItemRefusal) (ids : List (List ℕ)) (marks : List Mark) : Type 0 where
+  pub paired : length ids ≡ length marks
+  pub ended : HaveEnded refusal marks
