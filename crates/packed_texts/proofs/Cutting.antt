@@ -3,8 +3,8 @@ use Rattle.std.proofs.Common.{◌≡◌, refl, zero, suc, ℕ, ◌+◌, ◌-◌,
 use Rattle.std.specs.List.{slice_get, slice_range, sum_by}
 use Rattle.std.specs.Option.{option_map}
 use Rattle.std.proofs.Math.Seq.{length-slice}
-use Rattle.std.proofs.lemmas.List.{take-append-le, drop_at}
-use Rattle.std.proofs.lemmas.List.Sums.{sum_by-cons}
+use Rattle.std.proofs.lemmas.List.{drop_at, length-take-le, take-append-drop, take-append-le}
+use Rattle.std.proofs.lemmas.List.Sums.{sum_by-cons, sum_by-take-le}
 use Rattle.std.proofs.lemmas.Slice.{between_is, between_to_end}
 use Rattle.packed_texts.specs.Pieces.{AreCut, pieces_from}
 
@@ -139,3 +139,43 @@ pub one-more : (bytes more added ends next : List ℕ) → more ≡ bytes ++ add
 one-more bytes more added ends next more_is next_is cut =
     subst (λ (es : List ℕ). (pieces_from 0 more es ≡ pieces_from 0 bytes ends ++ added ∷ []) × AreCut 0 es (length more)) (sym next_is)
     (subst (λ (bs : List ℕ). (pieces_from 0 bs (ends ++ length bs ∷ []) ≡ pieces_from 0 bytes ends ++ added ∷ []) × AreCut 0 (ends ++ length bs ∷ []) (length bs)) (sym more_is) (push-from 0 bytes added ends cut))
+
+-- ---- the first of them
+
+-- no later bytes are looked at
+stays : (start : ℕ) (bytes later ends : List ℕ) → AreCut start ends (length bytes) → pieces_from start (bytes ++ later) ends ≡ pieces_from start bytes ends
+unfolding pieces_from AreCut
+stays start bytes later [] cut = refl
+stays start bytes later (end ∷ more) cut =
+    let here = range-stays bytes later start end (within end more (length bytes) cut.1) in
+    let rest = stays end bytes later more cut.1 in
+    λ i. here i ∷ rest i
+
+take-from : (start : ℕ) (bytes ends : List ℕ) (n : ℕ) → pieces_from start bytes (take n ends) ≡ take n (pieces_from start bytes ends)
+unfolding pieces_from
+take-from start bytes ends zero = refl
+take-from start bytes [] (suc n) = refl
+take-from start bytes (end ∷ more) (suc n) = ap (λ (ps : List (List ℕ)). slice_range bytes start end ∷ ps) (take-from end bytes more n)
+
+-- they end where the next begins
+cut-take : (start : ℕ) (bytes ends : List ℕ) (n : ℕ) → AreCut start ends (length bytes) → n ≤ length ends → AreCut start (take n ends) (start + sum_by length (take n (pieces_from start bytes ends)))
+unfolding pieces_from AreCut
+cut-take start bytes ends zero cut low = omega arith
+cut-take start bytes [] (suc n) cut low = omega arith
+cut-take start bytes (end ∷ more) (suc n) cut low =
+    let size = length-range bytes start end (within end more (length bytes) cut.1) in
+    let sum = sum-first (slice_range bytes start end) (take n (pieces_from end bytes more)) in
+    let same : end + sum_by length (take n (pieces_from end bytes more)) ≡ start + sum_by length (slice_range bytes start end ∷ take n (pieces_from end bytes more)) = omega (arith, sum, size, cut.0) in
+    (cut.0, subst (λ (k : ℕ). AreCut end (take n more) k) same (cut-take end bytes more n cut.1 (omega (arith, low))))
+
+pub first-of : (bytes ends : List ℕ) (pieces : List (List ℕ)) (view : pieces_from 0 bytes ends ≡ pieces) (cut : AreCut 0 ends (length bytes)) (n : ℕ) → n ≤ length pieces → (less fewer : List ℕ) →
+    less ≡ take (sum_by length (take n pieces)) bytes → fewer ≡ take n ends → (pieces_from 0 less fewer ≡ take n pieces) × AreCut 0 fewer (length less)
+first-of bytes ends pieces view cut n low less fewer less_is fewer_is =
+    let size = sum_by length (take n pieces) in
+    let of_view : 0 + sum_by length (take n (pieces_from 0 bytes ends)) ≡ size = omega (arith, ap (λ (ps : List (List ℕ)). sum_by length (take n ps)) view) in
+    let inside : size ≤ length bytes = omega (arith, total-is bytes ends pieces view cut, sum_by-take-le (λ (xs : List ℕ). length xs) pieces n) in
+    let is_cut = subst (λ (k : ℕ). AreCut 0 (take n ends) k) (of_view ∙ sym (length-take-le size bytes inside)) (cut-take 0 bytes ends n cut (omega (arith, low, length-is bytes ends pieces view))) in
+    let whole = ap (λ (bs : List ℕ). pieces_from 0 bs (take n ends)) (take-append-drop size bytes) in
+    subst (λ (es : List ℕ). (pieces_from 0 less es ≡ take n pieces) × AreCut 0 es (length less)) (sym fewer_is)
+    (subst (λ (bs : List ℕ). (pieces_from 0 bs (take n ends) ≡ take n pieces) × AreCut 0 (take n ends) (length bs)) (sym less_is)
+    (sym (stays 0 (take size bytes) (drop size bytes) (take n ends) is_cut) ∙ (whole ∙ (take-from 0 bytes ends n ∙ ap (λ (ps : List (List ℕ)). take n ps) view)), is_cut))

@@ -90,4 +90,15 @@ impl PackedBytes {
         let _ = self.ends.push(end);
         Ok(())
     }
+    /// Keeps the first `len` of them, in constant time.
+    pub fn truncate(&mut self, len: usize)
+        ensures { self.new ≡ take len self.old }
+    {
+        if len >= self.len() {
+            return;
+        }
+        let size = self.start(len);
+        self.bytes.truncate(size);
+        self.ends.truncate(len);
+    }
 }
