@@ -112,7 +112,8 @@ impl Items {
         }
     }
 
-    /// Adds an item behind the others. After want of memory they are as before.
+    /// Adds an item behind the others; want of memory is also that all ids would have 4 GiB or more. After want of memory they
+    /// are as before.
     pub fn push(&mut self, kind: ActionKind, id: &str, end: ItemEnd) -> Result<(), AllocError>
         ensures items { OnOk result (self.new ≡ self.old ++ item_of kind id.now end ∷ []) }
         ensures memory { OnErr result (self.new ≡ self.old) }
