@@ -1,151 +1,113 @@
--- Pieces of documents behind one another.
-use Rattle.std.proofs.Common.{◌≡◌, refl, zero, suc, ℕ, ◌+◌, ◌<◌, ◌≤◌, List, [], ◌∷◌, ◌++◌, length, get_or, Option, Some, sym, ◌∙◌, ap, subst, arith, length-append}
-use Rattle.std.specs.List.{slice_range}
-use Rattle.std.specs.Str.{IsUtf8}
-use Rattle.shard_columns.proofs.Storing.{slice_range-stays, slice_range-seam}
-use Rattle.column_loading.specs.Packed.{AreLaid, IsLaid, piece_slot, slots_from, start_at}
-use Rattle.column_loading.specs.Slots.{live_slot}
-use Rattle.column_loading.specs.declared.packed.Piece.{Piece}
+-- Slots by their ids, sources and weights.
+use Rattle.std.proofs.Common.{◌≡◌, refl, zero, suc, ℕ, ◌+◌, ◌<◌, List, [], ◌∷◌, ◌++◌, length, get_or, Option, Some, sym, ◌∙◌, ap, arith}
+use Rattle.std.specs.List.{slice_get}
+use Rattle.std.specs.Option.{option_map}
+use Rattle.std.proofs.lemmas.List.{length_push}
+use Rattle.std.proofs.lemmas.Option.{get_or_from_slice_get}
+use Rattle.column_loading.specs.Packed.{AreKept, slot_of, slots_of}
+use Rattle.column_loading.specs.declared.slot.Kept.{Kept}
 use Rattle.column_loading.specs.declared.slot.Slot.{Slot}
 
-within : (bytes : List ℕ) (start : ℕ) (pieces : List Piece) → AreLaid bytes start pieces → start ≤ length bytes
-unfolding AreLaid
-within bytes start [] laid = omega (arith, laid)
-within bytes start (p ∷ ps) laid =
-    let first = laid.0.id_first in
-    let last = laid.0.source_last in
-    omega (arith, first, last, within bytes p.end ps laid.1)
+length-of : (routing : ℕ → Option (List ℕ)) (ids sources : List (List ℕ)) (weights : List ℕ) → length ids ≡ length weights → length sources ≡ length weights → length (slots_of routing ids sources weights) ≡ length weights
+unfolding slots_of
+length-of routing [] sources weights a b = a
+length-of routing (id ∷ ids) [] weights a b = b
+length-of routing (id ∷ ids) (s ∷ ss) [] a b = refl
+length-of routing (id ∷ ids) (s ∷ ss) (w ∷ ws) a b = ap suc (length-of (λ place. routing (suc place)) ids ss ws (omega (arith, a)) (omega (arith, b)))
 
-pub length-slots : (bytes : List ℕ) (routing : ℕ → Option (List ℕ)) (place start : ℕ) (pieces : List Piece) → length (slots_from bytes routing place start pieces) ≡ length pieces
-unfolding slots_from
-length-slots bytes routing place start [] = refl
-length-slots bytes routing place start (p ∷ ps) = ap suc (length-slots bytes routing (suc place) p.end ps)
+slot-from : (routing : ℕ → Option (List ℕ)) (ids sources : List (List ℕ)) (weights : List ℕ) (n : ℕ) (id source : List ℕ) (weight : ℕ) (default : Slot) → length ids ≡ length weights → length sources ≡ length weights → n < length weights →
+    get_or (slots_of routing ids sources weights) n default ≡ slot_of (routing n) (get_or ids n id) (get_or sources n source) (get_or weights n weight)
+unfolding slots_of
+slot-from routing [] sources weights n id source weight default a b low = absurd (omega (arith, a, low))
+slot-from routing (i ∷ ids) [] weights n id source weight default a b low = absurd (omega (arith, b, low))
+slot-from routing (i ∷ ids) (s ∷ ss) [] n id source weight default a b low = absurd (omega (arith, low))
+slot-from routing (i ∷ ids) (s ∷ ss) (w ∷ ws) zero id source weight default a b low = refl
+slot-from routing (i ∷ ids) (s ∷ ss) (w ∷ ws) (suc n) id source weight default a b low =
+    slot-from (λ place. routing (suc place)) ids ss ws n id source weight default (omega (arith, a)) (omega (arith, b)) (omega (arith, low))
 
--- ---- one more piece
+-- ---- the slot at a place
 
--- it lies behind all the bytes
-pub record IsNext (bytes id source : List ℕ) (piece : Piece) : Type 0 where
-  pub begins : piece.source ≡ length (bytes ++ id)
-  pub ends : piece.end ≡ length ((bytes ++ id) ++ source)
-  pub text : IsUtf8 id
+module _ (routing : ℕ → Option (List ℕ)) (ids sources : List (List ℕ)) (weights : List ℕ) (kept : AreKept ids sources weights) (slots : List Slot) (view : slots_of routing ids sources weights ≡ slots) where
+  pub length-is : length slots ≡ length weights
+  length-is = ap (λ (ss : List Slot). length ss) (sym view) ∙ length-of routing ids sources weights kept.has_ids kept.has_sources
 
-module _ (bytes id source : List ℕ) where
-  abbrev more : List ℕ
-  more = (bytes ++ id) ++ source
+  module _ (n : ℕ) (low : n < length slots) (default : Slot) where
+    slot-at : (id source : List ℕ) (weight : ℕ) → get_or slots n default ≡ slot_of (routing n) (get_or ids n id) (get_or sources n source) (get_or weights n weight)
+    slot-at id source weight =
+        ap (λ (ss : List Slot). get_or ss n default) (sym view) ∙ slot-from routing ids sources weights n id source weight default kept.has_ids kept.has_sources (omega (arith, low, length-is))
 
-  stays : (a b : ℕ) → b ≤ length bytes → slice_range more a b ≡ slice_range bytes a b
-  stays a b low = slice_range-stays (bytes ++ id) source a b (omega (arith, low, length-append bytes id)) ∙ slice_range-stays bytes id a b low
+    pub id-at : (id : List ℕ) → slice_get ids n ≡ Some id → (get_or slots n default).id ≡ id
+    id-at id at = ap (λ (s : Slot). s.id) (slot-at id [] 0) ∙ get_or_from_slice_get ids n id id at
 
-  module _ (piece : Piece) (next : IsNext bytes id source piece) (start : ℕ) (here : start ≡ length bytes) where
-    id-is : slice_range more start piece.source ≡ id
-    id-is =
-        (λ i. slice_range more (here i) (next.begins i))
-        ∙ (slice_range-stays (bytes ++ id) source (length bytes) (length (bytes ++ id)) (omega arith) ∙ slice_range-seam bytes id (length (bytes ++ id)) refl)
+    pub live-at : (source : List ℕ) (weight : ℕ) → slice_get sources n ≡ Some source → weight ≡ get_or weights n weight → (get_or slots n default).live ≡ Some (record { routing = routing n; source = source; weight = weight })
+    live-at source weight at weighs =
+        ap (λ (s : Slot). s.live) (slot-at [] source weight)
+        ∙ (λ i. Some (record { routing = routing n; source = get_or_from_slice_get sources n source source at i; weight = sym weighs i }))
 
-    source-is : slice_range more piece.source piece.end ≡ source
-    source-is = (λ i. slice_range more (next.begins i) (next.ends i)) ∙ slice_range-seam (bytes ++ id) source (length more) refl
+    pub weight-at : (weight : ℕ) → weight ≡ get_or weights n weight → option_map (λ (k : Kept). k.weight) (get_or slots n default).live ≡ Some weight
+    weight-at weight weighs = ap (λ (s : Slot). option_map (λ (k : Kept). k.weight) s.live) (slot-at [] [] weight) ∙ ap Some (sym weighs)
 
-    slot-is : (here_routed routed : Option (List ℕ)) → here_routed ≡ routed → piece_slot more here_routed start piece ≡ live_slot id (record { routing = routed; source = source; weight = piece.weight })
-    slot-is here_routed routed same = λ i. live_slot (id-is i) (record { routing = same i; source = source-is i; weight = piece.weight })
+-- ---- routings of other places
 
-    laid-last : IsLaid more start piece
-    laid-last =
-        let begins = next.begins in
-        let ends = next.ends in
-        record {
-          id_first = omega (arith, here, begins, length-append bytes id);
-          source_last = omega (arith, begins, ends, length-append (bytes ++ id) source);
-          text = subst IsUtf8 (sym id-is) next.text;
-        }
+-- the places of weights have the routings that they had
+abbrev pub AreAsBefore : (ℕ → Option (List ℕ)) → (ℕ → Option (List ℕ)) → List ℕ → Type 0
+AreAsBefore before after weights = (place : ℕ) → place < length weights → after place ≡ before place
 
-  slot-stays : (start : ℕ) (p : Piece) (before after : Option (List ℕ)) → p.source ≤ p.end → p.end ≤ length bytes → after ≡ before → piece_slot more after start p ≡ piece_slot bytes before start p
-  slot-stays start p before after last low same =
-      λ i. record {
-        id = stays start p.source (omega (arith, last, low)) i;
-        live = Some (record { routing = same i; source = stays p.source p.end low i; weight = p.weight });
-      }
+slots-stay : (before after : ℕ → Option (List ℕ)) (ids sources : List (List ℕ)) (weights : List ℕ) → AreAsBefore before after weights → slots_of after ids sources weights ≡ slots_of before ids sources weights
+unfolding slots_of
+slots-stay before after [] sources weights same = refl
+slots-stay before after (id ∷ ids) [] weights same = refl
+slots-stay before after (id ∷ ids) (s ∷ ss) [] same = refl
+slots-stay before after (id ∷ ids) (s ∷ ss) (w ∷ ws) same =
+    let first = ap (λ (r : Option (List ℕ)). slot_of r id s w) (same 0 (omega arith)) in
+    let rest = slots-stay (λ place. before (suc place)) (λ place. after (suc place)) ids ss ws (λ place low. same (suc place) (omega (arith, low))) in
+    λ i. first i ∷ rest i
 
-  laid-stays : (start : ℕ) (p : Piece) → IsLaid bytes start p → p.end ≤ length bytes → IsLaid more start p
-  laid-stays start p laid low =
-      let last = laid.source_last in
-      record {
-        id_first = laid.id_first;
-        source_last = last;
-        text = subst IsUtf8 (sym (stays start p.source (omega (arith, last, low)))) laid.text;
-      }
+-- then the slots stay
+pub slots-same : (before after : ℕ → Option (List ℕ)) (ids more_ids sources more_sources : List (List ℕ)) (weights more_weights : List ℕ) → AreKept ids sources weights → more_ids ≡ ids → more_sources ≡ sources → more_weights ≡ weights → AreAsBefore before after weights →
+    (slots_of after more_ids more_sources more_weights ≡ slots_of before ids sources weights) × AreKept more_ids more_sources more_weights
+slots-same before after ids more_ids sources more_sources weights more_weights kept ids_are sources_are weights_are same = (
+  (λ i. slots_of after (ids_are i) (sources_are i) (weights_are i)) ∙ slots-stay before after ids sources weights same,
+  record {
+    has_ids = ap (λ (xs : List (List ℕ)). length xs) ids_are ∙ (kept.has_ids ∙ sym (ap (λ (ws : List ℕ). length ws) weights_are));
+    has_sources = ap (λ (xs : List (List ℕ)). length xs) sources_are ∙ (kept.has_sources ∙ sym (ap (λ (ws : List ℕ). length ws) weights_are));
+  },
+)
 
-  -- the pieces before it stay, and it is the last
-  pub laid-push : (start : ℕ) (pieces : List Piece) (piece : Piece) → AreLaid bytes start pieces → IsNext bytes id source piece → AreLaid more start (pieces ++ piece ∷ [])
-  unfolding AreLaid
-  laid-push start [] piece laid next = (laid-last piece next start laid, next.ends)
-  laid-push start (p ∷ ps) piece laid next = (laid-stays start p laid.0 (within bytes p.end ps laid.1), laid-push p.end ps piece laid.1 next)
+-- ---- one more slot
 
-  pub slots-push : (before after : ℕ → Option (List ℕ)) (routed : Option (List ℕ)) (place start : ℕ) (pieces : List Piece) (piece : Piece) → AreLaid bytes start pieces → IsNext bytes id source piece →
-      ((j : ℕ) → j < place + length pieces → after j ≡ before j) → after (place + length pieces) ≡ routed →
-      slots_from more after place start (pieces ++ piece ∷ []) ≡ slots_from bytes before place start pieces ++ live_slot id (record { routing = routed; source = source; weight = piece.weight }) ∷ []
-  unfolding AreLaid slots_from
-  slots-push before after routed place start [] piece laid next same last =
-      let here : place ≡ place + 0 = omega arith in
-      ap (λ (s : Slot). s ∷ []) (slot-is piece next start laid (after place) routed (ap after here ∙ last))
-  slots-push before after routed place start (p ∷ ps) piece laid next same last =
-      let step : suc place + length ps ≡ place + suc (length ps) = omega arith in
-      let first = slot-stays start p (before place) (after place) laid.0.source_last (within bytes p.end ps laid.1) (same place (omega arith)) in
-      let rest = slots-push before after routed (suc place) p.end ps piece laid.1 next (λ j low. same j (omega (arith, low))) (ap after step ∙ last) in
-      λ i. first i ∷ rest i
+slots-push : (routing : ℕ → Option (List ℕ)) (ids : List (List ℕ)) (id : List ℕ) (sources : List (List ℕ)) (source : List ℕ) (weights : List ℕ) (weight : ℕ) → length ids ≡ length weights → length sources ≡ length weights →
+    slots_of routing (ids ++ id ∷ []) (sources ++ source ∷ []) (weights ++ weight ∷ []) ≡ slots_of routing ids sources weights ++ slot_of (routing (length weights)) id source weight ∷ []
+unfolding slots_of
+slots-push routing [] id [] source [] weight a b = refl
+slots-push routing [] id sources source (w ∷ ws) weight a b = absurd (omega (arith, a))
+slots-push routing [] id (s ∷ ss) source [] weight a b = absurd (omega (arith, b))
+slots-push routing (i ∷ ids) id sources source [] weight a b = absurd (omega (arith, a))
+slots-push routing (i ∷ ids) id [] source (w ∷ ws) weight a b = absurd (omega (arith, b))
+slots-push routing (i ∷ ids) id (s ∷ ss) source (w ∷ ws) weight a b =
+    ap (λ (ts : List Slot). slot_of (routing 0) i s w ∷ ts) (slots-push (λ place. routing (suc place)) ids id ss source ws weight (omega (arith, a)) (omega (arith, b)))
 
--- ---- the piece at a place
+-- the slots are one more where the parts are, and no other routing is another
+pub slots-more : (before after : ℕ → Option (List ℕ)) (ids more_ids sources more_sources : List (List ℕ)) (weights more_weights : List ℕ) (routed : Option (List ℕ)) (id source : List ℕ) (weight : ℕ) → AreKept ids sources weights →
+    more_ids ≡ ids ++ id ∷ [] → more_sources ≡ sources ++ source ∷ [] → more_weights ≡ weights ++ weight ∷ [] → AreAsBefore before after weights → after (length weights) ≡ routed →
+    (slots_of after more_ids more_sources more_weights ≡ slots_of before ids sources weights ++ slot_of routed id source weight ∷ []) × AreKept more_ids more_sources more_weights
+slots-more before after ids more_ids sources more_sources weights more_weights routed id source weight kept ids_are sources_are weights_are same is =
+    let count : length more_weights ≡ length weights + 1 = ap (λ (ws : List ℕ). length ws) weights_are ∙ length_push weights weight in
+    let id_count : length more_ids ≡ length ids + 1 = ap (λ (xs : List (List ℕ)). length xs) ids_are ∙ length_push ids id in
+    let source_count : length more_sources ≡ length sources + 1 = ap (λ (xs : List (List ℕ)). length xs) sources_are ∙ length_push sources source in (
+      (λ i. slots_of after (ids_are i) (sources_are i) (weights_are i))
+          ∙ (slots-push after ids id sources source weights weight kept.has_ids kept.has_sources ∙ (λ i. slots-stay before after ids sources weights same i ++ slot_of (is i) id source weight ∷ [])),
+      record { has_ids = omega (arith, count, id_count, kept.has_ids); has_sources = omega (arith, count, source_count, kept.has_sources) },
+    )
 
-pub record IsPieceAt (bytes : List ℕ) (routing : Option (List ℕ)) (slots : List Slot) (n start : ℕ) (piece : Piece) : Type 0 where
-  pub laid : IsLaid bytes start piece
-  pub inside : piece.end ≤ length bytes
-  pub slot : (default : Slot) → get_or slots n default ≡ piece_slot bytes routing start piece
+-- ---- no slot
 
-piece-from : (bytes : List ℕ) (routing : ℕ → Option (List ℕ)) (place start : ℕ) (pieces : List Piece) (n : ℕ) (piece : Piece) → AreLaid bytes start pieces → n < length pieces → piece ≡ get_or pieces n piece →
-    IsPieceAt bytes (routing (place + n)) (slots_from bytes routing place start pieces) n (start_at start pieces n) piece
-unfolding AreLaid slots_from start_at
-piece-from bytes routing place start [] n piece laid low at = absurd (omega (arith, low))
-piece-from bytes routing place start (p ∷ ps) zero piece laid low at =
-    let here : place ≡ place + 0 = omega arith in
-    subst (λ (q : Piece). IsPieceAt bytes (routing (place + 0)) (slots_from bytes routing place start (p ∷ ps)) 0 start q) (sym at)
-    (subst (λ (r : Option (List ℕ)). IsPieceAt bytes r (slots_from bytes routing place start (p ∷ ps)) 0 start p) (ap routing here)
-    (record { laid = laid.0; inside = within bytes p.end ps laid.1; slot = λ default. refl }))
-piece-from bytes routing place start (p ∷ ps) (suc n) piece laid low at =
-    let rest = piece-from bytes routing (suc place) p.end ps n piece laid.1 (omega (arith, low)) at in
-    let step : suc place + n ≡ place + suc n = omega arith in
-    record { laid = rest.laid; inside = rest.inside; slot = λ default. rest.slot default ∙ ap (λ (k : ℕ). piece_slot bytes (routing k) (start_at p.end ps n) piece) step }
-
-pub piece-at : (bytes : List ℕ) (routing : ℕ → Option (List ℕ)) (pieces : List Piece) (n : ℕ) (piece : Piece) → AreLaid bytes 0 pieces → n < length pieces → piece ≡ get_or pieces n piece →
-    IsPieceAt bytes (routing n) (slots_from bytes routing 0 0 pieces) n (start_at 0 pieces n) piece
-piece-at bytes routing pieces n piece laid low at =
-    let here : 0 + n ≡ n = omega arith in
-    subst (λ (k : ℕ). IsPieceAt bytes (routing k) (slots_from bytes routing 0 0 pieces) n (start_at 0 pieces n) piece) here (piece-from bytes routing 0 0 pieces n piece laid low at)
-
-module _ (bytes : List ℕ) (routing : ℕ → Option (List ℕ)) (pieces : List Piece) (slots : List Slot) (view : slots_from bytes routing 0 0 pieces ≡ slots) (n : ℕ) (low : n < length slots) where
-  -- a place of a slot is that of a piece
-  pub place-low : n < length pieces
-  place-low = omega (arith, low, length-slots bytes routing 0 0 pieces, ap (λ (ss : List Slot). length ss) view)
-
-  pub piece-in : (piece : Piece) → AreLaid bytes 0 pieces → piece ≡ get_or pieces n piece → IsPieceAt bytes (routing n) slots n (start_at 0 pieces n) piece
-  piece-in piece laid at = subst (λ (ss : List Slot). IsPieceAt bytes (routing n) ss n (start_at 0 pieces n) piece) view (piece-at bytes routing pieces n piece laid place-low at)
-
-pub start-first : (start : ℕ) (pieces : List Piece) → start_at start pieces 0 ≡ start
-unfolding start_at
-start-first start [] = refl
-start-first start (p ∷ ps) = refl
-
--- a piece begins where the one before ends
-pub start-next : (start : ℕ) (pieces : List Piece) (n : ℕ) (default : Piece) → n < length pieces → start_at start pieces (suc n) ≡ (get_or pieces n default).end
-unfolding start_at
-start-next start [] n default low = absurd (omega (arith, low))
-start-next start (p ∷ ps) zero default low = start-first p.end ps
-start-next start (p ∷ ps) (suc n) default low = start-next p.end ps n default (omega (arith, low))
-
--- ---- no piece
-
-pub laid-none : AreLaid [] 0 []
-unfolding AreLaid
-laid-none = refl
-
-pub slots-none : (bytes : List ℕ) (routing : ℕ → Option (List ℕ)) → slots_from bytes routing 0 0 [] ≡ []
-unfolding slots_from
-slots-none bytes routing = refl
+pub no-slots : (routing : ℕ → Option (List ℕ)) (ids sources : List (List ℕ)) (weights : List ℕ) → ids ≡ [] → sources ≡ [] → weights ≡ [] → (slots_of routing ids sources weights ≡ []) × AreKept ids sources weights
+unfolding slots_of
+no-slots routing ids sources weights no_ids no_sources no_weights = (
+  (λ i. slots_of routing (no_ids i) (no_sources i) (no_weights i)),
+  record {
+    has_ids = ap (λ (xs : List (List ℕ)). length xs) no_ids ∙ sym (ap (λ (ws : List ℕ). length ws) no_weights);
+    has_sources = ap (λ (xs : List (List ℕ)). length xs) no_sources ∙ sym (ap (λ (ws : List ℕ). length ws) no_weights);
+  },
+)

@@ -27,17 +27,6 @@ impl Form {
         }
     }
 
-    /// The bytes of the id at a place.
-    pub(crate) fn id_bytes(&self, place: usize) -> &[u8]
-        requires { place < length (slots_in self.now) }
-        ensures { result.now ≡ (slot_at (slots_in self.now) place).id }
-    {
-        match self {
-            Form::Packed(slots) => slots.id_bytes(place),
-            Form::Spread(slots) => slots[place].id.as_str().as_bytes(),
-        }
-    }
-
     /// The id at a place.
     pub(crate) fn id(&self, place: usize) -> &str
         requires { place < length (slots_in self.now) }

@@ -1,73 +1,56 @@
 //! The slots of live documents, packed, as a load without replacements leaves them.
-ghost use Rattle.std.specs.Prelude.{◌≡◌, ◌++◌, ◌∷◌, ◌<◌, ℕ, [], None, Some, IfOk, OnErr, OnOk, IsTrue, length, option_map};
-ghost use Rattle.std.specs.Str.{is_utf8};
-ghost use Rattle.column_loading.specs.Packed.{routing_in, start_at};
+ghost use Rattle.std.specs.Prelude.{◌≡◌, ◌++◌, ◌∷◌, ◌<◌, ℕ, [], Some, IfOk, OnErr, OnOk, length, option_map};
+ghost use Rattle.column_loading.specs.Packed.{routing_in};
 ghost use Rattle.column_loading.specs.Slots.{live_slot, slot_at};
 
 use crate::slot::{Kept, Slot};
 use agg_model::{Bytes, Copying, Text};
+use packed_texts::{PackedBytes, PackedTexts};
 use std::alloc::{AllocError, Global};
 use std::collections::BTreeMap;
 use std::marker::Model;
-use std::str;
 
-/// Where a document lies in the bytes of all: its id behind the document before it, and then its source.
-#[derive(Clone, Copy)]
-pub struct Piece {
-    /// Where its source begins.
-    pub source: usize,
-    /// Where its source ends.
-    pub end: usize,
-    /// What the document weighs.
-    pub weight: u64,
-}
-
-/// Ids and sources behind one another in one array of bytes, so that a document takes 24 bytes beside them, and no memory of
-/// its own. Contracts see the list of the slots.
+/// Ids behind one another, and sources, so that a document takes 16 bytes beside them, and no memory of its own. Contracts see
+/// the list of the slots.
 #[derive(Drop)]
 pub struct PackedSlots {
-    bytes: Vec<u8>,
-    pieces: Vec<Piece>,
-    /// The routing of each place whose document is not routed by its id.
+    ids: PackedTexts,
+    sources: PackedBytes,
+    /// What each document weighs.
+    weights: Vec<u64>,
+    /// The routing of each place whose document is not routed by its id. One that want of memory left behind the last document
+    /// is not looked at.
     routings: BTreeMap<usize, Text>,
 }
 
 impl Model for PackedSlots {
     ghost use Rattle.std.specs.Prelude.{List};
-    ghost use Rattle.column_loading.specs.Packed.{slots_from, routing_in, IsPacked};
+    ghost use Rattle.column_loading.specs.Packed.{slots_of, routing_in, AreKept};
     ghost use Rattle.column_loading.specs.declared.slot.Slot.{Slot};
 
     ghost Value = { List Slot };
 
-    ghost view = { λ s. slots_from s.bytes.items (routing_in s.routings) 0 0 s.pieces.items };
+    ghost view = { λ s. slots_of (routing_in s.routings) s.ids s.sources s.weights.items };
 
-    ghost invariant = { λ s. IsPacked s.bytes.items s.routings s.pieces.items };
+    ghost invariant = { λ s. AreKept s.ids s.sources s.weights.items };
 }
 
-// Where the bytes of the document at a place begin.
-fn start_of(pieces: &[Piece], place: usize) -> usize
-    requires { place < length pieces.now }
-    ensures { result ≡ start_at 0 pieces.now place }
-{
-    match place.checked_sub(1) {
-        Some(before) => pieces[before].end,
-        None => 0,
-    }
-}
-
-// Keeps the routing of a place that had none.
+// Keeps the routing of a place, or that it has none.
 fn route(
     routings: &mut BTreeMap<usize, Text>,
     place: usize,
     routing: Option<Text>,
 ) -> Result<(), AllocError>
-    requires { routing_in routings.old place ≡ None }
     ensures routing { OnOk result (routing_in routings.new place ≡ routing) }
     ensures others { (other : ℕ) → ¬ (other ≡ place) → routing_in routings.new other ≡ routing_in routings.old other }
-    ensures memory { OnErr result (routings.new.entries ≡ routings.old.entries) }
 {
-    if let Some(routing) = routing {
-        routings.insert(place, routing)?;
+    match routing {
+        Some(routing) => {
+            routings.insert(place, routing)?;
+        }
+        None => {
+            routings.remove(&place);
+        }
     }
     Ok(())
 }
@@ -78,8 +61,9 @@ impl PackedSlots {
         ensures { result ≡ [] }
     {
         PackedSlots {
-            bytes: Vec::new(alloc),
-            pieces: Vec::new(alloc),
+            ids: PackedTexts::new(alloc),
+            sources: PackedBytes::new(alloc),
+            weights: Vec::new(alloc),
             routings: BTreeMap::new(alloc),
         }
     }
@@ -88,28 +72,15 @@ impl PackedSlots {
     pub(crate) fn len(&self) -> usize
         ensures { result ≡ length self.now }
     {
-        self.pieces.len()
+        self.weights.len()
     }
 
-    /// The id at a place, in UTF-8.
-    pub(crate) fn id_bytes(&self, place: usize) -> &[u8]
-        requires { place < length self.now }
-        ensures id { result.now ≡ (slot_at self.now place).id }
-        ensures text { IsTrue (is_utf8 result.now) }
-    {
-        let start = start_of(self.pieces.as_slice(), place);
-        &self.bytes[start..self.pieces[place].source]
-    }
-
-    /// The id at a place, which takes the time of going through it.
+    /// The id at a place.
     pub(crate) fn id(&self, place: usize) -> &str
         requires { place < length self.now }
         ensures { result.now ≡ (slot_at self.now place).id }
     {
-        match str::from_utf8(self.id_bytes(place)) {
-            Ok(id) => id,
-            Err(_) => unreachable!(),
-        }
+        self.ids.get(place)
     }
 
     /// What the document at a place weighs.
@@ -117,7 +88,7 @@ impl PackedSlots {
         requires { place < length self.now }
         ensures { option_map (λ kept. kept.weight) (slot_at self.now place).live ≡ Some result }
     {
-        self.pieces[place].weight
+        self.weights[place]
     }
 
     // The document at a place, copied.
@@ -125,15 +96,14 @@ impl PackedSlots {
         requires { place < length self.now }
         ensures { IfOk result (λ kept. (slot_at self.now place).live ≡ Some kept) }
     {
-        let piece = self.pieces[place];
         let routing = match self.routings.get(&place) {
             Some(routing) => Some(routing.copy(alloc)?),
             None => None,
         };
         Ok(Kept {
             routing,
-            source: Bytes::of(alloc, &self.bytes[piece.source..piece.end])?,
-            weight: piece.weight,
+            source: Bytes::of(alloc, self.sources.get(place))?,
+            weight: self.weights[place],
         })
     }
 
@@ -150,7 +120,8 @@ impl PackedSlots {
         Ok(slots)
     }
 
-    /// Copies a live document behind the others. After want of memory they are as before.
+    /// Copies a live document behind the others; want of memory is also that all ids, or all sources, would have 4 GiB or more.
+    /// After want of memory they are as before.
     pub(crate) fn push(&mut self, id: &str, kept: Kept) -> Result<(), AllocError>
         ensures slots { OnOk result (self.new ≡ self.old ++ live_slot id.now kept ∷ []) }
         ensures memory { OnErr result (self.new ≡ self.old) }
@@ -160,19 +131,20 @@ impl PackedSlots {
             source,
             weight,
         } = kept;
-        self.pieces.reserve(1)?;
-        self.bytes
-            .reserve(id.as_bytes().len() + source.as_slice().len())?;
-        route(&mut self.routings, self.pieces.len(), routing)?;
-        // There is room for what follows.
-        let _ = self.bytes.extend_from_slice(id.as_bytes());
-        let begins = self.bytes.len();
-        let _ = self.bytes.extend_from_slice(source.as_slice());
-        let _ = self.pieces.push(Piece {
-            source: begins,
-            end: self.bytes.len(),
-            weight,
-        });
-        Ok(())
+        let place = self.weights.len();
+        self.weights.reserve(1)?;
+        route(&mut self.routings, place, routing)?;
+        self.sources.push(source.as_slice())?;
+        match self.ids.push(id) {
+            Ok(()) => {
+                // There is room for it.
+                let _ = self.weights.push(weight);
+                Ok(())
+            }
+            Err(error) => {
+                self.sources.truncate(place);
+                Err(error)
+            }
+        }
     }
 }

@@ -52,7 +52,7 @@ fn comes_last(id: &str, slots: &Form) -> bool
     ensures { result ≡ is_behind id.now (slot_ids (slots_in slots.now)) }
 {
     match slots.len().checked_sub(1) {
-        Some(last) => compare_ids(slots.id_bytes(last), id.as_bytes()).is_lt(),
+        Some(last) => compare_ids(slots.id(last).as_bytes(), id.as_bytes()).is_lt(),
         None => true,
     }
 }

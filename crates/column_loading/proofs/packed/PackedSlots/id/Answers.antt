@@ -1,5 +1,14 @@
-use Rattle.std.proofs.lemmas.Str.{IsUtf8-from_is_utf8}
+use Rattle.std.proofs.Common.{arith, sym}
+use Rattle.column_loading.specs.Packed.{routing_in}
+use Rattle.column_loading.proofs.Packing.{id-at, length-is}
 use Rattle.column_loading.proofs.packed.PackedSlots.id.Goals as goal
 
-pub unreachable-requires : goal.unreachable-requires
-unreachable-requires c = c.in-Err.ensures.cases.0 (IsUtf8-from_is_utf8 _ c.id_bytes.ensures.text)
+pub get-requires : goal.get-requires
+get-requires c =
+    let inside = c.self.inside in
+    omega (arith, c.requires, length-is (routing_in inside.routings) inside.ids inside.sources inside.weights.items c.self.invariant c.args.self.now c.self.view_is, c.self.invariant.has_ids)
+
+pub returns : goal.returns
+returns c =
+    let inside = c.self.inside in
+    sym (id-at (routing_in inside.routings) inside.ids inside.sources inside.weights.items c.self.invariant c.args.self.now c.self.view_is c.args.place c.requires _ c.get.result.now c.get.ensures)

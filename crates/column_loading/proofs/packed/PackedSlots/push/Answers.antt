@@ -1,90 +1,56 @@
-use Rattle.std.proofs.Common.{◌≡◌, ℕ, ◌+◌, ◌≤◌, Bool, true, List, [], ◌∷◌, ◌++◌, length, if◌then◌else◌, sym, ◌∙◌, ap, subst, arith}
+use Rattle.std.proofs.Common.{◌≡◌, ◌++◌, ◌∷◌, [], ℕ, Bool, true, List, if◌then◌else◌, length, refl, take, sym, ◌∙◌, ap, arith, rules}
 use Rattle.std.specs.Result.{is_ok}
-use Rattle.std.specs.Vec.{vec_len}
-use Rattle.std.proofs.lemmas.List.{length_push}
-use Rattle.column_loading.specs.Packed.{IsPacked, routing_in, slots_from}
+use Rattle.std.proofs.lemmas.List.{take_at}
+use Rattle.column_loading.specs.Packed.{routing_in, slots_of}
 use Rattle.column_loading.specs.Slots.{live_slot}
-use Rattle.column_loading.specs.declared.packed.Piece.{Piece}
 use Rattle.column_loading.specs.declared.slot.Slot.{Slot}
-use Rattle.column_loading.proofs.Packing.{IsNext, laid-push, slots-push}
+use Rattle.column_loading.proofs.Packing.{AreAsBefore, slots-more, slots-same}
 use Rattle.column_loading.proofs.packed.PackedSlots.push.Goals as goal
-use Rattle.column_loading.proofs.packed.PackedSlots.push.Goals.{After-drop-source-inside-2}
+use Rattle.column_loading.proofs.packed.PackedSlots.push.Goals.{After-route}
+
+-- the place behind the weights
+place : (c : After-route) → c.len-place.result ≡ length c.self.inside.weights.items
+place c = c.len-place.ensures ∙ c.self.inside.weights.ok.0
+
+as-before : (c : After-route) → AreAsBefore (routing_in c.self.inside.routings) (routing_in c.route.new.routings) c.self.inside.weights.items
+as-before c other low = c.route.ensures.others other (λ same. absurd (omega (arith, same, low, place c)))
+
+-- with other routings alone they are as they were
+same : (c : After-route) (ids sources : List (List ℕ)) → ids ≡ c.self.inside.ids → sources ≡ c.self.inside.sources → slots_of (routing_in c.route.new.routings) ids sources c.reserve.new.self.items ≡ c.args.self.now
+same c ids sources ids_are sources_are =
+    let inside = c.self.inside in
+    (slots-same (routing_in inside.routings) (routing_in c.route.new.routings) inside.ids ids inside.sources sources inside.weights.items c.reserve.new.self.items c.self.invariant ids_are sources_are c.reserve.ensures.items (as-before c)).0 ∙ c.self.view_is
+
+pub returns-in_err-route-clause-memory : goal.returns-in_err-route-clause-memory
+returns-in_err-route-clause-memory c =
+    let as_before = same (goal.at.returns-in_err-route-clause-memory c).After-route c.self.inside.ids c.self.inside.sources refl refl in
+    search (rules, as_before)
+
+pub returns-in_err-push-clause-memory : goal.returns-in_err-push-clause-memory
+returns-in_err-push-clause-memory c =
+    let as_before = same (goal.at.returns-in_err-push-clause-memory c).After-route c.self.inside.ids c.push.new.self refl c.in_err-push.ensures.memory in
+    search (rules, as_before)
+
+pub returns-clause-memory : goal.returns-clause-memory
+returns-clause-memory c =
+    let at = (goal.at.returns-clause-memory c).After-route in
+    let sources = c.self.inside.sources in
+    let here : c.len-place.result ≡ length sources = omega (arith, place at, c.self.invariant.has_sources) in
+    let added = c.in_ok-push.ensures.added in
+    let cut = c.truncate.ensures ∙ (ap (λ (ss : List (List ℕ)). take c.len-place.result ss) added ∙ take_at sources (c.as_slice.result.now ∷ []) c.len-place.result (sym here)) in
+    same at c.push-2.new.self c.truncate.new.self c.in-Err.ensures.memory cut
 
 -- what is made where there is room
 made : {X : Type 0} (b : Bool) (new more less : X) → new ≡ (if b then more else less) → b ≡ true → new ≡ more
 made b new more less is fits = is ∙ ap (λ (fit : Bool). if fit then more else less) fits
 
-module _ (c : After-drop-source-inside-2) where
-  abbrev bytes : List ℕ
-  bytes = c.self.inside.bytes.items
-
-  abbrev pieces : List Piece
-  pieces = c.self.inside.pieces.items
-
-  abbrev id : List ℕ
-  id = c.args.id.now
-
-  abbrev source : List ℕ
-  source = c.args.kept.source
-
-  abbrev piece : Piece
-  piece = record { source = c.len-begins.result; end = c.len-2.result; weight = c.args.kept.weight }
-
-  id-size : length c.as_bytes-2.result.now ≡ length c.as_bytes.result.now
-  id-size = ap (λ (xs : List ℕ). length xs) (c.as_bytes-2.ensures.value ∙ sym c.as_bytes.ensures.value)
-
-  source-size : length c.as_slice-2.result.now ≡ length c.as_slice.result.now
-  source-size = ap (λ (xs : List ℕ). length xs) (c.as_slice-2.ensures ∙ sym c.as_slice.ensures)
-
-  -- there is room for the id
-  id-fits : is_ok c.extend_from_slice.result ≡ true
-  id-fits = c.extend_from_slice.ensures.succeeds (let room = c.in_ok-reserve-2.ensures.ok in omega (arith, room, id-size))
-
-  -- and then for the source
-  source-fits : is_ok c.extend_from_slice-2.result ≡ true
-  source-fits =
-      let room = c.in_ok-reserve-2.ensures.ok in
-      let same = c.extend_from_slice.ensures.capacity in
-      let size : vec_len c.extend_from_slice.new.self ≡ vec_len c.reserve-2.new.self + length c.as_bytes-2.result.now = made (is_ok c.extend_from_slice.result) _ _ _ c.extend_from_slice.ensures.len id-fits in
-      c.extend_from_slice-2.ensures.succeeds (omega (arith, room, same, size, id-size, source-size))
-
-  id-put : c.extend_from_slice.new.self.items ≡ bytes ++ id
-  id-put = made (is_ok c.extend_from_slice.result) _ _ _ c.extend_from_slice.ensures.items id-fits ∙ (λ i. c.reserve-2.ensures.items i ++ c.as_bytes-2.ensures.value i)
-
-  source-put : c.extend_from_slice-2.new.self.items ≡ (bytes ++ id) ++ source
-  source-put = made (is_ok c.extend_from_slice-2.result) _ _ _ c.extend_from_slice-2.ensures.items source-fits ∙ (λ i. id-put i ++ c.as_slice-2.ensures i)
-
-  piece-put : c.push.new.self.items ≡ pieces ++ piece ∷ []
-  piece-put = made (is_ok c.push.result) _ _ _ c.push.ensures.items (c.push.ensures.succeeds (let room = c.in_ok-reserve.ensures.ok in omega (arith, room))) ∙ ap (λ (ps : List Piece). ps ++ piece ∷ []) c.reserve.ensures.items
-
-  next : IsNext bytes id source piece
-  next = record {
-    begins = c.len-begins.ensures ∙ (c.extend_from_slice.new.self.ok.0 ∙ ap (λ (xs : List ℕ). length xs) id-put);
-    ends = c.len-2.ensures ∙ (c.extend_from_slice-2.new.self.ok.0 ∙ ap (λ (xs : List ℕ). length xs) source-put);
-    text = c.utf8.id;
-  }
-
-  place : c.len.result ≡ length pieces
-  place = c.len.ensures ∙ (c.reserve.new.self.ok.0 ∙ ap (λ (ps : List Piece). length ps) c.reserve.ensures.items)
-
-pub invariant_of-self-2 : goal.invariant_of-self-2
-invariant_of-self-2 c =
-    subst (λ (ps : List Piece). IsPacked c.extend_from_slice-2.new.self.items c.route.new.routings ps) (sym (piece-put c))
-    (subst (λ (bs : List ℕ). IsPacked bs c.route.new.routings (pieces c ++ piece c ∷ [])) (sym (source-put c))
-    (record {
-      laid = laid-push (bytes c) (id c) (source c) 0 (pieces c) (piece c) c.self.invariant.laid (next c);
-      none_behind = λ other behind.
-          let size = length_push (pieces c) (piece c) in
-          let past : length (pieces c) + 1 ≤ other = omega (arith, behind, size) in
-          c.route.ensures.others other (λ same. absurd (omega (arith, same, past, place c))) ∙ c.self.invariant.none_behind other (omega (arith, past));
-    }))
-
-pub returns-clause-slots : goal.returns-clause-slots
-returns-clause-slots c =
-    let before = routing_in c.self.inside.routings in
+pub returns-in-Ok-clause-slots : goal.returns-in-Ok-clause-slots
+returns-in-Ok-clause-slots c =
+    let at = (goal.at.returns-in-Ok-clause-slots c).After-route in
+    let inside = c.self.inside in
     let after = routing_in c.route.new.routings in
-    let more = slots-push (bytes c) (id c) (source c) before after c.args.kept.routing 0 0 (pieces c) (piece c) c.self.invariant.laid (next c)
-    (λ other low. c.route.ensures.others other (λ same. absurd (omega (arith, same, low, place c))))
-    (ap after (let at = place c in let here : 0 + length (pieces c) ≡ c.len.result = omega (arith, at) in here) ∙ c.in_ok-route.ensures.routing) in
-    (λ i. slots_from (source-put c i) after 0 0 (piece-put c i))
-    ∙ (more ∙ ap (λ (ss : List Slot). ss ++ live_slot (id c) c.args.kept ∷ []) c.self.view_is)
+    let weights = made (is_ok c.push-in-Ok.result) _ _ _ c.push-in-Ok.ensures.items (c.push-in-Ok.ensures.succeeds (let room = c.in_ok-reserve.ensures.ok in omega (arith, room))) ∙ ap (λ (ws : List ℕ). ws ++ c.args.kept.weight ∷ []) c.reserve.ensures.items in
+    let sources = c.in_ok-push.ensures.added ∙ ap (λ (source : List ℕ). inside.sources ++ source ∷ []) c.as_slice.ensures in
+    let routed = ap after (sym (place at)) ∙ c.in_ok-route.ensures.routing in
+    (slots-more (routing_in inside.routings) after inside.ids c.push-2.new.self inside.sources c.push.new.self inside.weights.items c.push-in-Ok.new.self.items c.args.kept.routing c.args.id.now c.args.kept.source c.args.kept.weight c.self.invariant c.in-Ok.ensures.added sources weights (as-before at) routed).0
+    ∙ ap (λ (ss : List Slot). ss ++ live_slot c.args.id.now c.args.kept ∷ []) c.self.view_is
