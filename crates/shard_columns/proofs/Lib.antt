@@ -3,7 +3,6 @@ pub mod Placing
 pub mod Laying
 pub mod Depths
 pub mod Storing
-pub mod Cutting
 pub mod Drafting
 pub mod Finishing
 pub mod Filling

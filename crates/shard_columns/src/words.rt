@@ -6,7 +6,7 @@ ghost use Rattle.shard_columns.specs.Words.{number_of, HasNone, IsNumbered, of_f
 
 use crate::field_words::FieldWords;
 use agg_model::limits::{MAX_PATHS, WEIGHT_LIMIT};
-use agg_model::{List, Text};
+use packed_texts::PackedTexts;
 use std::alloc::{AllocError, Global};
 
 /// The words of each field that are met in rows, each with a number of its own, whatever its field.
@@ -59,25 +59,25 @@ fn dictionary(
     alloc: Global,
     words: FieldWords,
     ranks: &mut Vec<usize>,
-) -> Result<List<Text>, AllocError>
+) -> Result<PackedTexts, AllocError>
     requires { AreApart (length ranks.old.items) words }
     ensures words { IfOk result (λ d. SameWords (words_among words) d) }
     ensures ranked { IfOk result (λ d. AreRanked words d ranks.old.items ranks.new.items) }
 {
     let sorted = words.into_sorted(alloc)?;
-    let mut texts = Vec::with_capacity(alloc, sorted.len())?;
+    let mut texts = PackedTexts::new(alloc);
     for word in sorted {
         ranks[word.number] = texts.len();
-        texts.push(word.text)?;
+        texts.push(word.text.as_str())?;
     }
-    Ok(List::from_vec(texts))
+    Ok(texts)
 }
 
 /// For each field its distinct words in ascending order, and for each number the place of its word there.
 pub fn dictionaries(
     alloc: Global,
     numbers: WordNumbers,
-) -> Result<(Vec<List<Text>>, Vec<usize>), AllocError>
+) -> Result<(Vec<PackedTexts>, Vec<usize>), AllocError>
     requires { IsNumbered numbers }
     ensures words { IfOk result (λ made. AreWords numbers made.0.items) }
     ensures ranks { IfOk result (λ made. ArePlaced numbers made.0.items made.1.items) }
@@ -94,40 +94,29 @@ pub fn dictionaries(
 }
 
 // The length of the longest of these words in bytes, 0 where there is none.
-fn longest_of(words: &[Text]) -> usize
+fn longest_of(words: &PackedTexts) -> usize
     ensures { result ≡ greatest_of (map length words.now) }
 {
     let mut longest = 0;
-    for word in words {
-        longest = longest.max(word.len());
+    for place in 0..words.len() {
+        longest = longest.max(words.size(place));
     }
     longest
 }
 
 /// The length of the longest word of each field in bytes, 0 where it has none.
-pub fn longest_of_each(alloc: Global, words: &[List<Text>]) -> Result<Vec<usize>, AllocError>
+pub fn longest_of_each(alloc: Global, words: &[PackedTexts]) -> Result<Vec<usize>, AllocError>
     ensures { IfOk result (λ all. all.items ≡ map (λ ws. greatest_of (map length ws)) words.now) }
 {
     let mut all = Vec::with_capacity(alloc, words.len())?;
     for list in words {
-        all.push(longest_of(list.as_slice()))?;
+        all.push(longest_of(list))?;
     }
     Ok(all)
 }
 
-fn bytes_of(words: &[Text]) -> u64
-    requires { sum_by length words.now < WEIGHT_LIMIT }
-    ensures { result ≡ sum_by length words.now }
-{
-    let mut bytes = 0;
-    for word in words {
-        bytes += word.len() as u64;
-    }
-    bytes
-}
-
 /// The bytes of the words of all fields.
-pub fn all_bytes(words: &[List<Text>]) -> u64
+pub fn all_bytes(words: &[PackedTexts]) -> u64
     requires few { length words.now ≤ MAX_PATHS }
     requires light { (f : ℕ) → sum_by length (slice_index_or words.now f []) < WEIGHT_LIMIT }
     ensures sum { result ≡ sum_by (λ ws. sum_by length ws) words.now }
@@ -135,7 +124,7 @@ pub fn all_bytes(words: &[List<Text>]) -> u64
 {
     let mut bytes = 0;
     for list in words {
-        bytes += bytes_of(list.as_slice());
+        bytes += list.total();
     }
     bytes
 }

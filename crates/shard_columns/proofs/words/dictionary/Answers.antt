@@ -25,7 +25,7 @@ pub loop-word-init : goal.loop-word-init
 loop-word-init c =
     let all = all_entries c.into_iter-word-iterator.result.rest.items in
     record {
-      ranked = subst (λ (ws : Words). IsRankedSoFar all [] ws c.args.ranks.now.items c.args.ranks.now.items) (sym c.in_ok-texts.ensures.items) (Ranked-none all c.args.ranks.now.items);
+      ranked = subst (λ (ws : Words). IsRankedSoFar all [] ws c.args.ranks.now.items c.args.ranks.now.items) (sym c.new-texts.ensures) (Ranked-none all c.args.ranks.now.items);
       rest = refl;
     }
 
@@ -38,16 +38,16 @@ loop-word-preserved c =
     let sorted = c.in_ok-sorted.sorted.items in
     let old = c.args.ranks.now.items in
     let now = c.loop-word.ranks.items in
-    let texts : Words = c.loop-word.texts.items in
+    let texts : Words = c.loop-word.texts in
     let order = arranged-words c.args.words sorted all c.into_iter-word-iterator.ensures.into_iter_gives.0 c.in_ok-sorted.ensures.same c.in_ok-sorted.ensures.strict in
     let next = entries-next yielded rest word all c.loop-word.word-iterator.rest.items c.loop-word.invariant.rest c.in-Some.ensures.steps.0 in
     let found = number-next (all_entries all) (all_entries yielded) (all_entries rest) word.text word.number order.distinct next in
     let step = Ranked-push (all_entries all) (all_entries yielded) ((word.text, word.number) ∷ all_entries rest) word.text word.number texts old now (apart-arranged (length old) c.args.words (all_entries all) order c.requires) next found c.loop-word.invariant.ranked in
-    let place : c.len-in-loop-word.result ≡ length texts = c.len-in-loop-word.ensures ∙ c.loop-word.texts.ok.0 in
+    let place : c.len.result ≡ length texts = c.len.ensures in
     record {
       ranked =
-          subst (λ (es : Entries). IsRankedSoFar (all_entries all) es c.push.new.self.items old (set now word.number c.len-in-loop-word.result)) (sym (map-append entry_of yielded (word ∷ [])))
-          (subst (λ (ws : Words). IsRankedSoFar (all_entries all) (all_entries yielded ++ (word.text, word.number) ∷ []) ws old (set now word.number c.len-in-loop-word.result)) (sym c.in_ok-push.ensures.items)
+          subst (λ (es : Entries). IsRankedSoFar (all_entries all) es c.push.new.self old (set now word.number c.len.result)) (sym (map-append entry_of yielded (word ∷ [])))
+          (subst (λ (ws : Words). IsRankedSoFar (all_entries all) (all_entries yielded ++ (word.text, word.number) ∷ []) ws old (set now word.number c.len.result)) (sym (c.in_ok-push.ensures.added ∙ ap (λ (w : List ℕ). texts ++ w ∷ []) c.as_str.ensures))
           (subst (λ (r : ℕ). IsRankedSoFar (all_entries all) (all_entries yielded ++ (word.text, word.number) ∷ []) (texts ++ word.text ∷ []) old (set now word.number r)) (sym place) step));
       rest = c.loop-word.invariant.rest ∙ (ap (λ (ws : List Numbered). yielded ++ ws) c.in-Some.ensures.steps.0 ∙ sym (append_assoc yielded (word ∷ []) rest));
     }
@@ -63,8 +63,8 @@ returns-clause-words c =
     let left = c.loop-word.word-iterator.rest in
     let order = arranged-words c.args.words c.in_ok-sorted.sorted.items all c.into_iter-word-iterator.ensures.into_iter_gives.0 c.in_ok-sorted.ensures.same c.in_ok-sorted.ensures.strict in
     let none : length left.items ≡ 0 = omega (arith, c.in-None.ensures.steps.0, left.ok) in
-    let made = AreRanked-made c.args.words (all_entries all) c.loop-word.texts.items c.args.ranks.now.items c.loop-word.ranks.items order (whole all c.loop-word.yielded left.items c.loop-word.texts.items c.args.ranks.now.items c.loop-word.ranks.items c.loop-word.invariant.rest none c.loop-word.invariant.ranked) in
-    subst (SameWords (words_among c.args.words)) (sym c.from_vec.ensures) made.0
+    let made = AreRanked-made c.args.words (all_entries all) c.loop-word.texts c.args.ranks.now.items c.loop-word.ranks.items order (whole all c.loop-word.yielded left.items c.loop-word.texts c.args.ranks.now.items c.loop-word.ranks.items c.loop-word.invariant.rest none c.loop-word.invariant.ranked) in
+    made.0
 
 pub returns-clause-ranked : goal.returns-clause-ranked
 returns-clause-ranked c =
@@ -72,5 +72,5 @@ returns-clause-ranked c =
     let left = c.loop-word.word-iterator.rest in
     let order = arranged-words c.args.words c.in_ok-sorted.sorted.items all c.into_iter-word-iterator.ensures.into_iter_gives.0 c.in_ok-sorted.ensures.same c.in_ok-sorted.ensures.strict in
     let none : length left.items ≡ 0 = omega (arith, c.in-None.ensures.steps.0, left.ok) in
-    let made = AreRanked-made c.args.words (all_entries all) c.loop-word.texts.items c.args.ranks.now.items c.loop-word.ranks.items order (whole all c.loop-word.yielded left.items c.loop-word.texts.items c.args.ranks.now.items c.loop-word.ranks.items c.loop-word.invariant.rest none c.loop-word.invariant.ranked) in
-    subst (λ (d : Words). AreRanked c.args.words d c.args.ranks.now.items c.loop-word.ranks.items) (sym c.from_vec.ensures) made.1
+    let made = AreRanked-made c.args.words (all_entries all) c.loop-word.texts c.args.ranks.now.items c.loop-word.ranks.items order (whole all c.loop-word.yielded left.items c.loop-word.texts c.args.ranks.now.items c.loop-word.ranks.items c.loop-word.invariant.rest none c.loop-word.invariant.ranked) in
+    made.1
