@@ -14,6 +14,7 @@ pub mod EachRoot
 pub mod Ascending
 pub mod Telling
 pub mod Beginnings
+pub mod Keeping
 pub mod Arranging
 pub mod Noting
 pub mod Ranking

@@ -1,5 +1,5 @@
 // The words of each field of a shard: distinct, and in ascending order.
-ghost use Rattle.std.specs.Prelude.{◌≡◌, ◌∷◌, ◌<◌, ◌≤◌, ◌+◌, ◌*◌, ℕ, List as Items, [], Some, OnOk, IfOk, length, map, sum_by, slice_index_or, unwrap_or, if◌then◌else◌};
+ghost use Rattle.std.specs.Prelude.{◌≡◌, ◌∷◌, ◌<◌, ◌≤◌, ◌+◌, ◌*◌, ◌^◌, ℕ, List as Items, [], Some, OnOk, IfOk, length, map, sum_by, slice_index_or, unwrap_or, if◌then◌else◌};
 ghost use Rattle.agg_evaluation.specs.Ceiling.{greatest_of};
 ghost use Rattle.shard_columns.specs.Numbered.{words_among};
 ghost use Rattle.shard_columns.specs.Words.{number_of, HasNone, IsNumbered, of_field, Notes, AreApart, AreRanked, SameWords, AreWords, ArePlaced};
@@ -36,15 +36,16 @@ impl WordNumbers {
     }
 
     /// The number of a word of a field, which is looked up once.
-    pub fn number(&mut self, field: usize, word: &str) -> Result<usize, AllocError>
+    pub fn number(&mut self, field: usize, word: &str) -> Result<u32, AllocError>
         requires in_range { field < length self.old.by_field.items }
+        requires room { length self.old.ranks.items < 2 ^ 32 }
         requires sound { IsNumbered self.old }
         ensures notes { OnOk result (Notes self.old self.new (of_field field (word.now ∷ []))) }
         ensures number { IfOk result (λ n. number_of self.new field word.now ≡ Some n) }
         ensures few { OnOk result (length self.new.ranks.items ≤ length self.old.ranks.items + 1) }
     {
         let alloc = *self.ranks.allocator();
-        let next = self.ranks.len();
+        let next = self.ranks.len() as u32;
         let number = self.by_field[field].number(alloc, word, next)?;
         if number < next {
             return Ok(number);
@@ -64,11 +65,11 @@ fn dictionary(
     ensures words { IfOk result (λ d. SameWords (words_among words) d) }
     ensures ranked { IfOk result (λ d. AreRanked words d ranks.old.items ranks.new.items) }
 {
-    let sorted = words.into_sorted(alloc)?;
+    let sorted = words.sorted(alloc)?;
     let mut texts = PackedTexts::new(alloc);
     for word in sorted {
-        ranks[word.number] = texts.len();
-        texts.push(word.text.as_str())?;
+        ranks[word.number as usize] = texts.len();
+        texts.push(word.text)?;
     }
     Ok(texts)
 }

@@ -1,6 +1,5 @@
 use Rattle.std.proofs.Common.{List, ℕ, ◌∙◌, sym, ap, arith, ◌-◌, ◌+◌, ◌/◌, ◌<◌, ◌≤◌}
-use Rattle.std.specs.Ordering.{nat_cmp, is_lt}
-use Rattle.std.specs.Cmp.Lexicographic.{slice_cmp}
+use Rattle.std.specs.Ordering.{is_lt}
 use Rattle.shard_columns.specs.Bounds.{is_before}
 use Rattle.shard_columns.proofs.Searching.{narrowed-none, narrowed-low, narrowed-high, narrowed-all}
 use Rattle.shard_columns.proofs.search.count_before.Goals as goal

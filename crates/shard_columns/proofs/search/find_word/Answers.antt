@@ -1,4 +1,4 @@
-use Rattle.std.proofs.Common.{ℕ, eqb, not, get_or, List, Some, sym, ◌∙◌, ap, arith}
+use Rattle.std.proofs.Common.{ℕ, eqb, not, List, Some, sym, ◌∙◌, ap, arith}
 use Rattle.std.specs.Cmp.Lexicographic.{pointwise}
 use Rattle.shard_columns.proofs.Searching.{absent-past, absent-at, different-text, equal-text, read, within-list}
 use Rattle.shard_columns.proofs.search.find_word.Goals as goal

@@ -1,9 +1,8 @@
 use Rattle.std.proofs.Common.{◌≡◌, ◌++◌, ◌∷◌, ℕ, List, [], set, sym, ◌∙◌, ap, subst, arith, refl, length}
 use Rattle.std.proofs.lemmas.List.{map-append, append-nil, append_assoc}
 use Rattle.shard_columns.specs.declared.field_words.Numbered.{Numbered}
-use Rattle.shard_columns.specs.Numbered.{Entries, entry_of, all_entries, words_among}
+use Rattle.shard_columns.specs.Numbered.{Entries, entry_of, all_entries}
 use Rattle.shard_columns.specs.Values.{Words}
-use Rattle.shard_columns.specs.Words.{SameWords, AreRanked}
 use Rattle.shard_columns.proofs.Arranging.{arranged-words, entries-next, apart-arranged, number-next}
 use Rattle.shard_columns.proofs.Ranking.{IsRankedSoFar, Ranked-none, Ranked-push, AreRanked-made}
 use Rattle.shard_columns.proofs.words.dictionary.Goals as goal
@@ -15,8 +14,8 @@ index_mut-requires c =
     let sorted = c.in_ok-sorted.sorted.items in
     let order = arranged-words c.args.words sorted all c.into_iter-word-iterator.ensures.into_iter_gives.0 c.in_ok-sorted.ensures.same c.in_ok-sorted.ensures.strict in
     let next = entries-next c.loop-word.yielded c.next.new.self.rest.items word all c.loop-word.word-iterator.rest.items c.loop-word.invariant.rest c.in-Some.ensures.steps.0 in
-    let found = number-next (all_entries all) (all_entries c.loop-word.yielded) (all_entries c.next.new.self.rest.items) word.text word.number order.distinct next in
-    let low = c.requires.below word.number word.text (order.back word.text word.number found) in
+    let found = number-next (all_entries all) (all_entries c.loop-word.yielded) (all_entries c.next.new.self.rest.items) word.text.now word.number order.distinct next in
+    let low = c.requires.below word.number word.text.now (order.back word.text.now word.number found) in
     let size = c.loop-word.ranks.ok.0 in
     let same = c.loop-word.invariant.ranked.sizes in
     omega (arith, low, size, same)
@@ -41,14 +40,14 @@ loop-word-preserved c =
     let texts : Words = c.loop-word.texts in
     let order = arranged-words c.args.words sorted all c.into_iter-word-iterator.ensures.into_iter_gives.0 c.in_ok-sorted.ensures.same c.in_ok-sorted.ensures.strict in
     let next = entries-next yielded rest word all c.loop-word.word-iterator.rest.items c.loop-word.invariant.rest c.in-Some.ensures.steps.0 in
-    let found = number-next (all_entries all) (all_entries yielded) (all_entries rest) word.text word.number order.distinct next in
-    let step = Ranked-push (all_entries all) (all_entries yielded) ((word.text, word.number) ∷ all_entries rest) word.text word.number texts old now (apart-arranged (length old) c.args.words (all_entries all) order c.requires) next found c.loop-word.invariant.ranked in
+    let found = number-next (all_entries all) (all_entries yielded) (all_entries rest) word.text.now word.number order.distinct next in
+    let step = Ranked-push (all_entries all) (all_entries yielded) ((word.text.now, word.number) ∷ all_entries rest) word.text.now word.number texts old now (apart-arranged (length old) c.args.words (all_entries all) order c.requires) next found c.loop-word.invariant.ranked in
     let place : c.len.result ≡ length texts = c.len.ensures in
     record {
       ranked =
           subst (λ (es : Entries). IsRankedSoFar (all_entries all) es c.push.new.self old (set now word.number c.len.result)) (sym (map-append entry_of yielded (word ∷ [])))
-          (subst (λ (ws : Words). IsRankedSoFar (all_entries all) (all_entries yielded ++ (word.text, word.number) ∷ []) ws old (set now word.number c.len.result)) (sym (c.in_ok-push.ensures.added ∙ ap (λ (w : List ℕ). texts ++ w ∷ []) c.as_str.ensures))
-          (subst (λ (r : ℕ). IsRankedSoFar (all_entries all) (all_entries yielded ++ (word.text, word.number) ∷ []) (texts ++ word.text ∷ []) old (set now word.number r)) (sym place) step));
+          (subst (λ (ws : Words). IsRankedSoFar (all_entries all) (all_entries yielded ++ (word.text.now, word.number) ∷ []) ws old (set now word.number c.len.result)) (sym c.in_ok-push.ensures.added)
+          (subst (λ (r : ℕ). IsRankedSoFar (all_entries all) (all_entries yielded ++ (word.text.now, word.number) ∷ []) (texts ++ word.text.now ∷ []) old (set now word.number r)) (sym place) step));
       rest = c.loop-word.invariant.rest ∙ (ap (λ (ws : List Numbered). yielded ++ ws) c.in-Some.ensures.steps.0 ∙ sym (append_assoc yielded (word ∷ []) rest));
     }
 

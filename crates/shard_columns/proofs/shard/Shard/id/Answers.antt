@@ -1,4 +1,4 @@
-use Rattle.std.proofs.Common.{sym, ◌∙◌, arith}
+use Rattle.std.proofs.Common.{sym, ◌∙◌}
 use Rattle.shard_columns.proofs.Reading.{in-range, id-is}
 use Rattle.shard_columns.proofs.shard.Shard.id.Goals as goal
 
