@@ -27,7 +27,7 @@ fn compare(cell: Cell<'_>, probe: &Probe) -> Ordering
         },
         Cell::Word(value) => match probe {
             Probe::Whole(_) | Probe::Flag(_) => Ordering::Greater,
-            Probe::Word(wanted) => value.cmp(&wanted.as_str().as_bytes()),
+            Probe::Word(wanted) => value.cmp(wanted.as_str()),
         },
     }
 }

@@ -199,11 +199,11 @@ fn compare_part(key: &Key, part: Part) -> Ordering
 }
 
 // The order of a key and a word.
-fn compare_word(key: &Key, word: &[u8]) -> Ordering
+fn compare_word(key: &Key, word: &str) -> Ordering
     ensures { result ≡ key_cmp key.now (Word word.now) }
 {
     match key {
-        Key::Word(own) => own.as_str().as_bytes().cmp(word),
+        Key::Word(own) => own.as_str().cmp(word),
         Key::Null | Key::Whole(_) | Key::Flag(_) => Ordering::Less,
         Key::Fixed(_) | Key::Many(_) => Ordering::Greater,
     }

@@ -1,5 +1,5 @@
-//! Numbers that stand for keys, by which a key is found among many with few looks at keys themselves. They are guesses, which
-//! no contract rests on.
+//! Codes that stand for keys, by which a key is found among many with few looks at keys themselves. They are guesses, which no
+//! contract rests on.
 ghost use Rattle.std.specs.Prelude.{◌≡◌, ◌<◌, IfErr, IfOk, IsTrue, T, length};
 ghost use Rattle.std.specs.List.{list_all};
 ghost use Rattle.agg_evaluation.specs.CompositeKeys.{is_composite_of};
@@ -16,14 +16,21 @@ use bucket_order::compare_composites;
 use shard_columns::Shard;
 use std::cmp::Ordering;
 
+/// What stands for a key: a number for its first part, and one for its second, 0 where it has none.
+#[derive(Clone, Copy, Debug, Default, PartialEq, Eq, PartialOrd, Ord)]
+pub struct Code {
+    first: u64,
+    second: u64,
+}
+
 /// What has a composite key and its code.
 pub trait HasCode: HasKey {
     /// The code.
-    fn code(&self) -> u64;
+    fn code(&self) -> Code;
 }
 
-// The code of a whole number: those of 64 bits rise with it.
-fn code_of_whole(number: i128) -> u64 {
+// The number that a whole number gives: those of 64 bits rise with it.
+fn number_of_whole(number: i128) -> u64 {
     let raised = number
         .saturating_add(i128::from(i64::MAX))
         .saturating_add(1);
@@ -34,13 +41,14 @@ fn code_of_whole(number: i128) -> u64 {
     }
 }
 
-// The code of the part of a row's key at a source.
-fn code_of_part(shard: &Shard, row: u32, source: &CompositeSource, part: &Key) -> u64
+// The number of the part of a row's key at a source: the place of a word in the dictionary of the field, or what a number
+// gives. They rise in the order of the source.
+fn number_of_part(shard: &Shard, row: u32, source: &CompositeSource, part: &Key) -> u64
     requires built { IsShard shard.now }
     requires in_range { row < length shard.now.rows }
 {
-    match part {
-        Key::Whole(number) => code_of_whole(*number),
+    let number = match part {
+        Key::Whole(number) => number_of_whole(*number),
         Key::Flag(flag) => u64::from(*flag),
         Key::Word(word) => {
             let place = match only_ordinal(shard, row, source) {
@@ -50,26 +58,39 @@ fn code_of_part(shard: &Shard, row: u32, source: &CompositeSource, part: &Key) -
             u64::from(place.unwrap_or(0))
         }
         Key::Null | Key::Fixed(_) | Key::Many(_) => 0,
+    };
+    if source.descending { !number } else { number }
+}
+
+// The number of the part of a row's key at this place, 0 where it has none.
+fn number_at(
+    shard: &Shard,
+    row: u32,
+    sources: &List<CompositeSource>,
+    parts: &List<Key>,
+    place: usize,
+) -> u64
+    requires built { IsShard shard.now }
+    requires in_range { row < length shard.now.rows }
+{
+    match (sources.get(place), parts.get(place)) {
+        (Some(source), Some(part)) => number_of_part(shard, row, source, part),
+        _ => 0,
     }
 }
 
-/// The code of a key that a row has: the place of its first part's word in the dictionary of the field, or what its number
-/// gives. Codes of keys in the order of the sources seldom fall, and keys of one first part have one.
-pub fn code_of(shard: &Shard, row: u32, kind: &Kind, key: &Key) -> u64
+/// The code of a key that a row has. Codes of keys in the order of the sources seldom fall, and keys whose first two parts are
+/// the same have one.
+pub fn code_of(shard: &Shard, row: u32, kind: &Kind, key: &Key) -> Code
     requires built { IsShard shard.now }
     requires in_range { row < length shard.now.rows }
 {
     match (kind, key) {
-        (Kind::Composite { sources, .. }, Key::Many(parts)) => {
-            match (sources.get(0), parts.get(0)) {
-                (Some(source), Some(part)) => {
-                    let code = code_of_part(shard, row, source, part);
-                    if source.descending { !code } else { code }
-                }
-                _ => 0,
-            }
-        }
-        _ => 0,
+        (Kind::Composite { sources, .. }, Key::Many(parts)) => Code {
+            first: number_at(shard, row, sources, parts, 0),
+            second: number_at(shard, row, sources, parts, 1),
+        },
+        _ => Code::default(),
     }
 }
 
@@ -78,7 +99,7 @@ fn is_coded_before<T: HasCode>(
     sources: &List<CompositeSource>,
     item: &T,
     key: &Key,
-    code: u64,
+    code: Code,
 ) -> bool {
     match item.code().cmp(&code) {
         Ordering::Less => true,
@@ -91,7 +112,7 @@ fn ends_coded_before<T: HasCode>(
     sources: &List<CompositeSource>,
     items: &[T],
     key: &Key,
-    code: u64,
+    code: Code,
 ) -> bool {
     match items.last() {
         Some(last) => is_coded_before(sources, last, key, code),
@@ -104,7 +125,7 @@ fn guess_spot<T: HasCode>(
     sources: &List<CompositeSource>,
     runs: &[Vec<T>],
     key: &Key,
-    code: u64,
+    code: Code,
 ) -> Spot {
     let run = runs.partition_point(|run| ends_coded_before(sources, run.as_slice(), key, code));
     let at = match runs.get(run) {
@@ -156,7 +177,7 @@ pub fn find_spot_by<T: HasCode>(
     sources: &List<CompositeSource>,
     runs: &[Vec<T>],
     key: &Key,
-    code: u64,
+    code: Code,
 ) -> Result<Spot, Spot>
     requires order { IsInOrder T.key_of sources.now (in_runs runs.now) }
     requires filled { AreFilled runs.now }

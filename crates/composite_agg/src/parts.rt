@@ -17,7 +17,7 @@ use std::alloc::{AllocError, Global};
 #[derive(Clone, Copy)]
 pub enum Part<'a> {
     Whole(i128),
-    Word(&'a [u8]),
+    Word(&'a str),
     Flag(bool),
 }
 
@@ -83,23 +83,13 @@ pub fn new_part<'a>(
     }
 }
 
-// The columns lend a word as bytes. They are those of a text, so that the last arm is never taken.
-fn text_of(alloc: Global, word: &[u8]) -> Result<Text, AllocError>
-    ensures { IfOk result (λ text. text ≡ word.now) }
-{
-    match str::from_utf8(word) {
-        Ok(text) => Text::of(alloc, text),
-        Err(_) => Err(AllocError),
-    }
-}
-
 /// The part as a key.
 pub fn key_of(alloc: Global, part: Part) -> Result<Key, AllocError>
     ensures { IfOk result (λ k. k ≡ key_of_part part.entry) }
 {
     match part {
         Part::Whole(number) => Ok(Key::Whole(number)),
-        Part::Word(word) => Ok(Key::Word(text_of(alloc, word)?)),
+        Part::Word(word) => Ok(Key::Word(Text::of(alloc, word)?)),
         Part::Flag(flag) => Ok(Key::Flag(flag)),
     }
 }

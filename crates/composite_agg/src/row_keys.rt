@@ -78,9 +78,9 @@ fn only_key(
     ensures { IfOk result (λ ks. ks ≡ Many (flat_map (keys_of_source (row_of shard.now.rows row)) sources.now) ∷ []) }
 {
     let parts = all_parts(alloc, shard, row, sources)?;
-    let mut keys = List::new(alloc);
+    let mut keys = Vec::with_capacity(alloc, 1)?;
     keys.push(Key::Many(parts))?;
-    Ok(keys)
+    Ok(List::from_vec(keys))
 }
 
 // The parts of all sources in one list.
@@ -95,21 +95,11 @@ fn all_parts(
     requires positive { ArePositive sources.now }
     ensures { IfOk result (λ parts. parts ≡ flat_map (keys_of_source (row_of shard.now.rows row)) sources.now) }
 {
-    let mut parts = List::new(alloc);
+    let mut parts = Vec::with_capacity(alloc, sources.len())?;
     for source in sources {
-        let more = source_keys(alloc, shard, row, source)?;
-        push_all(&mut parts, more)?;
+        push_source_keys(alloc, shard, row, source, &mut parts)?;
     }
-    Ok(parts)
-}
-
-fn push_all(parts: &mut List<Key>, more: List<Key>) -> Result<(), AllocError>
-    ensures { OnOk result (parts.new ≡ parts.old ++ more) }
-{
-    for part in more.into_vec() {
-        parts.push(part)?;
-    }
-    Ok(())
+    Ok(List::from_vec(parts))
 }
 
 // The combinations of the sources' keys, the last source's changing first.
@@ -188,31 +178,51 @@ fn source_keys(
     requires positive { IsPositive source.now }
     ensures { IfOk result (λ ks. ks ≡ keys_of_source (row_of shard.now.rows row) source.now) }
 {
-    let mut keys = value_keys(alloc, shard, row, source)?;
-    if keys.is_empty() && source.missing_bucket {
-        keys.push(Key::Null)?;
-    }
-    Ok(keys)
+    let mut keys = Vec::new(alloc);
+    push_source_keys(alloc, shard, row, source, &mut keys)?;
+    Ok(List::from_vec(keys))
 }
 
-fn value_keys(
+// Puts the same behind others.
+fn push_source_keys(
     alloc: Global,
     shard: &Shard,
     row: u32,
     source: &CompositeSource,
-) -> Result<List<Key>, AllocError>
+    keys: &mut Vec<Key>,
+) -> Result<(), AllocError>
     requires built { IsShard shard.now }
     requires in_range { row < length shard.now.rows }
     requires positive { IsPositive source.now }
-    ensures { IfOk result (λ ks. ks ≡ distinct_keys (flat_map (part_keys source.now) (values_of source.now.field (row_of shard.now.rows row)))) }
+    ensures { OnOk result (keys.new.items ≡ keys.old.items ++ keys_of_source (row_of shard.now.rows row) source.now) }
 {
-    let mut keys = List::new(alloc);
+    let before = keys.len();
+    push_value_keys(alloc, shard, row, source, keys)?;
+    if keys.len() == before && source.missing_bucket {
+        keys.push(Key::Null)?;
+    }
+    Ok(())
+}
+
+fn push_value_keys(
+    alloc: Global,
+    shard: &Shard,
+    row: u32,
+    source: &CompositeSource,
+    keys: &mut Vec<Key>,
+) -> Result<(), AllocError>
+    requires built { IsShard shard.now }
+    requires in_range { row < length shard.now.rows }
+    requires positive { IsPositive source.now }
+    ensures { OnOk result (keys.new.items ≡ keys.old.items
+        ++ distinct_keys (flat_map (part_keys source.now) (values_of source.now.field (row_of shard.now.rows row)))) }
+{
     for place in 0..shard.value_count(row, source.field) {
         if let Some(part) = new_part(shard, row, source, place) {
             keys.push(key_of(alloc, part)?)?;
         }
     }
-    Ok(keys)
+    Ok(())
 }
 
 // How many keys `source_keys` gives.

@@ -24,7 +24,7 @@ ghost use Rattle.growing_page.specs.GrowingPages.{IsCosted, IsPageOf, buckets_of
 use crate::costs::{bytes_of_bucket, sum_of};
 use crate::page::{Held, Page};
 use agg_model::{Agg, Key, Kind, List};
-use composite_agg::coded::{code_of, find_spot_by};
+use composite_agg::coded::{Code, code_of, find_spot_by};
 use composite_agg::runs::{Spot, enter, is_outside, last_key};
 use composite_agg::{are_behind, keys};
 use growing_tree::{Ready, begin_trees, gather_children};
@@ -94,7 +94,7 @@ fn are_all_refused(
 }
 
 // The spot of the bucket of a key, or else where one would stand.
-fn find(kind: &Kind, page: &Page, key: &Key, code: u64) -> Result<Spot, Spot>
+fn find(kind: &Kind, page: &Page, key: &Key, code: Code) -> Result<Spot, Spot>
     requires composite { IsTrue (is_composite kind.now) }
     requires order { IsInOrder held_key (sources_of kind.now) (buckets_of page.now) }
     requires filled { AreFilled page.now.runs.items }
@@ -110,13 +110,13 @@ fn find(kind: &Kind, page: &Page, key: &Key, code: u64) -> Result<Spot, Spot>
 }
 
 // The code of a key of these rows, which all have it.
-fn code_for(shard: &Shard, rows: &[u32], kind: &Kind, key: &Key) -> u64
+fn code_for(shard: &Shard, rows: &[u32], kind: &Kind, key: &Key) -> Code
     requires built { IsShard shard.now }
     requires in_range { All (λ n. n < length shard.now.rows) rows.now }
 {
     match rows {
         [row, ..] => code_of(shard, *row, kind, key),
-        [] => 0,
+        [] => Code::default(),
     }
 }
 
@@ -129,7 +129,7 @@ fn new_bucket(
     rows: &[u32],
     spare: &mut Vec<Vec<i64>>,
     key: Key,
-    code: u64,
+    code: Code,
 ) -> Result<Held, AllocError>
     requires ready { AreReadyFor shard.now aggs.now ready.now }
     requires built { IsShard shard.now }

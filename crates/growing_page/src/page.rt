@@ -9,7 +9,7 @@ ghost use Rattle.growing_page.specs.GrowingPages.{IsPageOf, page_node};
 
 use agg_model::{Key, Kind};
 use composite_agg::HasKey;
-use composite_agg::coded::HasCode;
+use composite_agg::coded::{Code, HasCode};
 use growing_tree::Tree;
 use std::alloc::{AllocError, Global};
 
@@ -21,8 +21,8 @@ pub(crate) struct Held {
     pub(crate) children: Vec<Tree>,
     /// What the bucket costs, with all below it.
     pub(crate) bytes: u64,
-    /// A number that rises with the keys, by which buckets are found.
-    pub(crate) code: u64,
+    /// What rises with the keys, and by which buckets are found.
+    pub(crate) code: Code,
 }
 
 impl HasKey for Held {
@@ -34,7 +34,7 @@ impl HasKey for Held {
 }
 
 impl HasCode for Held {
-    fn code(&self) -> u64 {
+    fn code(&self) -> Code {
         self.code
     }
 }

@@ -35,7 +35,7 @@ fn cell_of(value: &Option<Scalar>) -> Option<Cell<'_>>
 {
     match value {
         Some(Scalar::Whole(number)) => Some(Cell::Whole(*number)),
-        Some(Scalar::Word(word)) => Some(Cell::Word(word.as_str().as_bytes())),
+        Some(Scalar::Word(word)) => Some(Cell::Word(word.as_str())),
         Some(Scalar::Flag(flag)) => Some(Cell::Flag(*flag)),
         None => None,
     }

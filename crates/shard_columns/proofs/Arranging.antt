@@ -1,5 +1,5 @@
 -- The words of a field in order: no word stands twice, so that sorted words rise strictly.
-use Rattle.std.proofs.Common.{Bool, true, false, cond, ◌≡◌, refl, ℕ, ◌+◌, List, [], ◌∷◌, ◌++◌, length, get_or, sym, ◌∙◌, ap, subst, arith, zero, suc, Option, None, Some, Contains}
+use Rattle.std.proofs.Common.{Bool, true, false, cond, ◌≡◌, refl, ℕ, ◌+◌, ◌<◌, List, [], ◌∷◌, ◌++◌, length, get_or, sym, ◌∙◌, ap, subst, arith, zero, suc, Option, None, Some, Contains}
 use Rattle.std.specs.Prelude.{slice_get, IsSome, String, string_bytes}
 use Rattle.std.specs.declared.alloc.Global.{Global}
 use Rattle.std.specs.declared.cmp.Ordering.{Ordering}
@@ -26,7 +26,7 @@ use Rattle.std.proofs.lemmas.Map.Keys.{IsDistinct-from_sorted, IsDistinct-cons, 
 use denote.Param.Members.{Mut}
 use denote.Ref.{Bor}
 use Rattle.shard_columns.specs.declared.field_words.Numbered.{Numbered}
-use Rattle.shard_columns.specs.Numbered.{Entries, number_in, words_among, entry_of, all_entries, beginning_of, first_entries, other_entries, IsIndexed}
+use Rattle.shard_columns.specs.Numbered.{Entries, Entry, number_in, words_among, entry_of, all_entries, beginning_of, first_entries, other_entries, IsIndexed}
 use Rattle.shard_columns.proofs.Beginnings.{Begun, first_of, number_if, number-append, number-first, number_if-other, is-it, itself}
 use Rattle.shard_columns.specs.Words.{AreApart, SameWords}
 
@@ -34,7 +34,7 @@ abbrev pub same_word : List ℕ → List ℕ → Bool
 same_word = eq_by_cmp (slice_cmp nat_cmp)
 
 abbrev Firsts : Type 0
-Firsts = List (ℕ × Numbered)
+Firsts = List (ℕ × Entry)
 
 abbrev Others : Type 0
 Others = List (String Global × ℕ)
@@ -59,7 +59,7 @@ others-rise (e ∷ es) up = (after-texts e.0 es up.0, others-rise es up.1)
 
 -- none of these words is of the other part
 abbrev Cross : Others → Firsts → Type 0
-Cross others firsts = AllByRecursion (λ e. number_in (other_entries others) e.1.text ≡ None) firsts
+Cross others firsts = AllByRecursion (λ e. number_in (other_entries others) e.1.0 ≡ None) firsts
 
 some-later : (b : Bool) (n : ℕ) (o : Option ℕ) → IsSome o → IsSome (cond b (Some n) o)
 some-later true n o has = refl
@@ -68,30 +68,30 @@ some-later false n o has = has
 cross-all : (firsts : Firsts) (others : Others) → IsIndexed firsts others → (es : Firsts) → ((w : List ℕ) → IsSome (number_in (first_entries es) w) → IsSome (number_in (first_entries firsts) w)) → Cross others es
 cross-all firsts others indexed [] among = tt
 cross-all firsts others indexed (e ∷ es) among =
-    let there = among e.1.text (subst (λ (b : Bool). IsSome (cond b (Some e.1.number) (number_in (first_entries es) e.1.text))) (sym (itself e.1.text)) refl) in (
-      here there (number_in (other_entries others) e.1.text) refl,
-      cross-all firsts others indexed es (λ w has. among w (some-later (is_eq (slice_cmp nat_cmp w e.1.text)) e.1.number (number_in (first_entries es) w) has)),
+    let there = among e.1.0 (subst (λ (b : Bool). IsSome (cond b (Some e.1.1) (number_in (first_entries es) e.1.0))) (sym (itself e.1.0)) refl) in (
+      here there (number_in (other_entries others) e.1.0) refl,
+      cross-all firsts others indexed es (λ w has. among w (some-later (is_eq (slice_cmp nat_cmp w e.1.0)) e.1.1 (number_in (first_entries es) w) has)),
     )
   where
-    here : IsSome (number_in (first_entries firsts) e.1.text) → (o : Option ℕ) → number_in (other_entries others) e.1.text ≡ o → o ≡ None
+    here : IsSome (number_in (first_entries firsts) e.1.0) → (o : Option ℕ) → number_in (other_entries others) e.1.0 ≡ o → o ≡ None
     here there None at = refl
     here there (Some n) at =
-        let first = indexed.apart e.1.text (subst IsSome (sym at) refl) in
-        let none : number_in (first_entries firsts) e.1.text ≡ None =
-        number-first firsts e.1.text indexed.firsts_ascend indexed.begun ∙ (ap (number_if e.1.text) first.1.0 ∙ number_if-other e.1.text first.0 first.1.1) in
+        let first = indexed.apart e.1.0 (subst IsSome (sym at) refl) in
+        let none : number_in (first_entries firsts) e.1.0 ≡ None =
+        number-first firsts e.1.0 indexed.firsts_ascend indexed.begun ∙ (ap (number_if e.1.0) first.1.0 ∙ number_if-other e.1.0 first.0 first.1.1) in
         absurd (cc (subst IsSome none there))
 
 all-distinct : (others : Others) → IsStrictlySortedBy string_cmp (keys_of others) → (es : Firsts) → IsStrictlySortedBy nat_cmp (keys_of es) → Begun es → Cross others es → IsDistinct same_word (words_among (first_entries es ++ other_entries others))
 all-distinct others rise [] up begun cross = IsDistinct-from_sorted (slice_cmp nat_cmp) (words_among (other_entries others)) (others-rise others rise)
 all-distinct others rise (e ∷ es) up begun cross =
     let tail = sorted_tail nat_cmp e.0 (keys_of es) up in
-    let passed : first_of es e.1.text ≡ None =
-    lookup-none (is_at (nat_cmp (beginning_of e.1.text))) es (none_past_head (eq_by_cmp_equiv nat_cmp_total) (beginning_of e.1.text) e es (IsDistinct-from_sorted nat_cmp (keys_of (e ∷ es)) up)
+    let passed : first_of es e.1.0 ≡ None =
+    lookup-none (is_at (nat_cmp (beginning_of e.1.0))) es (none_past_head (eq_by_cmp_equiv nat_cmp_total) (beginning_of e.1.0) e es (IsDistinct-from_sorted nat_cmp (keys_of (e ∷ es)) up)
     (ap (λ (k : ℕ). is_eq (nat_cmp k e.0)) (sym begun.0) ∙ (eq_by_cmp_equiv nat_cmp_total).refl e.0)) in
-    let none : number_in (first_entries es ++ other_entries others) e.1.text ≡ None =
-    number-append (first_entries es) (other_entries others) e.1.text
-    ∙ (ap (λ (o : Option ℕ). option_or o (number_in (other_entries others) e.1.text)) (number-first es e.1.text tail begun.1 ∙ ap (number_if e.1.text) passed) ∙ cross.0) in
-    distinct-push (entry_of e.1) (first_entries es ++ other_entries others) none (all-distinct others rise es tail begun.1 cross.1)
+    let none : number_in (first_entries es ++ other_entries others) e.1.0 ≡ None =
+    number-append (first_entries es) (other_entries others) e.1.0
+    ∙ (ap (λ (o : Option ℕ). option_or o (number_in (other_entries others) e.1.0)) (number-first es e.1.0 tail begun.1 ∙ ap (number_if e.1.0) passed) ∙ cross.0) in
+    distinct-push e.1 (first_entries es ++ other_entries others) none (all-distinct others rise es tail begun.1 cross.1)
 
 pub distinct-view : (firsts : Firsts) (others : Others) → IsIndexed firsts others → IsStrictlySortedBy string_cmp (keys_of others) → IsDistinct same_word (words_among (first_entries firsts ++ other_entries others))
 distinct-view firsts others indexed rise = all-distinct others rise firsts indexed.firsts_ascend indexed.begun (cross-all firsts others indexed firsts (λ w has. has))
@@ -99,39 +99,38 @@ distinct-view firsts others indexed rise = all-distinct others rise firsts index
 -- words in order that differ rise
 
 abbrev by_text : Numbered → Numbered → Bool
-by_text a b = is_lt (slice_cmp nat_cmp a.text b.text)
+by_text a b = is_lt (slice_cmp nat_cmp a.text.now b.text.now)
 
 less-between : (v w : List ℕ) → is_lt (slice_cmp nat_cmp w v) ≡ false → same_word v w ≡ false → (o : Ordering) → slice_cmp nat_cmp v w ≡ o → o ≡ Less
 less-between v w up apart Less at = refl
 less-between v w up apart Equal at = absurd (cc (sym (ap is_eq at) ∙ apart))
 less-between v w up apart Greater at = absurd (cc (sym (ap is_lt (nat_list_cmp_total.antisymm w v ∙ ap ordering_reverse at)) ∙ up))
 
+texts : (words : List Numbered) (k : ℕ) (d : Numbered) → k < length words → get_or (words_among (all_entries words)) k [] ≡ (get_or words k d).text.now
+texts [] k d low = absurd (omega (arith, low))
+texts (w ∷ ws) zero d low = refl
+texts (w ∷ ws) (suc k) d low = texts ws k d (omega (arith, low))
+
+rise-next : (words : List Numbered) (k : ℕ) (d : Numbered) → k + 1 < length words → IsSortedBy by_text words → is_lt (slice_cmp nat_cmp (get_or (words_among (all_entries words)) (k + 1) []) (get_or (words_among (all_entries words)) k [])) ≡ false
+rise-next words k d low up = (λ i. is_lt (slice_cmp nat_cmp (texts words (k + 1) d low i) (texts words k d (omega (arith, low)) i))) ∙ up k d (omega arith) (omega (arith, low))
+
 pub rise-from_sorted : (words : List Numbered) → IsSortedBy by_text words → IsDistinct same_word (words_among (all_entries words)) → IsStrictlySortedBy (slice_cmp nat_cmp) (words_among (all_entries words))
-rise-from_sorted words up distinct =
+unfolding IsStrictlySortedBy
+rise-from_sorted [] up distinct = tt
+rise-from_sorted (w ∷ ws) up distinct =
+    let words = w ∷ ws in
     sorted_from_all_adjacent nat_list_cmp_total (words_among (all_entries words)) [] (λ k below.
-    let size : length (words_among (all_entries words)) ≡ length words = length-map (all_entries words) (λ (e : List ℕ × ℕ). e.0) ∙ length-map words entry_of in
-    less-between (get_or (words_among (all_entries words)) k []) (get_or (words_among (all_entries words)) (k + 1) [])
-    (ap (λ (b : Bool). b) (text-at k (k + 1)) ∙ up k blank (omega arith) (omega (arith, below, size)))
+    let size : length (words_among (all_entries words)) ≡ length words = length-map (all_entries words) (λ (e : Entry). e.0) ∙ length-map words entry_of in
+    less-between (get_or (words_among (all_entries words)) k []) (get_or (words_among (all_entries words)) (k + 1) []) (rise-next words k w (omega (arith, below, size)) up)
     (apart_from_distinct same_word (words_among (all_entries words)) k (k + 1) [] distinct (omega arith) below) _ refl)
-  where
-    blank : Numbered
-    blank = record { text = []; number = 0 }
-
-    texts : (ws : List Numbered) (k : ℕ) → get_or (words_among (all_entries ws)) k [] ≡ (get_or ws k blank).text
-    texts [] k = refl
-    texts (w ∷ ws) zero = refl
-    texts (w ∷ ws) (suc k) = texts ws k
-
-    text-at : (j k : ℕ) → is_lt (slice_cmp nat_cmp (get_or (words_among (all_entries words)) k []) (get_or (words_among (all_entries words)) j [])) ≡ by_text (get_or words k blank) (get_or words j blank)
-    text-at j k = (λ i. is_lt (slice_cmp nat_cmp (texts words k i) (texts words j i)))
 
 -- what a sort by the texts ensures
 pub rise-from_sort : {F : Type 0} {g : Mut F (Bor Numbered × (Bor Numbered × Unit {0})) Ordering} {f : F} (words : List Numbered) → IsSortedByClosure g f words →
-    ((a : Bor Numbered × (Bor Numbered × Unit {0})) (r : Ordering) (f' : F) → Called g f a r f' → (r ≡ slice_cmp nat_cmp a.0.now.text a.1.0.now.text) × (f' ≡ f)) →
+    ((a : Bor Numbered × (Bor Numbered × Unit {0})) (r : Ordering) (f' : F) → Called g f a r f' → (r ≡ slice_cmp nat_cmp a.0.now.text.now a.1.0.now.text.now) × (f' ≡ f)) →
     IsDistinct same_word (words_among (all_entries words)) → IsStrictlySortedBy (slice_cmp nat_cmp) (words_among (all_entries words))
 rise-from_sort {g = g} {f = f} words up calls distinct =
     let compares : ComparesAs g by_text f = always_returns_same g (λ a r. is_lt r ≡ by_text a.0.now a.1.0.now) f (λ a r f' k. (ap is_lt (calls a r f' k).0, (calls a r f' k).1)) in
-    rise-from_sorted words (up by_text (ranks_by nat_list_cmp_total (λ (n : Numbered). n.text)) compares) distinct
+    rise-from_sorted words (up by_text (ranks_by nat_list_cmp_total (λ (n : Numbered). n.text.now)) compares) distinct
 
 pub distinct-moved : (es : Entries) (words : List Numbered) → IsPermutation es (all_entries words) → IsDistinct same_word (words_among es) → IsDistinct same_word (words_among (all_entries words))
 distinct-moved es words moved distinct =
@@ -187,7 +186,7 @@ pub arranged-words : (es : Entries) (words all : List Numbered) → all ≡ word
 arranged-words es words all is moved strict = subst (λ (ws : List Numbered). AreArranged es (all_entries ws)) (sym is) (arranged es (all_entries words) moved strict)
 
 -- those before a word, the word, and those behind it
-pub entries-next : (yielded rest : List Numbered) (word : Numbered) (all left : List Numbered) → all ≡ yielded ++ left → left ≡ word ∷ rest → all_entries all ≡ all_entries yielded ++ (word.text, word.number) ∷ all_entries rest
+pub entries-next : (yielded rest : List Numbered) (word : Numbered) (all left : List Numbered) → all ≡ yielded ++ left → left ≡ word ∷ rest → all_entries all ≡ all_entries yielded ++ (word.text.now, word.number) ∷ all_entries rest
 entries-next yielded rest word all left is next = ap all_entries (is ∙ ap (λ (ws : List Numbered). yielded ++ ws) next) ∙ map-append entry_of yielded (word ∷ rest)
 
 pub apart-arranged : (limit : ℕ) (es fs : Entries) → AreArranged es fs → AreApart limit es → AreApart limit fs

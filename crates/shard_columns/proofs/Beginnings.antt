@@ -26,8 +26,7 @@ use Rattle.std.proofs.lemmas.Map.Lookups.{exact_bytes, exact_unsigned}
 use Rattle.std.proofs.lemmas.Slice.Eq.{bytes_eq-Decides}
 use Rattle.std.proofs.lemmas.Option.{same_Some}
 use Rattle.std.proofs.Math.Seq.{take-append-add}
-use Rattle.shard_columns.specs.declared.field_words.Numbered.{Numbered}
-use Rattle.shard_columns.specs.Numbered.{Entries, number_in, beginning_of, first_entries, other_entries, IsIndexed}
+use Rattle.shard_columns.specs.Numbered.{Entries, Entry, number_in, beginning_of, first_entries, other_entries, IsIndexed}
 
 -- a whole beginning
 
@@ -96,52 +95,52 @@ number-other [] w = refl
 number-other (e ∷ es) w = ap (λ (o : Option ℕ). cond (is_eq (slice_cmp nat_cmp w (string_bytes e.0))) (Some e.1) o) (number-other es w)
 
 -- the first word that begins so, if there is one
-abbrev pub first_of : List (ℕ × Numbered) → List ℕ → Option Numbered
+abbrev pub first_of : List (ℕ × Entry) → List ℕ → Option Entry
 first_of firsts w = lookup (is_at (nat_cmp (beginning_of w))) firsts
 
 -- its number, where it is this word
-abbrev pub number_if : List ℕ → Option Numbered → Option ℕ
+abbrev pub number_if : List ℕ → Option Entry → Option ℕ
 number_if w None = None
-number_if w (Some first) = cond (is_eq (slice_cmp nat_cmp w first.text)) (Some first.number) None
+number_if w (Some first) = cond (is_eq (slice_cmp nat_cmp w first.0)) (Some first.1) None
 
-abbrev pub Begun : List (ℕ × Numbered) → Type 0
-Begun firsts = AllByRecursion (λ e. e.0 ≡ beginning_of e.1.text) firsts
+abbrev pub Begun : List (ℕ × Entry) → Type 0
+Begun firsts = AllByRecursion (λ e. e.0 ≡ beginning_of e.1.0) firsts
 
-pub number-first : (firsts : List (ℕ × Numbered)) (w : List ℕ) → IsStrictlySortedBy nat_cmp (keys_of firsts) → Begun firsts → number_in (first_entries firsts) w ≡ number_if w (first_of firsts w)
+pub number-first : (firsts : List (ℕ × Entry)) (w : List ℕ) → IsStrictlySortedBy nat_cmp (keys_of firsts) → Begun firsts → number_in (first_entries firsts) w ≡ number_if w (first_of firsts w)
 number-first [] w up begun = refl
 number-first (e ∷ es) w up begun =
-    pick (is_eq (slice_cmp nat_cmp w e.1.text)) (is_eq (nat_cmp (beginning_of w) e.0)) refl refl (number-first es w (sorted_tail nat_cmp e.0 (keys_of es) up) begun.1)
+    pick (is_eq (slice_cmp nat_cmp w e.1.0)) (is_eq (nat_cmp (beginning_of w) e.0)) refl refl (number-first es w (sorted_tail nat_cmp e.0 (keys_of es) up) begun.1)
   where
     none : is_eq (nat_cmp (beginning_of w) e.0) ≡ true → first_of es w ≡ None
     none same = lookup-none (is_at (nat_cmp (beginning_of w))) es (none_past_head (eq_by_cmp_equiv nat_cmp_total) (beginning_of w) e es (IsDistinct-from_sorted nat_cmp (keys_of (e ∷ es)) up) same)
 
-    pick : (b d : Bool) → is_eq (slice_cmp nat_cmp w e.1.text) ≡ b → is_eq (nat_cmp (beginning_of w) e.0) ≡ d → number_in (first_entries es) w ≡ number_if w (first_of es w) →
-        cond b (Some e.1.number) (number_in (first_entries es) w) ≡ number_if w (cond d (Some e.1) (first_of es w))
-    pick true true p q rest = ap (λ (b : Bool). cond b (Some e.1.number) None) (sym p)
-    pick true false p q rest = absurd (cc (sym (same-number (beginning_of w) e.0 (ap beginning_of (is-it w e.1.text p) ∙ sym begun.0)) ∙ q))
-    pick false true p q rest = rest ∙ (ap (number_if w) (none q) ∙ ap (λ (b : Bool). cond b (Some e.1.number) None) (sym p))
+    pick : (b d : Bool) → is_eq (slice_cmp nat_cmp w e.1.0) ≡ b → is_eq (nat_cmp (beginning_of w) e.0) ≡ d → number_in (first_entries es) w ≡ number_if w (first_of es w) →
+        cond b (Some e.1.1) (number_in (first_entries es) w) ≡ number_if w (cond d (Some e.1) (first_of es w))
+    pick true true p q rest = ap (λ (b : Bool). cond b (Some e.1.1) None) (sym p)
+    pick true false p q rest = absurd (cc (sym (same-number (beginning_of w) e.0 (ap beginning_of (is-it w e.1.0 p) ∙ sym begun.0)) ∙ q))
+    pick false true p q rest = rest ∙ (ap (number_if w) (none q) ∙ ap (λ (b : Bool). cond b (Some e.1.1) None) (sym p))
     pick false false p q rest = rest
 
 -- a look-up of both parts
-pub number-split : (firsts : List (ℕ × Numbered)) (others : List (String Global × ℕ)) (w : List ℕ) → IsIndexed firsts others →
+pub number-split : (firsts : List (ℕ × Entry)) (others : List (String Global × ℕ)) (w : List ℕ) → IsIndexed firsts others →
     number_in (first_entries firsts ++ other_entries others) w ≡ option_or (number_if w (first_of firsts w)) (lookup (is_at (λ k. slice_cmp nat_cmp w (string_bytes k))) others)
 number-split firsts others w indexed =
     number-append (first_entries firsts) (other_entries others) w
     ∙ (ap (λ (o : Option ℕ). option_or o (number_in (other_entries others) w)) (number-first firsts w indexed.firsts_ascend indexed.begun)
     ∙ ap (option_or (number_if w (first_of firsts w))) (number-other others w))
 
-number_if-same : (w : List ℕ) (first : Numbered) → first.text ≡ w → number_if w (Some first) ≡ Some first.number
-number_if-same w first same = ap (λ (b : Bool). cond b (Some first.number) None) (ap (λ (v : List ℕ). is_eq (slice_cmp nat_cmp w v)) same ∙ itself w)
+number_if-same : (w : List ℕ) (first : Entry) → first.0 ≡ w → number_if w (Some first) ≡ Some first.1
+number_if-same w first same = ap (λ (b : Bool). cond b (Some first.1) None) (ap (λ (v : List ℕ). is_eq (slice_cmp nat_cmp w v)) same ∙ itself w)
 
-pub number_if-other : (w : List ℕ) (first : Numbered) → first.text ≢ w → number_if w (Some first) ≡ None
+pub number_if-other : (w : List ℕ) (first : Entry) → first.0 ≢ w → number_if w (Some first) ≡ None
 number_if-other w first other =
-    ap (λ (b : Bool). cond b (Some first.number) None) (not-it w first.text (λ (h : w ≡ first.text). other (sym h)) (is_eq (slice_cmp nat_cmp w first.text)) refl)
+    ap (λ (b : Bool). cond b (Some first.1) None) (not-it w first.0 (λ (h : w ≡ first.0). other (sym h)) (is_eq (slice_cmp nat_cmp w first.0)) refl)
 
 abbrev Others : Type 0
 Others = List (String Global × ℕ)
 
 abbrev Firsts : Type 0
-Firsts = List (ℕ × Numbered)
+Firsts = List (ℕ × Entry)
 
 abbrev view_of : Firsts → Others → Entries
 view_of firsts others = first_entries firsts ++ other_entries others
@@ -157,20 +156,20 @@ number-kept f word n is w = pick (bytes_eq word w) refl
     pick false e = refl
 
 -- the word stands at its beginning
-pub found-first : (firsts : Firsts) (others : Others) (word : List ℕ) (first : Numbered) → IsIndexed firsts others → first_of firsts word ≡ Some first → first.text ≡ word → number_in (view_of firsts others) word ≡ Some first.number
+pub found-first : (firsts : Firsts) (others : Others) (word : List ℕ) (first : Entry) → IsIndexed firsts others → first_of firsts word ≡ Some first → first.0 ≡ word → number_in (view_of firsts others) word ≡ Some first.1
 found-first firsts others word first indexed is same =
     number-split firsts others word indexed
-    ∙ (ap (λ (o : Option Numbered). option_or (number_if word o) (text_in others word)) is
+    ∙ (ap (λ (o : Option Entry). option_or (number_if word o) (text_in others word)) is
     ∙ ap (λ (o : Option ℕ). option_or o (text_in others word)) (number_if-same word first same))
 
 -- another word stands there
-pub found-other : (firsts : Firsts) (others : Others) (word : List ℕ) (first : Numbered) → IsIndexed firsts others → first_of firsts word ≡ Some first → first.text ≢ word → number_in (view_of firsts others) word ≡ text_in others word
+pub found-other : (firsts : Firsts) (others : Others) (word : List ℕ) (first : Entry) → IsIndexed firsts others → first_of firsts word ≡ Some first → first.0 ≢ word → number_in (view_of firsts others) word ≡ text_in others word
 found-other firsts others word first indexed is other =
     number-split firsts others word indexed
-    ∙ (ap (λ (o : Option Numbered). option_or (number_if word o) (text_in others word)) is
+    ∙ (ap (λ (o : Option Entry). option_or (number_if word o) (text_in others word)) is
     ∙ ap (λ (o : Option ℕ). option_or o (text_in others word)) (number_if-other word first other))
 
-pub indexed-other : (firsts : Firsts) (others new : Others) (word : List ℕ) (first : Numbered) (n : ℕ) → IsIndexed firsts others → first_of firsts word ≡ Some first → first.text ≢ word →
+pub indexed-other : (firsts : Firsts) (others new : Others) (word : List ℕ) (first : Entry) (n : ℕ) → IsIndexed firsts others → first_of firsts word ≡ Some first → first.0 ≢ word →
     ((w : List ℕ) → text_in new w ≡ cond (bytes_eq word w) (Some n) (text_in others w)) → IsIndexed firsts new
 indexed-other firsts others new word first n indexed is other after = record {
   firsts_ascend = indexed.firsts_ascend;
@@ -178,11 +177,11 @@ indexed-other firsts others new word first n indexed is other after = record {
   apart = λ w has. pick w (bytes_eq word w) refl (subst IsSome (number-other new w ∙ after w) has);
 }
   where
-    pick : (w : List ℕ) (b : Bool) → bytes_eq word w ≡ b → IsSome (cond b (Some n) (text_in others w)) → (first : Numbered) × ((first_of firsts w ≡ Some first) × (first.text ≢ w))
-    pick w true e has = subst (λ (v : List ℕ). (first : Numbered) × ((first_of firsts v ≡ Some first) × (first.text ≢ v))) ((bytes_eq-Decides word w).0 e) (first, (is, other))
+    pick : (w : List ℕ) (b : Bool) → bytes_eq word w ≡ b → IsSome (cond b (Some n) (text_in others w)) → (first : Entry) × ((first_of firsts w ≡ Some first) × (first.0 ≢ w))
+    pick w true e has = subst (λ (v : List ℕ). (first : Entry) × ((first_of firsts v ≡ Some first) × (first.0 ≢ v))) ((bytes_eq-Decides word w).0 e) (first, (is, other))
     pick w false e has = indexed.apart w (subst IsSome (sym (number-other others w)) has)
 
-pub after-other : (firsts : Firsts) (others new : Others) (word : List ℕ) (first : Numbered) (n : ℕ) → IsIndexed firsts others → first_of firsts word ≡ Some first → first.text ≢ word →
+pub after-other : (firsts : Firsts) (others new : Others) (word : List ℕ) (first : Entry) (n : ℕ) → IsIndexed firsts others → first_of firsts word ≡ Some first → first.0 ≢ word →
     ((w : List ℕ) → text_in new w ≡ cond (bytes_eq word w) (Some n) (text_in others w)) → (w : List ℕ) → number_in (view_of firsts new) w ≡ cond (bytes_eq word w) (Some n) (number_in (view_of firsts others) w)
 after-other firsts others new word first n indexed is other after w =
     number-split firsts new w (indexed-other firsts others new word first n indexed is other after)
@@ -195,18 +194,18 @@ after-other firsts others new word first n indexed is other after w =
         ap (λ (o : Option ℕ). option_or o (Some n)) none
     pick false e = sym (number-split firsts others w indexed)
 
-pub indexed-either : {X : Type 0} (firsts : Firsts) (others new : Others) (word : List ℕ) (first : Numbered) (r : Result ℕ X) → IsIndexed firsts others → first_of firsts word ≡ Some first → first.text ≢ word →
+pub indexed-either : {X : Type 0} (firsts : Firsts) (others new : Others) (word : List ℕ) (first : Entry) (r : Result ℕ X) → IsIndexed firsts others → first_of firsts word ≡ Some first → first.0 ≢ word →
     IfOk r (λ n. (w : List ℕ) → text_in new w ≡ cond (bytes_eq word w) (Some n) (text_in others w)) → OnErr r (new ≡ others) → IsIndexed firsts new
 indexed-either firsts others new word first (Ok n) indexed is other after same = indexed-other firsts others new word first n indexed is other after
 indexed-either firsts others new word first (Err x) indexed is other after same = subst (IsIndexed firsts) (sym same) indexed
 
 -- the word that is found begins so
-pub begins-so : (firsts : Firsts) (w : List ℕ) (first : Numbered) → Begun firsts → first_of firsts w ≡ Some first → beginning_of first.text ≡ beginning_of w
+pub begins-so : (firsts : Firsts) (w : List ℕ) (first : Entry) → Begun firsts → first_of firsts w ≡ Some first → beginning_of first.0 ≡ beginning_of w
 begins-so [] w first begun is = absurd (cc is)
 begins-so (e ∷ es) w first begun is = pick (is_eq (nat_cmp (beginning_of w) e.0)) refl is (λ later. begins-so es w first begun.1 later)
   where
-    pick : (b : Bool) → is_eq (nat_cmp (beginning_of w) e.0) ≡ b → cond b (Some e.1) (first_of es w) ≡ Some first → (first_of es w ≡ Some first → beginning_of first.text ≡ beginning_of w) → beginning_of first.text ≡ beginning_of w
-    pick true same found rest = ap (λ (n : Numbered). beginning_of n.text) (sym (same_Some e.1 first found)) ∙ (sym begun.0 ∙ sym (is-number (beginning_of w) e.0 same))
+    pick : (b : Bool) → is_eq (nat_cmp (beginning_of w) e.0) ≡ b → cond b (Some e.1) (first_of es w) ≡ Some first → (first_of es w ≡ Some first → beginning_of first.0 ≡ beginning_of w) → beginning_of first.0 ≡ beginning_of w
+    pick true same found rest = ap (λ (n : Entry). beginning_of n.0) (sym (same_Some e.1 first found)) ∙ (sym begun.0 ∙ sym (is-number (beginning_of w) e.0 same))
     pick false other found rest = rest found
 
 -- no word begins so
@@ -218,9 +217,9 @@ absent-other firsts others word indexed none (Some m) e =
 pub found-none : (firsts : Firsts) (others : Others) (word : List ℕ) → IsIndexed firsts others → first_of firsts word ≡ None → number_in (view_of firsts others) word ≡ None
 found-none firsts others word indexed none =
     number-split firsts others word indexed
-    ∙ (ap (λ (o : Option Numbered). option_or (number_if word o) (text_in others word)) none ∙ absent-other firsts others word indexed none (text_in others word) refl)
+    ∙ (ap (λ (o : Option Entry). option_or (number_if word o) (text_in others word)) none ∙ absent-other firsts others word indexed none (text_in others word) refl)
 
-begun-insert : (firsts : Firsts) (k : ℕ) (e : Numbered) → k ≡ beginning_of e.text → Begun firsts → Begun (insert_entry nat_cmp firsts k e)
+begun-insert : (firsts : Firsts) (k : ℕ) (e : Entry) → k ≡ beginning_of e.0 → Begun firsts → Begun (insert_entry nat_cmp firsts k e)
 begun-insert [] k e is begun = (is, tt)
 begun-insert (f ∷ fs) k e is begun = pick (nat_cmp k f.0) refl (begun-insert fs k e is begun.1)
   where
@@ -230,12 +229,12 @@ begun-insert (f ∷ fs) k e is begun = pick (nat_cmp k f.0) refl (begun-insert f
     pick Greater at rest = (begun.0, rest)
 
 -- the word comes to stand there
-pub record Puts (firsts new : Firsts) (beginning : ℕ) (e : Numbered) : Type 0 where
+pub record Puts (firsts new : Firsts) (beginning : ℕ) (e : Entry) : Type 0 where
   pub looked : (k : ℕ) → lookup (is_at (nat_cmp k)) new ≡ cond (is_at (nat_cmp beginning) k) (Some e) (lookup (is_at (nat_cmp k)) firsts)
   pub entries : new ≡ insert_entry nat_cmp firsts beginning e
   pub ordered : IsStrictlySortedBy nat_cmp (keys_of new)
 
-module _ (firsts new : Firsts) (others : Others) (word : List ℕ) (beginning : ℕ) (e : Numbered) (begins : beginning ≡ beginning_of word) (text : e.text ≡ word)
+module _ (firsts new : Firsts) (others : Others) (word : List ℕ) (beginning : ℕ) (e : Entry) (begins : beginning ≡ beginning_of word) (text : e.0 ≡ word)
     (indexed : IsIndexed firsts others) (none : first_of firsts word ≡ None) (puts : Puts firsts new beginning e) where
   first-later : (w : List ℕ) → first_of new w ≡ cond (is_eq (nat_cmp (beginning_of word) (beginning_of w))) (Some e) (first_of firsts w)
   first-later w = puts.looked (beginning_of w) ∙ ap (λ (k : ℕ). cond (is_eq (nat_cmp k (beginning_of w))) (Some e) (first_of firsts w)) begins
@@ -250,23 +249,23 @@ module _ (firsts new : Firsts) (others : Others) (word : List ℕ) (beginning : 
     apart = λ w has. pick w (indexed.apart w has) (is_eq (nat_cmp (beginning_of word) (beginning_of w))) refl;
   }
     where
-      pick : (w : List ℕ) → (first : Numbered) × ((first_of firsts w ≡ Some first) × (first.text ≢ w)) → (b : Bool) → is_eq (nat_cmp (beginning_of word) (beginning_of w)) ≡ b →
-          (first : Numbered) × ((first_of new w ≡ Some first) × (first.text ≢ w))
+      pick : (w : List ℕ) → (first : Entry) × ((first_of firsts w ≡ Some first) × (first.0 ≢ w)) → (b : Bool) → is_eq (nat_cmp (beginning_of word) (beginning_of w)) ≡ b →
+          (first : Entry) × ((first_of new w ≡ Some first) × (first.0 ≢ w))
       pick w there true same = absurd (cc (sym (none-so w same) ∙ there.1.0))
       pick w there false same = (there.0, (first-later w ∙ (ap (λ (b : Bool). cond b (Some e) (first_of firsts w)) same ∙ there.1.0), there.1.1))
 
-  pub after-first : (w : List ℕ) → number_in (view_of new others) w ≡ cond (bytes_eq word w) (Some e.number) (number_in (view_of firsts others) w)
+  pub after-first : (w : List ℕ) → number_in (view_of new others) w ≡ cond (bytes_eq word w) (Some e.1) (number_in (view_of firsts others) w)
   after-first w =
       number-split new others w indexed-first
-      ∙ (ap (λ (o : Option Numbered). option_or (number_if w o) (text_in others w)) (first-later w)
+      ∙ (ap (λ (o : Option Entry). option_or (number_if w o) (text_in others w)) (first-later w)
       ∙ pick (is_eq (nat_cmp (beginning_of word) (beginning_of w))) (bytes_eq word w) refl refl)
     where
       pick : (b d : Bool) → is_eq (nat_cmp (beginning_of word) (beginning_of w)) ≡ b → bytes_eq word w ≡ d →
-          option_or (number_if w (cond b (Some e) (first_of firsts w))) (text_in others w) ≡ cond d (Some e.number) (number_in (view_of firsts others) w)
+          option_or (number_if w (cond b (Some e) (first_of firsts w))) (text_in others w) ≡ cond d (Some e.1) (number_in (view_of firsts others) w)
       pick true true p q = ap (λ (o : Option ℕ). option_or o (text_in others w)) (number_if-same w e (text ∙ (bytes_eq-Decides word w).0 q))
       pick true false p q =
-          let apart : e.text ≢ w = λ (h : e.text ≡ w). absurd (cc (sym ((bytes_eq-Decides word w).1 (sym text ∙ h)) ∙ q)) in
+          let apart : e.0 ≢ w = λ (h : e.0 ≡ w). absurd (cc (sym ((bytes_eq-Decides word w).1 (sym text ∙ h)) ∙ q)) in
           ap (λ (o : Option ℕ). option_or o (text_in others w)) (number_if-other w e apart)
-          ∙ (ap (λ (o : Option Numbered). option_or (number_if w o) (text_in others w)) (sym (none-so w p)) ∙ sym (number-split firsts others w indexed))
+          ∙ (ap (λ (o : Option Entry). option_or (number_if w o) (text_in others w)) (sym (none-so w p)) ∙ sym (number-split firsts others w indexed))
       pick false true p q = absurd (cc (sym (same-number (beginning_of word) (beginning_of w) (ap beginning_of ((bytes_eq-Decides word w).0 q))) ∙ p))
       pick false false p q = sym (number-split firsts others w indexed)

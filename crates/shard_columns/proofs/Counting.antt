@@ -1,10 +1,11 @@
 -- The greatest of some numbers, and the most values that a row has.
-use Rattle.std.proofs.Common.{◌≡◌, refl, ℕ, ◌+◌, ◌-◌, ◌<◌, ◌≤◌, zero, suc, true, false, Bool, cond, eqb, List, [], ◌∷◌, ◌++◌, Some, Option, length, get_or, take, map, find, inl, inr, sym, ◌∙◌, ap, subst, arith, T}
+use Rattle.std.proofs.Common.{option_map, ◌≡◌, refl, ℕ, ◌+◌, ◌-◌, ◌<◌, ◌≤◌, zero, suc, true, false, Bool, cond, eqb, List, [], ◌∷◌, ◌++◌, Some, Option, length, get_or, take, map, find, inl, inr, sym, ◌∙◌, ap, subst, arith, T}
 use Rattle.std.specs.Prelude.{nat_lt, slice_get}
 use Rattle.std.specs.Option.{option_map_or}
 use Rattle.std.specs.Ordering.{nat_cmp, ord_max}
 use Rattle.std.proofs.lemmas.List.{map-append, length-map, get_or-map, get_or_past}
 use Rattle.std.proofs.lemmas.Bool.{cases_lt}
+use Rattle.std.proofs.lemmas.Option.{same_Some}
 use Rattle.std.proofs.lemmas.Bool.Decides.{nat_tests}
 use Rattle.std.proofs.Math.Facts.{eqb_yes}
 use Rattle.std.specs.List.Sorted.{IsStrictlyIncreasing}
@@ -51,6 +52,12 @@ pub greatest-more : {X : Type 0} (f : X → ℕ) (items : List X) (i : ℕ) (x :
 greatest-more f items i x most value new below is value_is before max =
     let next : map f (take (i + 1) items) ≡ map f (take i items) ++ f x ∷ [] = ap (map f) (take-next items i x below is) ∙ map-append f (take i items) (x ∷ []) in
     max ∙ (max-more most value ∙ ((λ j. more (before j) (value_is j)) ∙ sym (ap greatest_of next ∙ greatest-push (map f (take i items)) (f x))))
+
+-- the word that has so many bytes
+pub sized : (ws : Words) (i n : ℕ) → option_map length (slice_get ws i) ≡ Some n → (w : List ℕ) × ((w ≡ get_or ws i w) × (n ≡ length w))
+sized [] i n is = absurd (cc is)
+sized (v ∷ vs) zero n is = (v, (refl, sym (same_Some (length v) n is)))
+sized (v ∷ vs) (suc i) n is = sized vs i n is
 
 more-first : (n rest : ℕ) → n ≤ more n rest
 more-first n rest = grind (arith, nat_tests)

@@ -1,5 +1,5 @@
 -- Rows that are the roots of the documents of their numbers.
-use Rattle.std.specs.Prelude.{◌≡◌, refl, ℕ, zero, suc, ◌+◌, ◌<◌, ◌≤◌, length, List, [], ◌∷◌, ◌++◌}
+use Rattle.std.specs.Prelude.{◌≡◌, refl, ℕ, zero, suc, ◌+◌, ◌<◌, length, List, [], ◌∷◌, ◌++◌}
 use Rattle.std.proofs.Common.{◌∙◌, ap, arith, get_or, sym}
 use Rattle.shard_columns.specs.Roots.{each_root, each_root_from, root_at}
 use Rattle.shard_columns.specs.declared.layout.Entry.{Entry}

@@ -1,7 +1,6 @@
 -- Columns that are finished, one after another.
 use Rattle.std.proofs.Common.{Some, ◌≡◌, refl, ℕ, ◌+◌, ◌<◌, List, [], ◌∷◌, ◌++◌, map, length, get_or, set, take, sym, ◌∙◌, ap, subst, arith, length-append, None, Option, eqb, find, inl, inr}
-use Rattle.std.specs.Prelude.{slice_get, Vec}
-use Rattle.std.specs.declared.alloc.Global.{Global}
+use Rattle.std.specs.Prelude.{slice_get}
 use Rattle.std.specs.Option.{option_map_or}
 use Rattle.std.specs.List.Sorted.{IsStrictlyIncreasing}
 use Rattle.std.proofs.lemmas.List.{length-take, get_or-take, get_or-set_same, get_or-set_other}
@@ -12,7 +11,6 @@ use Rattle.shard_columns.specs.declared.values.Span.{Span}
 use Rattle.shard_columns.specs.declared.values.Held.{Held}
 use Rattle.shard_columns.specs.declared.values.Draft.{Draft}
 use Rattle.shard_columns.specs.declared.columns.Spans.{Spans}
-use Rattle.shard_columns.specs.declared.columns.Spans.TheVariants as spans
 use Rattle.shard_columns.specs.declared.columns.Column.{Column}
 use Rattle.shard_columns.specs.Values.{no_span, span_in, span_of, cut, scalars, typed_len, IsShaped, AreRankedAll}
 use Rattle.shard_columns.specs.Columnar.{IsFinished, AreFinished, Rises}

@@ -3,7 +3,6 @@ pub mod Placing
 pub mod Laying
 pub mod Depths
 pub mod Storing
-pub mod Cutting
 pub mod Drafting
 pub mod Finishing
 pub mod Filling
@@ -15,6 +14,7 @@ pub mod EachRoot
 pub mod Ascending
 pub mod Telling
 pub mod Beginnings
+pub mod Keeping
 pub mod Arranging
 pub mod Noting
 pub mod Ranking

@@ -1,5 +1,5 @@
 -- Rows that have one value each.
-use Rattle.std.specs.Prelude.{◌≡◌, refl, ℕ, zero, suc, ◌+◌, ◌-◌, ◌<◌, ◌≤◌, ◌≢◌, nat_lt, Bool, true, false, cond, max, min, length, List, [], ◌∷◌, ◌++◌, map, find, Option, Some}
+use Rattle.std.specs.Prelude.{◌≡◌, refl, ℕ, zero, suc, ◌+◌, ◌-◌, ◌≤◌, ◌≢◌, nat_lt, true, false, cond, max, min, length, List, [], ◌∷◌, ◌++◌, map, find, Option}
 use Rattle.std.specs.Option.{option_map_or}
 use Rattle.std.proofs.Common.{sym, ◌∙◌, ap, arith, eqb, inl, inr}
 use Rattle.std.proofs.lemmas.Bool.Decides.{nat_tests}

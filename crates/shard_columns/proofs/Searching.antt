@@ -1,5 +1,5 @@
 -- Binary searches in ascending lists.
-use Rattle.std.proofs.Common.{◌≡◌, ◌≢◌, refl, ℕ, ◌+◌, ◌-◌, ◌<◌, ◌≤◌, zero, suc, true, false, not, Bool, T, eqb, eq-eqb, ltb, List, [], ◌∷◌, Option, Some, None, cond, length, get_or, take, drop, filter, find, map, sym, ◌∙◌, ap, subst, arith, Contains, inl, inr}
+use Rattle.std.proofs.Common.{unwrap_or, ◌≡◌, ◌≢◌, refl, ℕ, ◌+◌, ◌-◌, ◌<◌, ◌≤◌, zero, suc, true, false, not, Bool, T, eqb, eq-eqb, ltb, List, [], ◌∷◌, Option, Some, None, cond, length, get_or, take, drop, filter, find, map, sym, ◌∙◌, ap, subst, arith, Contains, inl, inr}
 use Rattle.std.specs.Prelude.{◌&&◌, nat_le, nat_lt, slice_get}
 use Rattle.std.specs.declared.cmp.Ordering.TheVariants.{Less, Equal, Greater}
 use Rattle.std.specs.Ordering.{nat_cmp, is_lt, is_eq}
@@ -7,6 +7,7 @@ use Rattle.std.specs.Cmp.Lexicographic.{slice_cmp, pointwise, texts_ties}
 use Rattle.std.specs.Cmp.{tied_itself}
 use Rattle.std.specs.List.Sorted.{IsNonDecreasingBy, IsPartitionedBy, IsPartitionPoint, IsStrictlyIncreasing, IsStrictlySortedBy}
 use Rattle.std.proofs.lemmas.List.{length-map, get_or-map}
+use Rattle.std.proofs.lemmas.Option.{unwrap_or-slice_get}
 use Rattle.std.proofs.lemmas.Bool.{cases_lt, ltb-true, ltb-false}
 use Rattle.std.proofs.lemmas.Cmp.{nat_list_cmp_total}
 use Rattle.std.proofs.lemmas.Bool.Decides.{nat_tests}
@@ -15,6 +16,7 @@ use Rattle.std.proofs.lemmas.Map.Lookups.{exact_bytes}
 use Rattle.std.proofs.lemmas.Map.Views.{tells_apart}
 use Rattle.std.proofs.Math.Facts.{eqb_yes}
 use Rattle.shard_columns.specs.declared.values.Held.{Held}
+use Rattle.shard_columns.specs.Bounds.{is_before, AreBefore}
 use Rattle.shard_columns.specs.Values.{Words}
 
 -- the part of a list that passes a test, where that stands between what does not
@@ -170,9 +172,6 @@ pub is-at : (hs : List Held) (f i : ℕ) (d : Held) → Parted hs f i → i < le
 is-at hs f i d point within same = find-some hs f i d within same (λ k below other. let less = front-below hs f i d point k below in absurd (omega (arith, less, other)))
 
 -- words below a word stand before those that are not
-abbrev pub is_before : List ℕ → List ℕ → Bool
-is_before v w = is_lt (slice_cmp nat_cmp v w)
-
 abbrev pub WordsParted : Words → List ℕ → ℕ → Type 0
 WordsParted ws w i = IsPartitionPoint (λ (v : List ℕ). is_before v w ≡ true) (λ (v : List ℕ). is_before v w ≡ false) ws i
 
@@ -190,6 +189,55 @@ words-parted ws w strict i j d le within e =
       | inl far ↦ ap is_lt (nat_list_cmp_total.trans (get_or ws i d) (get_or ws j d) w (less-at ws strict i j d far within) (is_lt-Less (slice_cmp nat_cmp (get_or ws j d) w) e))
       | inr near ↦ ap (λ (k : ℕ). is_before (get_or ws k d) w) (let e : i ≡ j = omega arith in e) ∙ e
     ]
+
+-- what is got at a place stands there
+pub read : (ws : Words) (k : ℕ) (v d : List ℕ) → slice_get ws k ≡ Some v → get_or ws k d ≡ v
+read ws k v d at = sym (unwrap_or-slice_get ws k d) ∙ ap (λ (o : Option (List ℕ)). unwrap_or o d) at
+
+-- those from one place to before another are not compared yet
+pub record IsNarrowed (ws : Words) (w : List ℕ) (start end : ℕ) : Type 0 where
+  pub in_order : start ≤ end
+  pub within : end ≤ length ws
+  pub low : (k : ℕ) (d : List ℕ) → k < start → is_before (get_or ws k d) w ≡ true
+  pub high : (k : ℕ) (d : List ℕ) → end ≤ k → k < length ws → is_before (get_or ws k d) w ≡ false
+
+pub narrowed-none : (ws : Words) (w : List ℕ) (end : ℕ) → end ≡ length ws → IsNarrowed ws w 0 end
+narrowed-none ws w end all = record {
+  in_order = omega arith;
+  within = omega (arith, all);
+  low = λ k d below. absurd (omega arith);
+  high = λ k d from below. absurd (omega (arith, all, from, below));
+}
+
+-- where a word is before, so are those in front of it
+pub narrowed-low : (ws : Words) (w v : List ℕ) (start end middle : ℕ) → IsStrictlySortedBy (slice_cmp nat_cmp) ws → IsNarrowed ws w start end → middle < end → slice_get ws middle ≡ Some v → is_before v w ≡ true → IsNarrowed ws w (middle + 1) end
+narrowed-low ws w v start end middle strict so before at is =
+    let within = so.within in
+    record {
+      in_order = omega (arith, before);
+      within = within;
+      low = λ k d below. words-parted ws w strict k middle d (omega (arith, below)) (omega (arith, before, within)) (ap (λ (u : List ℕ). is_before u w) (read ws middle v d at) ∙ is);
+      high = so.high;
+    }
+
+-- where a word is not before, those behind it are not either
+pub narrowed-high : (ws : Words) (w v : List ℕ) (start end middle : ℕ) → IsStrictlySortedBy (slice_cmp nat_cmp) ws → IsNarrowed ws w start end → start ≤ middle → middle < end → slice_get ws middle ≡ Some v → is_before v w ≡ false → IsNarrowed ws w start middle
+narrowed-high ws w v start end middle strict so from before at is =
+    let within = so.within in
+    record {
+      in_order = from;
+      within = omega (arith, before, within);
+      low = so.low;
+      high = λ k d behind below. not-so (is_before (get_or ws k d) w) refl (λ yes. sym (ap (λ (u : List ℕ). is_before u w) (read ws middle v d at) ∙ is) ∙ words-parted ws w strict middle k d behind below yes);
+    }
+  where
+    not-so : (b : Bool) → b ≡ b → (b ≡ true → false ≡ true) → b ≡ false
+    not-so true e h = absurd (cc (h refl))
+    not-so false e h = refl
+
+pub narrowed-all : (ws : Words) (w : List ℕ) (start end : ℕ) → IsNarrowed ws w start end → end ≤ start → AreBefore ws w start
+narrowed-all ws w start end so met =
+    (λ k d from below. so.low k d below, λ k d from below. so.high k d (omega (arith, met, from)) below)
 
 -- a word is not before itself
 not-before : (w : List ℕ) → is_before w w ≡ false

@@ -1,5 +1,4 @@
 pub mod Layout
-pub mod Ids
 pub mod Ends
 pub mod Ones
 pub mod Roots

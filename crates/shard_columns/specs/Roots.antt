@@ -1,4 +1,4 @@
--- Rows that are the roots of documents without rows beneath them.
+-- Rows that are the roots of the documents of their numbers.
 use Rattle.std.specs.Prelude.{ℕ, zero, suc, ◌+◌, List, [], ◌∷◌}
 use Rattle.shard_columns.specs.declared.layout.Entry.{Entry}
 use Rattle.shard_columns.specs.declared.layout.Origin.TheVariants.{Root}

@@ -6,11 +6,11 @@ ghost use Rattle.shard_columns.specs.Layout.{entries_of_laid};
 ghost use Rattle.shard_columns.specs.Drafted.{CanHold, HoldsBehind, IsDraftOf, CanTake, Takes};
 
 use crate::entries::Entries;
-use crate::ids::Ids;
 use crate::layout::{Entry, Laid, Origin, lay_row};
 use crate::values::Drafts;
 use crate::words::WordNumbers;
 use agg_model::{Document, Field, FieldKind, Mapping};
+use packed_texts::PackedTexts;
 use std::alloc::{AllocError, Global};
 
 /// Documents of one shard on their way into columns: the rows and values of each are copied as it comes, so that the document
@@ -18,7 +18,7 @@ use std::alloc::{AllocError, Global};
 #[derive(Drop)]
 pub struct ShardDraft {
     pub(crate) kinds: Vec<FieldKind>,
-    pub(crate) ids: Ids,
+    pub(crate) ids: PackedTexts,
     pub(crate) rows: Entries,
     pub(crate) ends: Vec<u32>,
     pub(crate) numbers: WordNumbers,
@@ -68,7 +68,7 @@ impl ShardDraft {
         let drafts = Drafts::new(alloc, kinds.as_slice())?;
         Ok(ShardDraft {
             kinds,
-            ids: Ids::new(alloc)?,
+            ids: PackedTexts::new(alloc),
             rows: Entries::new(alloc),
             ends: Vec::new(alloc),
             numbers,

@@ -8,7 +8,6 @@ mod draft;
 mod entries;
 mod field_words;
 mod held_rows;
-mod ids;
 mod index;
 mod layout;
 mod search;

@@ -4,10 +4,10 @@ ghost use Rattle.std.specs.List.{AllWithin};
 ghost use Rattle.std.specs.List.Sorted.{IsStrictlyIncreasing, IsStrictlySortedBy};
 ghost use Rattle.std.specs.Ordering.{nat_cmp};
 ghost use Rattle.std.specs.Cmp.Lexicographic.{slice_cmp};
-ghost use Rattle.shard_columns.specs.Bounds.{AreBelow};
+ghost use Rattle.shard_columns.specs.Bounds.{AreBelow, AreBefore};
 
 use crate::values::Held;
-use agg_model::Text;
+use packed_texts::PackedTexts;
 
 /// A part of a list, from `start` to before `end`.
 #[derive(Clone, Copy)]
@@ -87,15 +87,36 @@ pub fn find_held(held: &[Held], row: u32) -> Option<Held>
     if one.row == row { Some(one) } else { None }
 }
 
+// How many of these words, which ascend by their bytes, are before a word.
+fn count_before(words: &PackedTexts, word: &[u8]) -> usize
+    requires { IsStrictlySortedBy (slice_cmp nat_cmp) words.now }
+    ensures within { result ≤ length words.now }
+    ensures before { AreBefore words.now word.now result }
+{
+    let mut start = 0;
+    let mut end = words.len();
+    while start < end {
+        let middle = start + (end - start) / 2;
+        if words.get(middle).as_bytes().cmp(&word).is_lt() {
+            start = middle + 1;
+        } else {
+            end = middle;
+        }
+    }
+    start
+}
+
 /// The place of a word among these, which are distinct and ascend by their bytes.
-pub fn find_word(words: &[Text], word: &[u8]) -> Option<usize>
+pub fn find_word(words: &PackedTexts, word: &[u8]) -> Option<usize>
     requires { IsStrictlySortedBy (slice_cmp nat_cmp) words.now }
     ensures found { IfSome result (λ place. slice_get words.now place ≡ Some word.now) }
     ensures absent { IfNone result (¬ (Contains words.now word.now)) }
 {
-    let place = words.partition_point(|known| known.as_str().as_bytes().cmp(&word).is_lt());
-    let known = words.get(place)?;
-    if known.as_str().as_bytes() != word {
+    let place = count_before(words, word);
+    if place == words.len() {
+        return None;
+    }
+    if words.get(place).as_bytes() != word {
         return None;
     }
     Some(place)

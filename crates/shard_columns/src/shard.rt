@@ -1,4 +1,4 @@
-ghost use Rattle.std.specs.Prelude.{◌≡◌, ◌↔◌, ◌<◌, ◌+◌, ◌≤◌, ◌^◌, ℕ, IsTrue, slice_index, IfOk, IfSome, IfNone, IsNone, length, map, [], Some, slice_get, slice_index_or};
+ghost use Rattle.std.specs.Prelude.{◌≡◌, ◌↔◌, ◌<◌, ◌+◌, ◌≤◌, ◌^◌, ℕ, IsTrue, slice_index, IfOk, IfSome, IfNone, IsNone, length, map, option_map, [], Some, slice_get, slice_index_or};
 ghost use Rattle.shard_columns.specs.Values.{shown, words_in};
 ghost use Rattle.shard_columns.specs.Drafted.{AreMostFrom, HoldsSome, IsStoredFrom, IsDraftFor, IsFinishedFrom};
 ghost use Rattle.shard_columns.specs.Counts.{most_values};
@@ -21,12 +21,12 @@ use crate::columns::{Column, column_at, columns, flags_at, ordinals_at, span_at,
 use crate::contexts::{context, numbers_by_context, numbers_of};
 use crate::draft::ShardDraft;
 use crate::entries::Entries;
-use crate::ids::Ids;
 use crate::layout::Origin;
 use crate::search::{Part, find_word, numbers_between};
 use crate::values::{Drafts, Typed, most_of_each};
 use crate::words::{WordNumbers, all_bytes, dictionaries, longest_of_each};
-use agg_model::{Document, Field, FieldKind, List, Mapping, NestedPath, Text};
+use agg_model::{Document, Field, FieldKind, List, Mapping, NestedPath};
+use packed_texts::PackedTexts;
 use std::alloc::{AllocError, Global};
 use std::marker::Model;
 
@@ -38,11 +38,11 @@ pub struct Shard {
     kinds: Vec<FieldKind>,
     contexts: Vec<u32>,
     parents: Vec<u32>,
-    ids: Ids,
+    ids: PackedTexts,
     rows: Entries,
     ends: Vec<u32>,
     numbers: Vec<List<u32>>,
-    words: Vec<List<Text>>,
+    words: Vec<PackedTexts>,
     // The bytes of the longest word of each field.
     longest: Vec<usize>,
     // How many values a row has at most of each field.
@@ -66,7 +66,7 @@ impl Model for Shard {
 /// The values of all rows as columns, with the words of each field, and how many values they are.
 #[derive(Drop)]
 struct Stored {
-    words: Vec<List<Text>>,
+    words: Vec<PackedTexts>,
     longest: Vec<usize>,
     most: Vec<u32>,
     columns: Vec<Column>,
@@ -103,35 +103,43 @@ fn store(
     })
 }
 
-// The bytes of the text at this place; none where the list is shorter.
-fn text_at(texts: &[Text], place: usize) -> &[u8]
+// The bytes of the text at this place; none where there are fewer.
+fn bytes_at(texts: &PackedTexts, place: usize) -> &[u8]
     ensures { result.now ≡ slice_index_or texts.now place [] }
 {
     if place < texts.len() {
-        texts[place].as_str().as_bytes()
+        texts.get(place).as_bytes()
     } else {
         &[]
     }
 }
 
-fn words_at(words: &[List<Text>], field: u32) -> &[Text]
-    ensures { result.now ≡ slice_index_or words.now field [] }
+fn count_of(words: &[PackedTexts], field: u32) -> usize
+    ensures { result ≡ length (slice_index_or words.now field []) }
 {
-    let field = field as usize;
-    if field < words.len() {
-        words[field].as_slice()
-    } else {
-        &[]
+    match words.get(field as usize) {
+        Some(words) => words.len(),
+        None => 0,
     }
 }
 
 // A place behind the words, which no value has, stands for 0.
-fn word_cell(words: &[Text], place: u32) -> Cell<'_>
+fn word_cell(words: &[PackedTexts], field: u32, place: u32) -> Cell<'_>
+    ensures { scalar_of result ≡ shown (slice_index_or words.now field []) place }
+{
+    match words.get(field as usize) {
+        Some(words) => cell_of(words, place as usize),
+        None => Cell::Whole(0),
+    }
+}
+
+fn cell_of(words: &PackedTexts, place: usize) -> Cell<'_>
     ensures { scalar_of result ≡ shown words.now place }
 {
-    match words.get(place as usize) {
-        Some(word) => Cell::Word(word.as_str().as_bytes()),
-        None => Cell::Whole(0),
+    if place < words.len() {
+        Cell::Word(words.get(place))
+    } else {
+        Cell::Whole(0)
     }
 }
 
@@ -322,7 +330,7 @@ impl Shard {
         requires { row < length self.now.rows }
         ensures { result.now ≡ (row_of self.now.rows row).id }
     {
-        self.ids.get(self.rows.at(row).document as usize)
+        bytes_at(&self.ids, self.rows.at(row).document as usize)
     }
 
     /// The number of values that a row has of a field, 0 where it has none.
@@ -391,7 +399,7 @@ impl Shard {
                 match &column.typed {
                     Typed::Wholes(numbers) => Cell::Whole(numbers[place]),
                     Typed::Words(places) => {
-                        word_cell(words_at(self.words.as_slice(), field), places[place])
+                        word_cell(self.words.as_slice(), field, places[place])
                     }
                     Typed::Flags(flags) => Cell::Flag(flags[place]),
                 }
@@ -404,7 +412,7 @@ impl Shard {
     pub fn words(&self, field: u32) -> u32
         ensures { result ≡ length (words_of field self.now.rows) }
     {
-        words_at(self.words.as_slice(), field).len() as u32
+        count_of(self.words.as_slice(), field) as u32
     }
 
     /// The word at a place of a field's dictionary, which has the distinct words in ascending order of their bytes.
@@ -412,7 +420,7 @@ impl Shard {
         requires { ordinal < length (words_of field self.now.rows) }
         ensures { slice_get (words_of field self.now.rows) ordinal ≡ Some result.now }
     {
-        text_at(words_at(self.words.as_slice(), field), ordinal as usize)
+        self.text(field, ordinal).as_bytes()
     }
 
     /// The same word, as a text.
@@ -420,7 +428,15 @@ impl Shard {
         requires { ordinal < length (words_of field self.now.rows) }
         ensures { slice_get (words_of field self.now.rows) ordinal ≡ Some result.now }
     {
-        words_at(self.words.as_slice(), field)[ordinal as usize].as_str()
+        self.words[field as usize].get(ordinal as usize)
+    }
+
+    /// How many bytes that word has, without a look at it.
+    pub fn word_len(&self, field: u32, ordinal: u32) -> u64
+        requires { ordinal < length (words_of field self.now.rows) }
+        ensures { option_map length (slice_get (words_of field self.now.rows) ordinal) ≡ Some result }
+    {
+        self.words[field as usize].size(ordinal as usize) as u64
     }
 
     /// The place of a word in a field's dictionary, by binary search; none where no row has the word.
@@ -428,10 +444,8 @@ impl Shard {
         ensures found { IfSome result (λ o. slice_get (words_of field self.now.rows) o ≡ Some word.now) }
         ensures absent { IfNone result (NoRowHas field word.now self.now.rows) }
     {
-        match find_word(words_at(self.words.as_slice(), field), word) {
-            Some(ordinal) => Some(ordinal as u32),
-            None => None,
-        }
+        let ordinal = find_word(self.words.get(field as usize)?, word)?;
+        Some(ordinal as u32)
     }
 
     /// The place in its field's dictionary of the word at this place among those that a row has of the field.
@@ -478,6 +492,6 @@ impl Shard {
 #[derive(Clone, Copy)]
 pub enum Cell<'a> {
     Whole(i64),
-    Word(&'a [u8]),
+    Word(&'a str),
     Flag(bool),
 }

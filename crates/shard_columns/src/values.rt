@@ -113,7 +113,7 @@ fn push_words(
     for value in values {
         if let Scalar::Word(word) = value {
             let number = numbers.number(field as usize, word.as_str())?;
-            words.push(number as u32)?;
+            words.push(number)?;
         }
     }
     Ok(())

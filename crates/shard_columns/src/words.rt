@@ -1,12 +1,12 @@
 // The words of each field of a shard: distinct, and in ascending order.
-ghost use Rattle.std.specs.Prelude.{◌≡◌, ◌∷◌, ◌<◌, ◌≤◌, ◌+◌, ◌*◌, ℕ, List as Items, [], Some, OnOk, IfOk, length, map, sum_by, slice_index_or, unwrap_or, if◌then◌else◌};
+ghost use Rattle.std.specs.Prelude.{◌≡◌, ◌∷◌, ◌<◌, ◌≤◌, ◌+◌, ◌*◌, ◌^◌, ℕ, List as Items, [], Some, OnOk, IfOk, length, map, sum_by, slice_index_or, unwrap_or, if◌then◌else◌};
 ghost use Rattle.agg_evaluation.specs.Ceiling.{greatest_of};
 ghost use Rattle.shard_columns.specs.Numbered.{words_among};
 ghost use Rattle.shard_columns.specs.Words.{number_of, HasNone, IsNumbered, of_field, Notes, AreApart, AreRanked, SameWords, AreWords, ArePlaced};
 
 use crate::field_words::FieldWords;
 use agg_model::limits::{MAX_PATHS, WEIGHT_LIMIT};
-use agg_model::{List, Text};
+use packed_texts::PackedTexts;
 use std::alloc::{AllocError, Global};
 
 /// The words of each field that are met in rows, each with a number of its own, whatever its field.
@@ -36,15 +36,16 @@ impl WordNumbers {
     }
 
     /// The number of a word of a field, which is looked up once.
-    pub fn number(&mut self, field: usize, word: &str) -> Result<usize, AllocError>
+    pub fn number(&mut self, field: usize, word: &str) -> Result<u32, AllocError>
         requires in_range { field < length self.old.by_field.items }
+        requires room { length self.old.ranks.items < 2 ^ 32 }
         requires sound { IsNumbered self.old }
         ensures notes { OnOk result (Notes self.old self.new (of_field field (word.now ∷ []))) }
         ensures number { IfOk result (λ n. number_of self.new field word.now ≡ Some n) }
         ensures few { OnOk result (length self.new.ranks.items ≤ length self.old.ranks.items + 1) }
     {
         let alloc = *self.ranks.allocator();
-        let next = self.ranks.len();
+        let next = self.ranks.len() as u32;
         let number = self.by_field[field].number(alloc, word, next)?;
         if number < next {
             return Ok(number);
@@ -59,25 +60,25 @@ fn dictionary(
     alloc: Global,
     words: FieldWords,
     ranks: &mut Vec<usize>,
-) -> Result<List<Text>, AllocError>
+) -> Result<PackedTexts, AllocError>
     requires { AreApart (length ranks.old.items) words }
     ensures words { IfOk result (λ d. SameWords (words_among words) d) }
     ensures ranked { IfOk result (λ d. AreRanked words d ranks.old.items ranks.new.items) }
 {
-    let sorted = words.into_sorted(alloc)?;
-    let mut texts = Vec::with_capacity(alloc, sorted.len())?;
+    let sorted = words.sorted(alloc)?;
+    let mut texts = PackedTexts::new(alloc);
     for word in sorted {
-        ranks[word.number] = texts.len();
+        ranks[word.number as usize] = texts.len();
         texts.push(word.text)?;
     }
-    Ok(List::from_vec(texts))
+    Ok(texts)
 }
 
 /// For each field its distinct words in ascending order, and for each number the place of its word there.
 pub fn dictionaries(
     alloc: Global,
     numbers: WordNumbers,
-) -> Result<(Vec<List<Text>>, Vec<usize>), AllocError>
+) -> Result<(Vec<PackedTexts>, Vec<usize>), AllocError>
     requires { IsNumbered numbers }
     ensures words { IfOk result (λ made. AreWords numbers made.0.items) }
     ensures ranks { IfOk result (λ made. ArePlaced numbers made.0.items made.1.items) }
@@ -94,40 +95,29 @@ pub fn dictionaries(
 }
 
 // The length of the longest of these words in bytes, 0 where there is none.
-fn longest_of(words: &[Text]) -> usize
+fn longest_of(words: &PackedTexts) -> usize
     ensures { result ≡ greatest_of (map length words.now) }
 {
     let mut longest = 0;
-    for word in words {
-        longest = longest.max(word.len());
+    for place in 0..words.len() {
+        longest = longest.max(words.size(place));
     }
     longest
 }
 
 /// The length of the longest word of each field in bytes, 0 where it has none.
-pub fn longest_of_each(alloc: Global, words: &[List<Text>]) -> Result<Vec<usize>, AllocError>
+pub fn longest_of_each(alloc: Global, words: &[PackedTexts]) -> Result<Vec<usize>, AllocError>
     ensures { IfOk result (λ all. all.items ≡ map (λ ws. greatest_of (map length ws)) words.now) }
 {
     let mut all = Vec::with_capacity(alloc, words.len())?;
     for list in words {
-        all.push(longest_of(list.as_slice()))?;
+        all.push(longest_of(list))?;
     }
     Ok(all)
 }
 
-fn bytes_of(words: &[Text]) -> u64
-    requires { sum_by length words.now < WEIGHT_LIMIT }
-    ensures { result ≡ sum_by length words.now }
-{
-    let mut bytes = 0;
-    for word in words {
-        bytes += word.len() as u64;
-    }
-    bytes
-}
-
 /// The bytes of the words of all fields.
-pub fn all_bytes(words: &[List<Text>]) -> u64
+pub fn all_bytes(words: &[PackedTexts]) -> u64
     requires few { length words.now ≤ MAX_PATHS }
     requires light { (f : ℕ) → sum_by length (slice_index_or words.now f []) < WEIGHT_LIMIT }
     ensures sum { result ≡ sum_by (λ ws. sum_by length ws) words.now }
@@ -135,7 +125,7 @@ pub fn all_bytes(words: &[List<Text>]) -> u64
 {
     let mut bytes = 0;
     for list in words {
-        bytes += bytes_of(list.as_slice());
+        bytes += list.total();
     }
     bytes
 }

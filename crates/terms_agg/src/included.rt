@@ -15,7 +15,7 @@ pub fn cell_of(value: &Scalar) -> Cell<'_>
 {
     match value {
         Scalar::Whole(number) => Cell::Whole(*number),
-        Scalar::Word(word) => Cell::Word(word.as_str().as_bytes()),
+        Scalar::Word(word) => Cell::Word(word.as_str()),
         Scalar::Flag(flag) => Cell::Flag(*flag),
     }
 }
@@ -33,7 +33,7 @@ fn is_value_of(cell: Cell<'_>, probe: &Probe) -> bool
             Probe::Whole(_) | Probe::Word(_) => false,
         },
         Cell::Word(value) => match probe {
-            Probe::Word(wanted) => value.cmp(&wanted.as_str().as_bytes()).is_eq(),
+            Probe::Word(wanted) => value.cmp(wanted.as_str()).is_eq(),
             Probe::Whole(_) | Probe::Flag(_) => false,
         },
     }

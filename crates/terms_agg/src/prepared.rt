@@ -57,6 +57,16 @@ fn word_of<'a>(shard: &'a Shard, prepared: &'a PreparedTerms, code: i64) -> &'a 
     }
 }
 
+// How many bytes the word of a code has, with no look at a word of the shard.
+fn word_bytes(shard: &Shard, prepared: &PreparedTerms, code: i64) -> u64
+    ensures { result ≡ length (word_at (code_words shard.now prepared.now) code) }
+{
+    if is_place(u64::from(shard.words(prepared.field)), code) {
+        return shard.word_len(prepared.field, code as u32);
+    }
+    word_of(shard, prepared, code).len() as u64
+}
+
 /// The key that a code stands for; it takes time and memory by the length of the key.
 pub fn key(
     alloc: Global,
@@ -81,7 +91,7 @@ pub fn key_bytes(shard: &Shard, prepared: &PreparedTerms, code: i64) -> u64
 {
     match content_of_field(shard, prepared.field) {
         Content::Wholes | Content::Flags => NUMBER_KEY_BYTES,
-        Content::Words => word_of(shard, prepared, code).len() as u64,
+        Content::Words => word_bytes(shard, prepared, code),
     }
 }
 

@@ -1,27 +1,21 @@
-use Rattle.std.proofs.Common.{ℕ, eqb, not, get_or, List, Option, Some, Contains, sym, ◌∙◌, ap, subst, rules}
+use Rattle.std.proofs.Common.{ℕ, eqb, not, List, Some, sym, ◌∙◌, ap, arith}
 use Rattle.std.specs.Cmp.Lexicographic.{pointwise}
-use Rattle.std.specs.Option.{IfNone}
-use Rattle.std.proofs.lemmas.List.Sorted.{IsPartitionPoint-from_clause}
-use Rattle.shard_columns.proofs.Searching.{is_before, words-parted, absent-past, absent-at, different-text, equal-text, taken}
+use Rattle.shard_columns.proofs.Searching.{absent-past, absent-at, different-text, equal-text, read, within-list}
 use Rattle.shard_columns.proofs.search.find_word.Goals as goal
 
-pub returns-in_err-known-clause-absent : goal.returns-in_err-known-clause-absent
-returns-in_err-known-clause-absent c =
-    let ws = c.args.words.now in
-    let point = IsPartitionPoint-from_clause (λ (v : List ℕ). is_before v c.args.word.now) ws _ c.partition_point-place.ensures.partitioned (words-parted ws c.args.word.now c.requires) (λ a r f k. search rules) in
-    let gone = absent-past ws c.args.word.now c.partition_point-place.result point c.in_err-known.ensures.lookup.3 in
-    subst (λ (r : Option ℕ). IfNone r (¬ (Contains ws c.args.word.now))) (sym c.from_residual.ensures) gone
+pub returns-then-place-len-clause-absent : goal.returns-then-place-len-clause-absent
+returns-then-place-len-clause-absent c =
+    absent-past c.args.words.now c.args.word.now c.count_before-place.result c.count_before-place.ensures.before (omega (arith, c.if-place-len.true, c.len.ensures))
 
 pub returns-then-ne-clause-absent : goal.returns-then-ne-clause-absent
 returns-then-ne-clause-absent c =
-    let ws = c.args.words.now in
-    let point = IsPartitionPoint-from_clause (λ (v : List ℕ). is_before v c.args.word.now) ws _ c.partition_point-place.ensures.partitioned (words-parted ws c.args.word.now c.requires) (λ a r f k. search rules) in
-    let l = c.in_ok-known.ensures.lookup in
-    absent-at ws c.args.word.now c.partition_point-place.result c.requires point l.3.0
-    (λ same. different-text (get_or ws c.partition_point-place.result c.args.word.now) c.args.word.now (ap (λ (v : List ℕ). not (pointwise eqb v c.args.word.now)) (sym (l.3.1 c.args.word.now)) ∙ (ap (λ (v : List ℕ). not (pointwise eqb v c.args.word.now)) (sym (c.as_bytes.ensures.value ∙ c.as_str.ensures)) ∙ (sym c.ne.ensures ∙ c.if-ne.true))) same)
+    let words = c.args.words.now in
+    let word = c.args.word.now in
+    let place = c.count_before-place.result in
+    absent-at words word place c.requires c.count_before-place.ensures.before (within-list words place c.get.result.now c.get.ensures) (λ same.
+    different-text c.get.result.now word (ap (λ (v : List ℕ). not (pointwise eqb v word)) (sym c.as_bytes.ensures.value) ∙ (sym c.ne.ensures ∙ c.if-ne.true)) (sym (read words place c.get.result.now word c.get.ensures) ∙ same))
 
 pub returns-clause-found : goal.returns-clause-found
 returns-clause-found c =
-    let l = c.in_ok-known.ensures.lookup in
-    let same = equal-text c.in_ok-known.known.now c.args.word.now (ap (λ (v : List ℕ). not (pointwise eqb v c.args.word.now)) (sym (c.as_bytes.ensures.value ∙ c.as_str.ensures)) ∙ (sym c.ne.ensures ∙ c.if-ne.false)) in
-    taken c.args.words.now c.partition_point-place.result c.in_ok-known.known.now l.3.0 l.1 ∙ ap Some same
+    let word = c.args.word.now in
+    c.get.ensures ∙ ap Some (equal-text c.get.result.now word (ap (λ (v : List ℕ). not (pointwise eqb v word)) (sym c.as_bytes.ensures.value) ∙ (sym c.ne.ensures ∙ c.if-ne.false)))

@@ -9,12 +9,11 @@ use Rattle.agg_evaluation.specs.Ceiling.{greatest_of}
 use Rattle.agg_evaluation.specs.Rows.{PlacedRow, row_of, rows_of_documents}
 use Rattle.agg_evaluation.specs.ColumnBytes.{value_count}
 use Rattle.agg_evaluation.specs.RowsWeight.{rows_weight}
-use Rattle.shard_columns.specs.declared.layout.Entry.{Entry}
 use Rattle.shard_columns.specs.Layout.{ids_of, placed}
 use Rattle.shard_columns.specs.Words.{AllFieldsBelow, AreDictionaries}
 use Rattle.shard_columns.specs.Values.{Words, row_values, by_words, total_count}
 use Rattle.shard_columns.specs.Given.{RowsBelow, KindsHold}
-use Rattle.shard_columns.specs.Contexts.{ContextsBelow, AreNumbered, AreEnclosed}
+use Rattle.shard_columns.specs.Contexts.{AreNumbered, AreEnclosed}
 use Rattle.shard_columns.specs.Counts.{most_values}
 use Rattle.shard_columns.specs.Dictionary.{words_of, longest_word}
 use Rattle.shard_columns.specs.Ends.{each, root_ends}

@@ -45,4 +45,4 @@ returns c = on_ok_weaker c.push.result (λ pushed m documents held admits.
     let grown : length added + length old.ends.items ≡ length {A = Laid} [] + length c.lay_row.new.ends.items =
     omega (arith, c.in_ok-lay_row.ensures.aligned, ap length c.as_slice-rows.ensures.value, ap length c.new-rows.ensures.items) in
     draft-push m documents document old added c.lay_row.new.ends.items c.len.result c.len-first.result held admits count c.len-first.ensures adds c.in_ok-lay_row.ensures.ends grown
-    _ refl refl c.in_ok-push_entries.ensures (pushed ∙ ap (λ (id : List ℕ). old.ids ++ id ∷ []) c.as_str.ensures) c.in_ok-push_values.ensures) c.push.ensures
+    _ refl refl c.in_ok-push_entries.ensures (pushed ∙ ap (λ (id : List ℕ). old.ids ++ id ∷ []) c.as_str.ensures) c.in_ok-push_values.ensures) c.push.ensures.added

@@ -1,4 +1,4 @@
-use Rattle.std.proofs.Common.{◌≡◌, ◌<◌, ◌≤◌, ◌+◌, ◌-◌, ◌++◌, ◌∙◌, List, sym, ap, arith, get_or, length, length-append}
+use Rattle.std.proofs.Common.{◌≡◌, ◌+◌, ◌-◌, ◌++◌, ◌∙◌, List, sym, ap, arith, get_or, length, length-append}
 use Rattle.shard_columns.specs.Roots.{each_root, root_at}
 use Rattle.shard_columns.specs.declared.layout.Entry.{Entry}
 use Rattle.shard_columns.proofs.EachRoot.{entry-at, entry-behind, length-each-root}

@@ -1,4 +1,4 @@
-use Rattle.std.proofs.Common.{◌≡◌, ◌++◌, ◌∙◌, List, sym, ap, arith, length, length-append}
+use Rattle.std.proofs.Common.{◌≡◌, ◌++◌, List, sym, ap, arith, length, length-append}
 use Rattle.shard_columns.specs.Roots.{each_root}
 use Rattle.shard_columns.specs.declared.layout.Entry.{Entry}
 use Rattle.shard_columns.proofs.EachRoot.{length-each-root}

@@ -1,4 +1,4 @@
-use Rattle.std.proofs.Common.{◌≡◌, ◌≤◌, ◌+◌, ◌∙◌, [], ◌∷◌, ◌++◌, List, T, refl, sym, ap, arith, subst, length}
+use Rattle.std.proofs.Common.{◌≡◌, ◌+◌, ◌∙◌, [], ◌∷◌, ◌++◌, List, T, refl, sym, ap, arith, subst}
 use Rattle.std.proofs.Math.Facts.{eqb_yes}
 use Rattle.std.specs.Vec.{vec_len}
 use Rattle.list_laws.proofs.Lists.{append-nil}

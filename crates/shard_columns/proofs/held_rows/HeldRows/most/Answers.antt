@@ -1,4 +1,4 @@
-use Rattle.std.proofs.Common.{◌≡◌, ◌++◌, ◌∙◌, List, max, min, sym, ap, map}
+use Rattle.std.proofs.Common.{◌∙◌, List, max, sym, ap, map}
 use Rattle.agg_evaluation.specs.Ceiling.{greatest_of}
 use Rattle.shard_columns.specs.Values.{held_count}
 use Rattle.shard_columns.specs.declared.values.Held.{Held}

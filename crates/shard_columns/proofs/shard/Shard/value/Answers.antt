@@ -32,7 +32,7 @@ returns-in-Words c =
     let x = c.index-in-Words.result.now in
     word-at c.self.inside c.args.self.now c.self.view_is c.self.invariant c.args.row c.args.field c.as_slice.result.now c.in-Some.column.now c.requires.in_range c.as_slice.ensures.value c.in-Some.ensures.some c.args.place c.in-Words.places x (scalar_of c.word_cell.result) c.requires.there c.in-Words.is
     (c.index-in-Words.ensures ∙ ap (λ (s : Span). get_or c.in-Words.places.items (s.start + c.args.place) x) c.span_at-span.ensures)
-    (c.word_cell.ensures ∙ ap (λ (ws : Words). shown ws x) (c.words_at.ensures ∙ ap (λ (xs : List Words). get_or xs c.args.field []) c.as_slice-in-Words.ensures.value))
+    (c.word_cell.ensures ∙ ap (λ (xs : List Words). shown (get_or xs c.args.field []) x) c.as_slice-in-Words.ensures.value)
 
 pub returns-in-Flags : goal.returns-in-Flags
 returns-in-Flags c =
