@@ -90,6 +90,7 @@ impl PackedBytes {
         let _ = self.ends.push(end);
         Ok(())
     }
+
     /// Keeps the first `len` of them, in constant time.
     pub fn truncate(&mut self, len: usize)
         ensures { self.new ≡ take len self.old }
