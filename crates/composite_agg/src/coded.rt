@@ -1,6 +1,6 @@
 //! Codes that stand for keys, by which a key is found among many with few looks at keys themselves. They are guesses, which no
 //! contract rests on.
-ghost use Rattle.std.specs.Prelude.{◌≡◌, ◌<◌, IfErr, IfOk, IsTrue, T, length};
+ghost use Rattle.std.specs.Prelude.{◌≡◌, ◌<◌, IfErr, IfOk, IfSome, IsTrue, T, length};
 ghost use Rattle.std.specs.List.{list_all};
 ghost use Rattle.agg_evaluation.specs.CompositeKeys.{is_composite_of};
 ghost use Rattle.composite_agg.specs.InOrder.{IsInOrder};
@@ -42,7 +42,7 @@ fn number_of_whole(number: i128) -> u64 {
 }
 
 // The number of the part of a row's key at a source: the place of a word in the dictionary of the field, or what a number
-// gives. They rise in the order of the source.
+// gives. They mostly rise in the order of the source.
 fn number_of_part(shard: &Shard, row: u32, source: &CompositeSource, part: &Key) -> u64
     requires built { IsShard shard.now }
     requires in_range { row < length shard.now.rows }
@@ -137,41 +137,37 @@ fn guess_spot<T: HasCode>(
     Spot { run, at }
 }
 
-// Whether the item at a spot has the key.
-fn is_spot_of<T: HasKey>(
+// What the item at a spot tells of a key: that it has the key, or that one with the key would stand between it and its neighbour
+// before it in the run; none where it tells neither.
+fn told_at<T: HasKey>(
     sources: &List<CompositeSource>,
     runs: &[Vec<T>],
     key: &Key,
     spot: Spot,
-) -> bool
+) -> Option<Result<Spot, Spot>>
+    requires order { IsInOrder T.key_of sources.now (in_runs runs.now) }
     requires parts { IsTrue (list_all (λ x. is_composite_of (length sources.now) (T.key_of x)) (in_runs runs.now)) }
     requires key_parts { IsTrue (is_composite_of (length sources.now) key.now) }
-    ensures { IsTrue result → IsSpotOf T.key_of runs.now key.now spot }
+    ensures found { IfSome result (λ told. IfOk told (IsSpotOf T.key_of runs.now key.now)) }
+    ensures absent { IfSome result (λ told. IfErr told (IsGapFor T.key_of sources.now runs.now key.now)) }
 {
-    if spot.run >= runs.len() || spot.at >= runs[spot.run].len() {
-        return false;
+    if spot.run >= runs.len() {
+        return None;
     }
-    compare_composites(sources, runs[spot.run][spot.at].key(), key) == Ordering::Equal
+    let run = &runs[spot.run];
+    if spot.at >= run.len() {
+        return None;
+    }
+    match compare_composites(sources, run[spot.at].key(), key) {
+        Ordering::Equal => Some(Ok(spot)),
+        Ordering::Greater if spot.at > 0 && is_before(sources, run[spot.at - 1].key(), key) => {
+            Some(Err(spot))
+        }
+        _ => None,
+    }
 }
 
-// Whether a key would stand at a spot, between two neighbours in one run.
-fn is_gap_for<T: HasKey>(
-    sources: &List<CompositeSource>,
-    runs: &[Vec<T>],
-    key: &Key,
-    spot: Spot,
-) -> bool
-    requires order { IsInOrder T.key_of sources.now (in_runs runs.now) }
-    ensures { IsTrue result → IsGapFor T.key_of sources.now runs.now key.now spot }
-{
-    if spot.run >= runs.len() || spot.at == 0 || spot.at >= runs[spot.run].len() {
-        return false;
-    }
-    is_before(sources, runs[spot.run][spot.at - 1].key(), key)
-        && is_before(sources, key, runs[spot.run][spot.at].key())
-}
-
-/// The same as `find_spot`, with the key's code. Where the codes tell the spot it takes a comparison of keys or three, and else
+/// The same as `find_spot`, with the key's code. Where the codes tell the spot it takes one comparison of keys or two, and else
 /// the binary search by keys.
 pub fn find_spot_by<T: HasCode>(
     sources: &List<CompositeSource>,
@@ -187,11 +183,8 @@ pub fn find_spot_by<T: HasCode>(
     ensures absent { IfErr result (IsGapFor T.key_of sources.now runs.now key.now) }
 {
     let guess = guess_spot(sources, runs, key, code);
-    if is_spot_of(sources, runs, key, guess) {
-        return Ok(guess);
+    match told_at(sources, runs, key, guess) {
+        Some(told) => told,
+        None => find_spot(sources, runs, key),
     }
-    if is_gap_for(sources, runs, key, guess) {
-        return Err(guess);
-    }
-    find_spot(sources, runs, key)
 }

@@ -69,7 +69,7 @@ impl FirstKeys {
     /// all of a full page, which one comparison with the last key tells. A new key enters with the count 1 and these
     /// children, and the last bucket leaves a full page. Each key has a part for each source, and no count is 2^64 - 1.
     /// Finding the key takes the logarithm of the page. A key that enters moves those behind it in its run, which are fewer
-    /// than 128; where a run becomes so long it is parted, which moves the runs behind it, of 64 buckets or more each. After
+    /// than 64; where a run becomes so long it is parted, which moves the runs behind it, of 32 buckets or more each. After
     /// want of memory the page is as before.
     pub fn offer(&mut self, key: Key, children: List<Node>) -> Result<Offered, AllocError>
         requires parts { IsTrue (is_composite_of (length self.old.sources) key) }

@@ -13,7 +13,7 @@ use agg_model::{CompositeSource, Key, List};
 use std::alloc::{AllocError, Global};
 
 /// A run of so many items is parted into two.
-const LONGEST: usize = 128;
+const LONGEST: usize = 64;
 
 /// Where an item stands, or would stand: a run, and a place in it.
 #[derive(Clone, Copy)]

@@ -311,8 +311,8 @@ fn put_row(
 /// want of memory nothing is said of the page.
 ///
 /// A key outside the page takes one comparison with the last bucket of a full one, mostly before it is built. Any other is found in the logarithm of the
-/// page. One that enters moves the buckets behind it in its run, which are fewer than 128; where a run becomes so long it is
-/// parted, which moves the runs behind it, of 64 buckets or more each.
+/// page. One that enters moves the buckets behind it in its run, which are fewer than 64; where a run becomes so long it is
+/// parted, which moves the runs behind it, of 32 buckets or more each.
 pub fn gather_root(
     alloc: Global,
     agg: &Agg,

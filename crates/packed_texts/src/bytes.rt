@@ -75,8 +75,8 @@ impl PackedBytes {
         &self.bytes[self.start(place)..self.ends[place] as usize]
     }
 
-    /// Copies one behind the others, in constant time beside the copy; want of memory is also that all together would have
-    /// 4 GiB or more. After want of memory they are as before.
+    /// Copies one behind the others, on average in constant time beside the copy; want of memory is also that all together would
+    /// have 4 GiB or more. After want of memory they are as before.
     pub fn push(&mut self, bytes: &[u8]) -> Result<(), AllocError>
         ensures added { OnOk result (self.new ≡ self.old ++ bytes.now ∷ []) }
         ensures memory { OnErr result (self.new ≡ self.old) }

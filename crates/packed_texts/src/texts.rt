@@ -65,8 +65,8 @@ impl PackedTexts {
         unsafe { str::from_utf8_unchecked(self.packed.get(place)) }
     }
 
-    /// Copies a text behind the others, in constant time beside the copy; want of memory is also that all together would have
-    /// 4 GiB or more. After want of memory they are as before.
+    /// Copies a text behind the others, on average in constant time beside the copy; want of memory is also that all together would
+    /// have 4 GiB or more. After want of memory they are as before.
     pub fn push(&mut self, text: &str) -> Result<(), AllocError>
         ensures added { OnOk result (self.new ≡ self.old ++ text.now ∷ []) }
         ensures memory { OnErr result (self.new ≡ self.old) }
