@@ -75,7 +75,7 @@ module _ (refusal : ℕ → Option ItemRefusal) (ids : List (List ℕ)) (marks :
 abbrev pub AreAsBefore : (ℕ → Option ItemRefusal) → (ℕ → Option ItemRefusal) → List Mark → Type 0
 AreAsBefore before after marks = (place : ℕ) → place < length marks → after place ≡ before place
 
-items-stay : (before after : ℕ → Option ItemRefusal) (ids : List (List ℕ)) (marks : List Mark) → AreAsBefore before after marks → items_of after ids marks ≡ items_of before ids marks
+pub items-stay : (before after : ℕ → Option ItemRefusal) (ids : List (List ℕ)) (marks : List Mark) → AreAsBefore before after marks → items_of after ids marks ≡ items_of before ids marks
 unfolding items_of
 items-stay before after [] marks same = refl
 items-stay before after (id ∷ ids) [] same = refl
@@ -84,7 +84,7 @@ items-stay before after (id ∷ ids) (m ∷ ms) same =
     let rest = items-stay (λ place. before (suc place)) (λ place. after (suc place)) ids ms (λ place low. same (suc place) (omega (arith, low))) in
     λ i. first i ∷ rest i
 
-ended-stay : (before after : ℕ → Option ItemRefusal) (marks : List Mark) → AreAsBefore before after marks → HaveEnded before marks → HaveEnded after marks
+pub ended-stay : (before after : ℕ → Option ItemRefusal) (marks : List Mark) → AreAsBefore before after marks → HaveEnded before marks → HaveEnded after marks
 unfolding HaveEnded
 ended-stay before after [] same ended = tt
 ended-stay before after (m ∷ ms) same ended = (

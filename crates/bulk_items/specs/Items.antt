@@ -1,5 +1,5 @@
 -- The items of a bulk response, by their ids and marks, and by the refusals of some places.
-use Rattle.std.specs.Prelude.{◌≡◌, ℕ, suc, List, [], ◌∷◌, Option, None, Some, IsSome, ⊤, length}
+use Rattle.std.specs.Prelude.{◌≡◌, ◌-◌, ℕ, suc, List, [], ◌∷◌, Option, None, Some, IsSome, ⊤, length, slice_set}
 use Rattle.std.specs.BTreeMap.{BTreeMap, get}
 use Rattle.std.specs.List.{slice_index_or}
 use Rattle.std.specs.Option.{unwrap_or}
@@ -27,6 +27,10 @@ no_item = item_of kind.Index [] (end.Applied applied.Created)
 -- the item at a place
 abbrev pub item_at : List Item → ℕ → Item
 item_at items place = slice_index_or items place no_item
+
+-- the items where the last ended so
+unfoldable pub with_last_end : ItemEnd → List Item → List Item
+with_last_end end items = let last = length items - 1 in slice_set items last (record (item_at items last) { end = end })
 
 -- the end that is seen there
 abbrev pub end_of : EndView → ItemEnd

@@ -1,6 +1,6 @@
 //! The items of a bulk response, their ids behind one another.
 ghost use Rattle.std.specs.Prelude.{◌≡◌, ◌++◌, ◌∷◌, ◌<◌, ℕ, [], Some, IfOk, OnErr, OnOk, length};
-ghost use Rattle.bulk_items.specs.Items.{end_in, end_of, item_at, item_of, refusal_in};
+ghost use Rattle.bulk_items.specs.Items.{end_in, end_of, item_at, item_of, refusal_in, with_last_end};
 
 use agg_model::{ActionKind, Applied, ItemEnd, ItemRefusal};
 use packed_texts::PackedTexts;
@@ -29,7 +29,8 @@ pub enum EndView<'a> {
 pub struct Items {
     ids: PackedTexts,
     marks: Vec<Mark>,
-    /// The refusal of each place whose action was refused. One that want of memory left behind the last mark is not looked at.
+    /// The refusal of each place whose action was refused. One that stands behind the last mark, or where an action did something,
+    /// is not looked at.
     refusals: BTreeMap<usize, ItemRefusal>,
 }
 
@@ -53,6 +54,7 @@ fn settle(
 ) -> Result<Option<Applied>, AllocError>
     ensures end { IfOk result (λ applied. end_in applied (refusal_in refusals.new place) ≡ Some end) }
     ensures others { (other : ℕ) → ¬ (other ≡ place) → refusal_in refusals.new other ≡ refusal_in refusals.old other }
+    ensures memory { OnErr result (refusal_in refusals.new place ≡ refusal_in refusals.old place) }
 {
     match end {
         ItemEnd::Applied(applied) => Ok(Some(applied)),
@@ -123,6 +125,19 @@ impl Items {
         self.ids.push(id)?;
         // There is room for it.
         let _ = self.marks.push(Mark { kind, applied });
+        Ok(())
+    }
+
+    /// Tells the end of the last item, in place of the one that it has. It takes no memory where the action was not refused.
+    /// After want of memory they are as before.
+    pub fn set_last_end(&mut self, end: ItemEnd) -> Result<(), AllocError>
+        requires { 0 < length self.old }
+        ensures items { OnOk result (self.new ≡ with_last_end end self.old) }
+        ensures memory { OnErr result (self.new ≡ self.old) }
+    {
+        let last = self.marks.len() - 1;
+        let applied = settle(&mut self.refusals, last, end)?;
+        self.marks[last].applied = applied;
         Ok(())
     }
 }

@@ -11,12 +11,12 @@ ghost use Rattle.shard_columns.specs.Built.{columns_from};
 ghost use Rattle.agg_documents.specs.Slots.{place_of};
 ghost use Rattle.column_loading.specs.Drafts.{AreDraftsOf};
 ghost use Rattle.column_loading.specs.Loadings.{AreRead, CanPut, DeletesId, IfRefused, IsLoading, IsLoadingOf, PutsAll, store_of};
-ghost use Rattle.column_loading.specs.Slots.{slot_ids};
+ghost use Rattle.column_loading.specs.Slots.{is_behind, slot_ids};
 
 use crate::again::read_again;
 use crate::drafts::{empty_drafts, finished, grow};
 use crate::slot::{Kept, Slot, other_routing};
-use crate::slots::Slots;
+use crate::slots::{Slots, Standing};
 use agg_documents::{conflicts, refused, weight_of};
 use agg_mapping::OrderedMapping;
 use agg_model::item_refusal::{INDEX_FULL, VERSION_CONFLICT};
@@ -57,9 +57,10 @@ impl Loading {
         })
     }
 
-    /// Where an id stands; none where it is new.
-    fn find(&mut self, id: &str) -> Result<Option<usize>, AllocError>
-        ensures place { IfOk result (λ place. place ≡ place_of id.now (slot_ids self.old.slots)) }
+    /// Where an id stands.
+    fn find(&mut self, id: &str) -> Result<Standing, AllocError>
+        ensures place { IfOk result (λ standing. standing.place ≡ place_of id.now (slot_ids self.old.slots)) }
+        ensures last { IfOk result (λ standing. IsTrue standing.is_last → IsTrue (is_behind id.now (slot_ids self.old.slots))) }
         ensures same { self.new ≡ self.old }
     {
         self.slots.find(id)
@@ -94,7 +95,8 @@ impl Loading {
         requires { IsLoading self.old }
         ensures { IfOk result (DeletesId id self.old self.new) }
     {
-        match self.find(id.as_str())? {
+        let standing = self.find(id.as_str())?;
+        match standing.place {
             Some(place) => self.delete_at(place, id),
             None => Ok(Applied::NotFound),
         }
@@ -155,10 +157,17 @@ impl Loading {
         }
     }
 
-    /// Puts a document whose id is new, and copies it into the growing shard of its routing.
-    fn put_new(&mut self, document: Document, source: Bytes) -> Result<Applied, ItemFault>
+    /// Puts a document whose id is new, and copies it into the growing shard of its routing. Its id may be known to come behind
+    /// the last.
+    fn put_new(
+        &mut self,
+        document: Document,
+        source: Bytes,
+        is_last: bool,
+    ) -> Result<Applied, ItemFault>
         requires loading { CanPut document source self.old }
         requires new { place_of document.id (slot_ids self.old.slots) ≡ None }
+        requires last { IsTrue is_last → IsTrue (is_behind document.id (slot_ids self.old.slots)) }
         ensures { (kind : AnyKind) → PutsAll kind document source self.old self.new result }
     {
         let added = weight_of(&document);
@@ -177,7 +186,7 @@ impl Loading {
             source,
             weight: added,
         };
-        self.slots.push(id, kept)?;
+        self.slots.push(id, kept, is_last)?;
         self.weight = weight;
         Ok(Applied::Created)
     }
@@ -192,9 +201,10 @@ impl Loading {
         requires { CanPut document source self.old }
         ensures { PutsAll kind document source self.old self.new result }
     {
-        match self.find(document.id.as_str())? {
+        let standing = self.find(document.id.as_str())?;
+        match standing.place {
             Some(place) => self.put_again(kind, place, document, source),
-            None => self.put_new(document, source),
+            None => self.put_new(document, source, standing.is_last),
         }
     }
 

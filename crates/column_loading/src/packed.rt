@@ -49,7 +49,10 @@ fn route(
             routings.insert(place, routing)?;
         }
         None => {
-            routings.remove(&place);
+            // Where no document has a routing of its own, nothing is looked for.
+            if !routings.is_empty() {
+                routings.remove(&place);
+            }
         }
     }
     Ok(())

@@ -1,5 +1,5 @@
 //! The slots of ids, and where each id stands among them.
-ghost use Rattle.std.specs.Prelude.{◌≡◌, ◌++◌, ◌∷◌, ◌<◌, [], None, Some, IfOk, OnOk, length, option_map, slice_set};
+ghost use Rattle.std.specs.Prelude.{◌≡◌, ◌++◌, ◌∷◌, ◌<◌, [], None, Some, IfOk, IsTrue, OnOk, length, option_map, slice_set};
 ghost use Rattle.agg_documents.specs.Slots.{place_of};
 ghost use Rattle.column_loading.specs.Forms.{slots_in};
 ghost use Rattle.column_loading.specs.Slots.{HasPlaces, IsAscending, id_cmp, is_behind, live_slot, slot_at, slot_ids};
@@ -12,6 +12,15 @@ use std::alloc::{AllocError, Global};
 use std::cmp::Ordering;
 use std::collections::BTreeMap;
 use std::marker::Model;
+
+/// Where an id stands among those of slots.
+#[derive(Clone, Copy)]
+pub struct Standing {
+    /// None where the id is new.
+    pub place: Option<usize>,
+    /// Whether it is known to come behind the last.
+    pub is_last: bool,
+}
 
 /// Slots of distinct ids, in the order in which the ids came. Contracts see the list of the slots.
 ///
@@ -130,33 +139,45 @@ impl Slots {
         form.into_slots(alloc)
     }
 
-    /// Where an id stands; none where it is new. A new id that comes behind the last takes one comparison; any other takes the
-    /// logarithm of the ids, and the first of them n log n.
-    pub(crate) fn find(&mut self, id: &str) -> Result<Option<usize>, AllocError>
-        ensures place { IfOk result (λ place. place ≡ place_of id.now (slot_ids self.old)) }
+    /// Where an id stands. A new id that comes behind the last takes one comparison; any other takes the logarithm of the ids,
+    /// and the first of them n log n.
+    pub(crate) fn find(&mut self, id: &str) -> Result<Standing, AllocError>
+        ensures place { IfOk result (λ standing. standing.place ≡ place_of id.now (slot_ids self.old)) }
+        ensures last { IfOk result (λ standing. IsTrue standing.is_last → IsTrue (is_behind id.now (slot_ids self.old))) }
         ensures same { self.new ≡ self.old }
     {
         if let Some(places) = &self.places {
-            return Ok(places.get(id).copied());
+            return Ok(Standing {
+                place: places.get(id).copied(),
+                is_last: false,
+            });
         }
         if comes_last(id, &self.form) {
-            return Ok(None);
+            return Ok(Standing {
+                place: None,
+                is_last: true,
+            });
         }
         let places = places_of(self.alloc, &self.form)?;
         let place = places.get(id).copied();
         self.places = Some(places);
-        Ok(place)
+        Ok(Standing {
+            place,
+            is_last: false,
+        })
     }
 
-    /// Puts a live document with a new id behind the others, in the time of `find`. After want of memory they are spent.
-    pub(crate) fn push(&mut self, id: Text, kept: Kept) -> Result<(), AllocError>
+    /// Puts a live document with a new id behind the others, in the time of `find`, which told whether it comes behind the last.
+    /// After want of memory they are spent.
+    pub(crate) fn push(&mut self, id: Text, kept: Kept, is_last: bool) -> Result<(), AllocError>
         requires new { place_of id (slot_ids self.old) ≡ None }
+        requires last { IsTrue is_last → IsTrue (is_behind id (slot_ids self.old)) }
         ensures { OnOk result (self.new ≡ self.old ++ live_slot id kept ∷ []) }
     {
         if let Some(places) = &mut self.places {
             return put_last(self.alloc, &mut self.form, places, id, kept);
         }
-        if comes_last(id.as_str(), &self.form) {
+        if is_last {
             return self.form.push(id, kept);
         }
         let mut places = places_of(self.alloc, &self.form)?;
