@@ -7,15 +7,15 @@ ghost use Rattle.agg_reading.specs.declared.parts.IndexLine.{IndexLine};
 ghost use Rattle.column_loading.specs.Loadings.{IsLoadingOf, store_of};
 ghost use Rattle.agg_bulk.specs.Loading.{loading_of};
 
-use agg_model::{Action, Copying, ItemEnd, Mapping};
+use agg_model::{Action, Applied, ItemEnd, Mapping};
 use bulk_items::Items;
 use column_loading::Loading;
 use document_rows::{ItemFault, Scratch};
-use std::alloc::{AllocError, Global};
+use std::alloc::AllocError;
 
-/// Does one bulk action, and adds its item. The scratch is kept from one action to the next.
+/// Does one bulk action, and adds its item. The scratch is kept from one action to the next. After want of memory loading and
+/// items are spent.
 pub(crate) fn apply(
-    alloc: Global,
     mapping: &Mapping,
     loading: &mut Loading,
     items: &mut Items,
@@ -30,12 +30,13 @@ pub(crate) fn apply(
     ensures loading { OnOk result (IsLoadingOf mapping.now loading.new) }
     ensures shards { OnOk result (loading.new.shards ≡ loading.old.shards) }
 {
-    let kind = action.kind;
-    let id = action.id.copy(alloc)?;
+    // Before the action takes its id along. How it ends is told behind it.
+    let created = ItemEnd::Applied(Applied::Created);
+    items.push(action.kind, action.id.as_str(), created)?;
     let end = match loading.apply_with(mapping, action, scratch) {
         Ok(applied) => ItemEnd::Applied(applied),
         Err(ItemFault::Refused(refusal)) => ItemEnd::Refused(refusal),
         Err(ItemFault::Memory) => return Err(AllocError),
     };
-    items.push(kind, id.as_str(), end)
+    items.set_last_end(end)
 }

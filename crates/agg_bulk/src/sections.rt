@@ -116,7 +116,6 @@ fn bulk_actions<S: Source>(
         &mut scratch,
     )? {
         apply(
-            alloc,
             &index.mapping,
             &mut loading,
             &mut items,
