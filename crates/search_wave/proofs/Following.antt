@@ -22,7 +22,7 @@ use Rattle.index_laws.specs.Indexes.{index_of}
 use Rattle.search_wave.specs.Pages.{ArePageAnswers, AreWavesFrom}
 use Rattle.shard_columns.specs.declared.index.Index.{Index as ShardIndex}
 use Rattle.solo_charges.specs.Alone.{IsAlone}
-use Rattle.wave_laws.specs.Waves.{IsWave, round_of}
+use Rattle.search_wave.specs.Waves.{IsWave, round_of}
 
 module _ (settings : Settings) (index : Index) (columns : ℕ) (first : Request) (old : View) where
   -- what follows these pages follows the first request

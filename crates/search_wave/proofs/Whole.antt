@@ -19,7 +19,7 @@ use Rattle.breaker_words.specs.declared.trial.Trial.TheVariants.{Rest}
 use Rattle.breaker_words.specs.declared.view.View.{View}
 use Rattle.shard_columns.specs.declared.index.Index.{Index as ShardIndex}
 use Rattle.wave_answers.specs.Ended.{AreBehind}
-use Rattle.wave_laws.specs.Waves.{IsWave}
+use Rattle.search_wave.specs.Waves.{IsWave}
 
 pub if-ok-map : {A E : Type 0} (P Q : A → Type 0) (r : Result A E) → IfOk r P → ((a : A) → P a → Q a) → IfOk r Q
 if-ok-map P Q (Ok a) h f = f a h

@@ -1,2 +1,4 @@
--- Searches that many workers answer.
+-- Searches that many workers answer side by side.
+pub mod Waves
+pub mod Ran
 pub mod Pages

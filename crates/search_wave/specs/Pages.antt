@@ -13,7 +13,7 @@ use Rattle.breaker_words.specs.Views.{hold_of}
 use Rattle.breaker_words.specs.declared.view.View.{View}
 use Rattle.index_laws.specs.Indexes.{index_of}
 use Rattle.shard_columns.specs.declared.index.Index.{Index as ShardIndex}
-use Rattle.wave_laws.specs.Waves.{IsWave}
+use Rattle.search_wave.specs.Waves.{IsWave}
 
 -- this is the answer to a request as a wave of its own, with the search of the page behind it
 pub record IsPage (settings : Settings) (index : ShardIndex) (request : Request) (old new : View) (page : Page) : Type 0 where

@@ -2,6 +2,7 @@
 //! charged and read, their tasks run in one pool, and then each is answered in its turn.
 #![tactic(auto)]
 
+pub mod laws;
 mod pages;
 mod wave;
 

@@ -9,7 +9,7 @@ ghost use Rattle.breaker_words.specs.Views.{hold_of};
 ghost use Rattle.index_laws.specs.Indexes.{index_of};
 ghost use Rattle.solo_charges.specs.Alone.{IsAlone};
 ghost use Rattle.wave_answers.specs.Ended.{AreBehind};
-ghost use Rattle.wave_laws.specs.Waves.{IsWave};
+ghost use Rattle.search_wave.specs.Waves.{IsWave};
 ghost use Rattle.wave_reading.specs.Asking.{requests_from};
 
 use agg_model::{Answered, Bytes, List, Search, Settings, Which};

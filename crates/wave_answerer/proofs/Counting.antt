@@ -13,7 +13,7 @@ use Rattle.breaker_words.specs.declared.view.View.{View}
 use Rattle.script_answers.proofs.Completing.{quiet-answers}
 use Rattle.wave_answerer.specs.Worked.{HasCounted}
 use Rattle.wave_answerer.proofs.Rises.{rose-more}
-use Rattle.wave_laws.specs.Waves.{HasRisenBy}
+use Rattle.search_wave.specs.Waves.{HasRisenBy}
 
 -- a counter that stops, counted on
 counted-on : (old new a more : ℕ) → old ≡ counter_value a → new ≡ counter_value (old + more) → new ≡ counter_value (a + more)

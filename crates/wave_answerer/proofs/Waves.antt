@@ -21,7 +21,7 @@ use Rattle.script_answers.proofs.Forming.{Formed}
 use Rattle.search_wave.specs.Pages.{ArePageAnswers, AreWavesFrom}
 use Rattle.wave_answerer.specs.Worked.{HasAnswered, HasCounted}
 use Rattle.wave_answerer.proofs.Counting.{counts-more}
-use Rattle.wave_laws.specs.Waves.{HasRisenBy, IsWave, round_of}
+use Rattle.search_wave.specs.Waves.{HasRisenBy, IsWave, round_of}
 
 module _ (settings : Settings) (index : Index) (columns : ℕ) where
   abbrev AllowedIf : Round → Bool → Type 0

@@ -10,8 +10,8 @@ use Rattle.index_laws.specs.Indexes.{index_of}
 use Rattle.pool_closing.specs.Ends.{cost_of_ends}
 use Rattle.wave_answers.specs.Ended.{AreAnswers}
 use Rattle.wave_answers.specs.Rising.{HasRisen}
-use Rattle.wave_laws.proofs.Wave.{is-wave}
-use Rattle.wave_laws.specs.Waves.{IsWave}
+use Rattle.search_wave.proofs.AllowedWave.{is-wave}
+use Rattle.search_wave.specs.Waves.{IsWave}
 use Rattle.wave_reading.proofs.Pages.{as-many-requests}
 use Rattle.wave_reading.specs.Asking.{requests_from}
 use Rattle.search_wave.proofs.Asked.{runs-are}

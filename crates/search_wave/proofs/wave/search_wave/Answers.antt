@@ -4,7 +4,7 @@ use Rattle.agg_model.specs.declared.outcome.Answered.{Answered}
 use Rattle.agg_search.specs.declared.solo.Page.{Page}
 use Rattle.agg_spec.specs.Outcome.{Request}
 use Rattle.index_laws.specs.Indexes.{index_of}
-use Rattle.wave_laws.specs.Waves.{IsWave}
+use Rattle.search_wave.specs.Waves.{IsWave}
 use Rattle.agg_spec.specs.Requests.{request_of}
 use Rattle.search_wave.proofs.Requests.{none-read}
 use Rattle.search_wave.proofs.Whole.{if-ok-map}

@@ -27,12 +27,12 @@ use Rattle.wave_bodies.specs.Charged.{charged_for}
 use Rattle.wave_reading.specs.Asking.{AreAsked}
 use Rattle.wave_reading.specs.declared.asked.Asked.{Asked}
 use Rattle.wave_reading.specs.declared.asked.Asked.TheVariants as asks
-use Rattle.wave_laws.specs.Ran.{HasAnswered}
-use Rattle.wave_laws.proofs.AllowedAnswers.{run-allowed}
-use Rattle.wave_laws.proofs.AllowedEnds.{HaveEnded, ends-cost, ends-known}
-use Rattle.wave_laws.proofs.AllowedRefused.{refused-allowed, tripped-allowed}
-use Rattle.wave_laws.proofs.AllowedSeen.{IsWithin}
-use Rattle.wave_laws.proofs.AllowedSums.{asked-most, charge-behind, charge-first, pool-peaks, response-behind, response-first, responses, search_peaks}
+use Rattle.search_wave.specs.Ran.{HasAnswered}
+use Rattle.search_wave.proofs.AllowedAnswers.{run-allowed}
+use Rattle.search_wave.proofs.AllowedEnds.{HaveEnded, ends-cost, ends-known}
+use Rattle.search_wave.proofs.AllowedRefused.{refused-allowed, tripped-allowed}
+use Rattle.search_wave.proofs.AllowedSeen.{IsWithin}
+use Rattle.search_wave.proofs.AllowedSums.{asked-most, charge-behind, charge-first, pool-peaks, response-behind, response-first, responses, search_peaks}
 
 -- answer by answer
 module _ (settings : Settings) (index : Index) (some : 0 < length index.shards) (columns bodies peaks bytes ceiling : ℕ) (view : View) (known : IsWithin columns bodies peaks bytes ceiling view) where

@@ -21,7 +21,7 @@ use Rattle.wave_bodies.specs.Charged.{charged_for}
 use Rattle.wave_reading.specs.Asking.{AreAsked, IsRunAs}
 use Rattle.wave_reading.specs.declared.asked.Asked.{Asked}
 use Rattle.wave_reading.specs.declared.asked.Asked.TheVariants as asks
-use Rattle.wave_laws.proofs.AllowedLists.{sum-listed, sum-places}
+use Rattle.search_wave.proofs.AllowedLists.{sum-listed, sum-places}
 
 -- what the task of the shard holds at most, and all tasks of a search
 abbrev pub shard_peak : Index → Search → ℕ → ℕ

@@ -30,11 +30,11 @@ use Rattle.pool_closing.specs.declared.search_end.SearchEnd.{SearchEnd}
 use Rattle.wave_answers.specs.Ended.{IsAnswer, IsReduced, IsRefused, IsStopped}
 use Rattle.wave_bodies.specs.Charged.{trips_in}
 use Rattle.wave_reading.specs.Asking.{IsRefusedAs, IsRunAs}
-use Rattle.wave_laws.proofs.RisenMerges.{IsLeastMerge, least-merge}
-use Rattle.wave_laws.proofs.RisenSums.{least_of}
-use Rattle.wave_laws.proofs.RisenTold.{at-none, at-sum}
-use Rattle.wave_laws.proofs.RisenTrips.{trips-cons}
-use Rattle.wave_laws.proofs.RisenWalk.{GoesOn}
+use Rattle.search_wave.proofs.RisenMerges.{IsLeastMerge, least-merge}
+use Rattle.search_wave.proofs.RisenSums.{least_of}
+use Rattle.search_wave.proofs.RisenTold.{at-none, at-sum}
+use Rattle.search_wave.proofs.RisenTrips.{trips-cons}
+use Rattle.search_wave.proofs.RisenWalk.{GoesOn}
 
 -- The parts of an end are the wholes of groups of the shards that are left; one for each batch where no shard is left out.
 pub record HasGroups (index : Index) (size : ℕ) (search : Search) (e : SearchEnd) : Type 0 where

@@ -29,12 +29,12 @@ use Rattle.shard_columns.specs.declared.index.Index.{Index as ShardIndex}
 use Rattle.shard_pool.specs.PoolOf.{pool_of}
 use Rattle.wave_bodies.specs.Charged.{charged_for, trips_in}
 use Rattle.wave_reading.specs.declared.asked.Asked.{Asked}
-use Rattle.wave_laws.specs.Ran.{HasAnswered}
-use Rattle.wave_laws.specs.Waves.{HasRisenBy, round_of}
-use Rattle.wave_laws.proofs.RisenQuiet.{AreQuiet, HasEnded, all-left, goes-quiet, least_in}
-use Rattle.wave_laws.proofs.RisenSums.{least-granted, least_of}
-use Rattle.wave_laws.proofs.RisenTrips.{bodies-elsewhere, ends-elsewhere, goes-elsewhere, tell-least, tell-most, told_by_all}
-use Rattle.wave_laws.proofs.RisenWalk.{Each, each-place, walk}
+use Rattle.search_wave.specs.Ran.{HasAnswered}
+use Rattle.search_wave.specs.Waves.{HasRisenBy, round_of}
+use Rattle.search_wave.proofs.RisenQuiet.{AreQuiet, HasEnded, all-left, goes-quiet, least_in}
+use Rattle.search_wave.proofs.RisenSums.{least-granted, least_of}
+use Rattle.search_wave.proofs.RisenTrips.{bodies-elsewhere, ends-elsewhere, goes-elsewhere, tell-least, tell-most, told_by_all}
+use Rattle.search_wave.proofs.RisenWalk.{Each, each-place, walk}
 
 -- the end at each place
 end-at : (p : Pool) (size : ℕ) (v : View) (q : ℕ) (e : SearchEnd) → MayEnd p q size v e → HasEnded p.words.limits p.index size v (search_at p q) e

@@ -11,8 +11,8 @@ ghost use Rattle.index_laws.specs.Indexes.{index_of};
 ghost use Rattle.pool_closing.specs.declared.search_end.SearchEnd.{SearchEnd};
 ghost use Rattle.shard_columns.specs.declared.index.Index.{Index as ShardIndex};
 ghost use Rattle.wave_reading.specs.declared.asked.Asked.{Asked};
-ghost use Rattle.wave_laws.specs.Ran.{HasAnswered};
-ghost use Rattle.wave_laws.specs.Waves.{IsWave};
+ghost use Rattle.search_wave.specs.Ran.{HasAnswered};
+ghost use Rattle.search_wave.specs.Waves.{IsWave};
 
 /// Searches whose bodies were charged, whose tasks have run and that were answered are answered as a wave may be: each refusal that they
 /// tell of was seen above its limit and within the ceiling of the wave, what was answered had room, and the totals rose as is known of

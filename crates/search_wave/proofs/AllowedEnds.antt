@@ -17,9 +17,9 @@ use Rattle.pool_results.specs.Carried.{PeakFits}
 use Rattle.pool_results.specs.Pools.{no_search}
 use Rattle.shard_columns.specs.declared.index.Index.{Index as ShardIndex}
 use Rattle.shard_pool.specs.PoolOf.{pool_of}
-use Rattle.wave_laws.proofs.AllowedCosts.{end-cost}
-use Rattle.wave_laws.proofs.AllowedLists.{ArePairs, pairs-by-place, sum-pairs}
-use Rattle.wave_laws.proofs.AllowedSums.{search_peaks, shard_peak}
+use Rattle.search_wave.proofs.AllowedCosts.{end-cost}
+use Rattle.search_wave.proofs.AllowedLists.{ArePairs, pairs-by-place, sum-pairs}
+use Rattle.search_wave.proofs.AllowedSums.{search_peaks, shard_peak}
 
 module _ (limits : Limits) (index : Index) where
   -- the task of the shard had room

@@ -10,10 +10,10 @@ use Rattle.breaker_words.specs.declared.view.View.{View}
 use Rattle.index_laws.specs.Indexes.{index_of}
 use Rattle.pool_closing.specs.declared.search_end.SearchEnd.{SearchEnd}
 use Rattle.shard_columns.specs.declared.index.Index.{Index as ShardIndex}
-use Rattle.wave_laws.proofs.Allowed.{wave-allowed}
-use Rattle.wave_laws.proofs.Risen.{wave-risen}
-use Rattle.wave_laws.specs.Ran.{HasAnswered}
-use Rattle.wave_laws.specs.Waves.{IsWave}
+use Rattle.search_wave.proofs.Allowed.{wave-allowed}
+use Rattle.search_wave.proofs.Risen.{wave-risen}
+use Rattle.search_wave.specs.Ran.{HasAnswered}
+use Rattle.search_wave.specs.Waves.{IsWave}
 use Rattle.wave_reading.specs.declared.asked.Asked.{Asked}
 
 pub is-wave : (settings : Settings) (index : ShardIndex) (words : WordsModel) (requests : List AnyRequest) (refusals : List (Option Tripped)) (asked : List Asked) (searches : List Search) (ceilings : List ℕ) (ends : List SearchEnd) (answers : List Answered)

@@ -28,8 +28,8 @@ use Rattle.pool_results.specs.Passes.{is_charged}
 use Rattle.pool_results.specs.Runs.{times_at}
 use Rattle.wave_answers.specs.Ended.{IsAnswer, IsReduced, IsRefused, IsStopped}
 use Rattle.wave_bodies.specs.Charged.{trip_of, trips_in}
-use Rattle.wave_laws.proofs.RisenTold.{answer-told, at-none, at-sum, exception-most, told-two}
-use Rattle.wave_laws.proofs.RisenWalk.{Each, GoesOn, refused_answer, tripped_answer}
+use Rattle.search_wave.proofs.RisenTold.{answer-told, at-none, at-sum, exception-most, told-two}
+use Rattle.search_wave.proofs.RisenWalk.{Each, GoesOn, refused_answer, tripped_answer}
 
 -- the refusals that these answers tell of
 abbrev pub told_by_all : Index → List Answered → Amounts

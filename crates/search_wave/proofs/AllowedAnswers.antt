@@ -23,10 +23,10 @@ use Rattle.pool_closing.specs.Ends.{IsTold, is_stopped}
 use Rattle.pool_closing.specs.declared.search_end.SearchEnd.{SearchEnd}
 use Rattle.wave_answers.specs.Ended.{HasRoom, IsAnswer, IsReduced, IsRefused, IsStopped, outcome_at}
 use Rattle.wave_reading.specs.Asking.{IsRunAs}
-use Rattle.wave_laws.proofs.AllowedEnds.{HadRoom, HasEnded}
-use Rattle.wave_laws.proofs.AllowedLists.{each-behind, some-left}
-use Rattle.wave_laws.proofs.AllowedSeen.{IsWithin, charge-seen, told-seen}
-use Rattle.wave_laws.proofs.AllowedSums.{search_peaks, shard_peak}
+use Rattle.search_wave.proofs.AllowedEnds.{HadRoom, HasEnded}
+use Rattle.search_wave.proofs.AllowedLists.{each-behind, some-left}
+use Rattle.search_wave.proofs.AllowedSeen.{IsWithin, charge-seen, told-seen}
+use Rattle.search_wave.proofs.AllowedSums.{search_peaks, shard_peak}
 
 -- where no shard is left, the outcome is the refusal of the first that failed
 none-left : (index : Index) (max : ℕ) (search : Search) (fs : List Failure) → 0 < length index.shards → unfailed index fs ≡ []

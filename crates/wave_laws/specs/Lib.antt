@@ -1,3 +1,0 @@
--- Searches that are answered side by side.
-pub mod Waves
-pub mod Ran
