@@ -9,6 +9,7 @@ ghost use Rattle.shard_columns.specs.Built.{IsShard};
 
 use crate::behind::only_ordinal;
 use crate::keyed::HasKey;
+use crate::lasts::Lasts;
 use crate::places::is_before;
 use crate::runs::{Spot, find_spot};
 use agg_model::{CompositeSource, Key, Kind, List};
@@ -120,14 +121,30 @@ fn ends_coded_before<T: HasCode>(
     }
 }
 
+// The run in which a key stands or would stand: the one that the codes of the last items tell, unless it ends before the key.
+fn guess_run<T: HasCode>(
+    sources: &List<CompositeSource>,
+    runs: &[Vec<T>],
+    lasts: &Lasts,
+    key: &Key,
+    code: Code,
+) -> usize {
+    let run = lasts.run_of(code);
+    match runs.get(run) {
+        Some(items) if !ends_coded_before(sources, items.as_slice(), key, code) => run,
+        _ => runs.partition_point(|run| ends_coded_before(sources, run.as_slice(), key, code)),
+    }
+}
+
 // Where the codes say that a key stands.
 fn guess_spot<T: HasCode>(
     sources: &List<CompositeSource>,
     runs: &[Vec<T>],
+    lasts: &Lasts,
     key: &Key,
     code: Code,
 ) -> Spot {
-    let run = runs.partition_point(|run| ends_coded_before(sources, run.as_slice(), key, code));
+    let run = guess_run(sources, runs, lasts, key, code);
     let at = match runs.get(run) {
         Some(run) => run
             .as_slice()
@@ -167,11 +184,12 @@ fn told_at<T: HasKey>(
     }
 }
 
-/// The same as `find_spot`, with the key's code. Where the codes tell the spot it takes one comparison of keys or two, and else
+/// The same as `find_spot`, with the key's code and those of the last items. Where the codes tell the spot it takes one comparison of keys or two, and else
 /// the binary search by keys.
 pub fn find_spot_by<T: HasCode>(
     sources: &List<CompositeSource>,
     runs: &[Vec<T>],
+    lasts: &Lasts,
     key: &Key,
     code: Code,
 ) -> Result<Spot, Spot>
@@ -182,7 +200,7 @@ pub fn find_spot_by<T: HasCode>(
     ensures found { IfOk result (IsSpotOf T.key_of runs.now key.now) }
     ensures absent { IfErr result (IsGapFor T.key_of sources.now runs.now key.now) }
 {
-    let guess = guess_spot(sources, runs, key, code);
+    let guess = guess_spot(sources, runs, lasts, key, code);
     match told_at(sources, runs, key, guess) {
         Some(told) => told,
         None => find_spot(sources, runs, key),

@@ -6,6 +6,7 @@ mod behind;
 pub mod coded;
 mod first_keys;
 mod keyed;
+pub mod lasts;
 pub mod laws;
 mod offered;
 mod offering;

@@ -78,6 +78,7 @@ pub fn finish_page(
     let Page {
         held: _,
         runs,
+        lasts: _,
         guesses: _,
     } = page;
     let buckets = join(alloc, runs)?;

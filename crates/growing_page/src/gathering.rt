@@ -25,6 +25,7 @@ use crate::costs::{bytes_of_bucket, sum_of};
 use crate::page::{Held, Page};
 use agg_model::{Agg, Key, Kind, List};
 use composite_agg::coded::{Code, code_of, find_spot_by};
+use composite_agg::lasts::run_length;
 use composite_agg::runs::{Spot, enter, is_outside, last_key};
 use composite_agg::{are_behind, keys};
 use growing_tree::{Ready, begin_trees, gather_children};
@@ -104,7 +105,9 @@ fn find(kind: &Kind, page: &Page, key: &Key, code: Code) -> Result<Spot, Spot>
     ensures absent { IfErr result (IsGapFor held_key (sources_of kind.now) page.now.runs.items key.now) }
 {
     match kind {
-        Kind::Composite { sources, .. } => find_spot_by(sources, page.runs.as_slice(), key, code),
+        Kind::Composite { sources, .. } => {
+            find_spot_by(sources, page.runs.as_slice(), &page.lasts, key, code)
+        }
         _ => unreachable!(),
     }
 }
@@ -230,7 +233,9 @@ fn put_key(
             let bucket = new_bucket(alloc, &agg.children, ready, shard, rows, spare, key, code)?;
             let added = bucket.bytes;
             let size = size_of_composite(&agg.kind);
+            let before = run_length(page.runs.as_slice(), spot.run);
             let left = enter(size, &mut page.held, &mut page.runs, spot, bucket)?;
+            page.lasts.note(page.runs.as_slice(), spot.run, before);
             Ok(Change {
                 added,
                 removed: bytes_of(left),

@@ -10,6 +10,7 @@ ghost use Rattle.growing_page.specs.GrowingPages.{IsPageOf, page_node};
 use agg_model::{Key, Kind};
 use composite_agg::HasKey;
 use composite_agg::coded::{Code, HasCode};
+use composite_agg::lasts::Lasts;
 use growing_tree::Tree;
 use std::alloc::{AllocError, Global};
 
@@ -46,6 +47,8 @@ pub struct Page {
     /// The number of buckets.
     pub(crate) held: usize,
     pub(crate) runs: Vec<Vec<Held>>,
+    /// By which the run of a key is guessed.
+    pub(crate) lasts: Lasts,
     /// For each source, where the dictionary of its field had the word of a last key: a guess for the next one, which is often the same.
     pub(crate) guesses: Vec<u32>,
 }
@@ -63,6 +66,7 @@ impl Page {
             Kind::Composite { sources, .. } => Ok(Page {
                 held: 0,
                 runs: Vec::new(alloc),
+                lasts: Lasts::new(alloc),
                 guesses: vec![in alloc; 0; sources.len()]?,
             }),
             _ => unreachable!(),

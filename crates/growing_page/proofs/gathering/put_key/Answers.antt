@@ -88,7 +88,7 @@ returns-in_ok-left-in-Err-clause-buckets c =
     let inside = sym c.is_refused_by.ensures ∙ c.if-is_refused_by.false in
     let left = c.in_ok-left-in-Err.left in
     let full = c.in_ok-left-in-Err.ensures.full ∙ ap (λ n. nat_le n (length (buckets_of p))) c.size_of_composite-size.ensures in
-    let after : Page = record { held = c.enter.new.held; runs = c.enter.new.runs; guesses = p.guesses } in
+    let after : Page = record { held = c.enter.new.held; runs = c.enter.new.runs; lasts = c.note.new.self; guesses = p.guesses } in
     buckets-put k c.requires.composite ds gs rows q p c.requires.page c.requires.parts inside c.in-Err.spot c.in-Err.ensures.absent h c.in_ok-bucket-in-Err.ensures.bucket c.in_ok-bucket-in-Err.ensures.costs after left c.in_ok-left-in-Err.ensures.items full
 
 pub returns-in_ok-left-in-Err-clause-page : goal.returns-in_ok-left-in-Err-clause-page
@@ -104,7 +104,7 @@ returns-in_ok-left-in-Err-clause-page c =
     let inside = sym c.is_refused_by.ensures ∙ c.if-is_refused_by.false in
     let left = c.in_ok-left-in-Err.left in
     let full = c.in_ok-left-in-Err.ensures.full ∙ ap (λ n. nat_le n (length (buckets_of p))) c.size_of_composite-size.ensures in
-    let after : Page = record { held = c.enter.new.held; runs = c.enter.new.runs; guesses = p.guesses } in
+    let after : Page = record { held = c.enter.new.held; runs = c.enter.new.runs; lasts = c.note.new.self; guesses = p.guesses } in
     page-put k c.requires.composite ds gs rows q p c.requires.page c.requires.parts inside c.in-Err.spot c.in-Err.ensures.absent h c.in_ok-bucket-in-Err.ensures.bucket c.in_ok-bucket-in-Err.ensures.costs after left c.in_ok-left-in-Err.ensures.items full c.enter.ensures.filled c.enter.ensures.held
 
 pub returns-in_ok-left-in-Err-clause-cost : goal.returns-in_ok-left-in-Err-clause-cost
@@ -120,6 +120,6 @@ returns-in_ok-left-in-Err-clause-cost c =
     let inside = sym c.is_refused_by.ensures ∙ c.if-is_refused_by.false in
     let left = c.in_ok-left-in-Err.left in
     let full = c.in_ok-left-in-Err.ensures.full ∙ ap (λ n. nat_le n (length (buckets_of p))) c.size_of_composite-size.ensures in
-    let after : Page = record { held = c.enter.new.held; runs = c.enter.new.runs; guesses = p.guesses } in
+    let after : Page = record { held = c.enter.new.held; runs = c.enter.new.runs; lasts = c.note.new.self; guesses = p.guesses } in
     let all = cost-put k c.requires.composite ds gs rows q p c.requires.page c.requires.parts inside c.in-Err.spot c.in-Err.ensures.absent h c.in_ok-bucket-in-Err.ensures.bucket c.in_ok-bucket-in-Err.ensures.costs after left c.in_ok-left-in-Err.ensures.items full in
     omega (arith, all, c.bytes_of.ensures)
