@@ -27,6 +27,11 @@ below_from-min ps k (b ∷ bs) =
     let more : min ((k + plan_each ps b.children) + planned_below ps bs) greatest_count ≡ min (k + planned_below ps (b ∷ bs)) greatest_count = omega (arith, sum_by-cons (λ (b : Bucket). plan_each ps b.children) b bs) in
     ap (λ m. below_from ps m bs) step ∙ below_from-min ps (k + plan_each ps b.children) bs ∙ more
 
+-- no children, no buckets below
+pub none-below : (bs : List Bucket) → planned_below [] bs ≡ 0
+none-below [] = refl
+none-below (b ∷ bs) = omega (arith, sum_by-cons (λ (b : Bucket). plan_each [] b.children) b bs, none-below bs)
+
 pub nothing_from-min : (k : ℕ) (ps : List Plan) → nothing_from (min k greatest_count) ps ≡ min (k + below_empty ps) greatest_count
 nothing_from-min k [] = omega arith
 nothing_from-min k (p ∷ ps) =

@@ -1,7 +1,7 @@
 -- Selections and the answers that are made of them.
-use Rattle.std.specs.Prelude.{◌≡◌, refl, ℕ, ◌&&◌, Bool, true, false, length, List, [], ◌∷◌, map, take, filter}
+use Rattle.std.specs.Prelude.{◌≡◌, refl, ℕ, ◌&&◌, Bool, true, false, length, List, [], ◌∷◌, map, take, filter, min}
 use Rattle.std.specs.List.{list_all}
-use Rattle.std.proofs.Common.{sym, ◌∙◌, ap, subst, cond, ⊎_elim, zero, suc}
+use Rattle.std.proofs.Common.{sym, ◌∙◌, ap, subst, cond, ⊎_elim, zero, suc, length-take}
 use Rattle.std.proofs.lemmas.Bool.{cases_Bool, and_parts, and_from}
 use Rattle.agg_model.specs.declared.aggregation.Agg.{Agg}
 use Rattle.std.specs.declared.cmp.Ordering.{Ordering}
@@ -67,3 +67,7 @@ length-insert cmp x (y ∷ ys) =
 pub length-sorted : {A : Type 0} (cmp : A → A → Ordering) (xs : List A) → length (sorted cmp xs) ≡ length xs
 length-sorted cmp [] = refl
 length-sorted cmp (x ∷ xs) = length-insert cmp x (sorted cmp xs) ∙ ap (λ n. suc n) (length-sorted cmp xs)
+
+-- how many are the first in an order, whatever the order
+pub length-first : {A : Type 0} (cmp : A → A → Ordering) (size : ℕ) (xs : List A) → min size (length xs) ≡ length (take size (sorted cmp xs))
+length-first cmp size xs = ap (min size) (sym (length-sorted cmp xs)) ∙ sym (length-take size (sorted cmp xs))

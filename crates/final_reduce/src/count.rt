@@ -13,6 +13,7 @@ ghost use Rattle.agg_evaluation.specs.Conditions.{has_interval, has_intervals};
 ghost use Rattle.final_reduce.specs.Planned.{fixed_count, gap_count as count_of_gaps, gaps_of, member_number, planned_below as planned_below_buckets, planned_of_nothing};
 
 use crate::lent::lend_returned;
+use crate::returned::returned_number;
 use crate::spans::{Spacing, filled_number};
 use agg_model::{Agg, Bucket, Kind, List, Node};
 use std::alloc::{AllocError, Global};
@@ -170,11 +171,16 @@ fn planned(alloc: Global, agg: &Agg, node: &Node) -> Result<u64, AllocError>
     ensures { IfOk result (λ n. n ≡ min ((plan agg.now).count node.now) greatest_count) }
 {
     let buckets = buckets_of(node);
+    let filling = count_in_gaps(agg, buckets);
+    // Without children nothing lies below a bucket: the number of buckets is enough, and none is sorted.
+    if agg.children.is_empty() {
+        let members = member_count(&agg.kind, returned_number(agg, buckets));
+        return Ok(members.saturating_add(filling));
+    }
     let returned = lend_returned(alloc, agg, buckets)?;
     let lent = returned.as_slice();
     let members = member_count(&agg.kind, lent.len() as u64);
     let below = planned_below(alloc, &agg.children, lent)?;
-    let filling = count_in_gaps(agg, buckets);
     Ok(members.saturating_add(below).saturating_add(filling))
 }
 

@@ -11,6 +11,7 @@ mod finishing;
 mod lent;
 mod parts;
 mod range;
+mod returned;
 mod select;
 mod spans;
 mod terms;
