@@ -11,7 +11,7 @@ use Rattle.growth_laws.specs.Gathering.{Gatherer, gathered_children}
 use Rattle.growing_tree.specs.Decoded.{decoded_children}
 
 -- one of them is another
-decoded-set : (ds : List (Node → Node)) (ns : List Node) (i : ℕ) (d : Node → Node) (n : Node) → slice_get ds i ≡ Some d → decoded_children ds (set ns i n) ≡ set (decoded_children ds ns) i (d n)
+pub decoded-set : (ds : List (Node → Node)) (ns : List Node) (i : ℕ) (d : Node → Node) (n : Node) → slice_get ds i ≡ Some d → decoded_children ds (set ns i n) ≡ set (decoded_children ds ns) i (d n)
 decoded-set [] ns zero d n e = none_some d e
 decoded-set [] ns (suc i) d n e = none_some d e
 decoded-set (c ∷ ds) [] zero d n e = refl
@@ -19,7 +19,7 @@ decoded-set (c ∷ ds) [] (suc i) d n e = refl
 decoded-set (c ∷ ds) (m ∷ ns) zero d n e = ap (λ (f : Node → Node). f n ∷ decoded_children ds ns) (some_same c d e)
 decoded-set (c ∷ ds) (m ∷ ns) (suc i) d n e = ap (λ xs. c m ∷ xs) (decoded-set ds ns i d n e)
 
-decoded-get : (ds : List (Node → Node)) (ns : List Node) (i : ℕ) (d : Node → Node) (n : Node) → slice_get ds i ≡ Some d → slice_get ns i ≡ Some n → slice_get (decoded_children ds ns) i ≡ Some (d n)
+pub decoded-get : (ds : List (Node → Node)) (ns : List Node) (i : ℕ) (d : Node → Node) (n : Node) → slice_get ds i ≡ Some d → slice_get ns i ≡ Some n → slice_get (decoded_children ds ns) i ≡ Some (d n)
 decoded-get [] ns zero d n e f = none_some d e
 decoded-get [] ns (suc i) d n e f = none_some d e
 decoded-get (c ∷ ds) [] zero d n e f = none_some n f

@@ -78,7 +78,7 @@ module _ (all : List PlacedRow) (a : Agg) where
   pub gatherer-level : gatherer_of all a ≡ gatherer_at all (record { name = (out-Agg a).name; kind = (out-Agg a).kind; children = map (gatherer_of all) (out-Agg a).children })
   gatherer-level = fold_agg-level (gatherer_at all) a
 
-  counted-out : (rows : List PlacedRow) (n : Node) (m : Node-F Node Bucket) → out-Node n ≡ m → counted all a rows n ≡ gathered_node all (map (gatherer_of all) (out-Agg a).children) (out-Agg a).kind rows m
+  pub counted-out : (rows : List PlacedRow) (n : Node) (m : Node-F Node Bucket) → out-Node n ≡ m → counted all a rows n ≡ gathered_node all (map (gatherer_of all) (out-Agg a).children) (out-Agg a).kind rows m
   counted-out rows n m e = ap (λ (g : Gatherer). g.count rows n) gatherer-level ∙ ap (gathered_node all (map (gatherer_of all) (out-Agg a).children) (out-Agg a).kind rows) e
 
   -- rows that are handed on are counted where they lie

@@ -21,6 +21,9 @@ pub mod Frequents
 pub mod Turns
 pub mod Rises
 pub mod Each
+pub mod Steady
+pub mod InSteps
+pub mod Nesting
 pub mod AllMetrics
 pub mod MeasuredBuckets
 pub mod Placements

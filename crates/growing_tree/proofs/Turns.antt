@@ -162,7 +162,7 @@ module _ (all : List PlacedRow) (gs : List Gatherer) (k : Kind) (h : IsTrue (is_
   node-steps rows more (Node-F.Number m) =
       ap Number (metric-append k rows more m) ∙ sym (ap (gathered_node all gs k more) (out-Number (gathered_metric k rows m)))
 
-metric-steps : (all : List PlacedRow) (a : Agg) → IsTrue (is_metric (out-Agg a).kind) → TakesInSteps (gatherer_of all a)
+pub metric-steps : (all : List PlacedRow) (a : Agg) → IsTrue (is_metric (out-Agg a).kind) → TakesInSteps (gatherer_of all a)
 metric-steps all a h rows more n = step (rows ++ more) n ∙ node-steps all gs k h rows more (out-Node n) ∙ sym (ap ((gatherer_of all a).gather more) (step rows n) ∙ step more _)
   where
     gs : List Gatherer

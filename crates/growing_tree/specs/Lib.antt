@@ -13,6 +13,7 @@ pub mod Grouped
 pub mod Gathered
 pub mod Placements
 pub mod GatheredEach
+pub mod Steady
 pub mod Finished
 pub mod Frequent
 pub mod Starting

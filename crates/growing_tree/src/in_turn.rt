@@ -5,15 +5,18 @@ ghost use Rattle.agg_model.specs.declared.aggregation.Agg.{out-Agg};
 ghost use Rattle.agg_evaluation.specs.Cost.{node_cost};
 ghost use Rattle.agg_evaluation.specs.Counted.{IsApart};
 ghost use Rattle.shard_columns.specs.Built.{IsShard};
+ghost use Rattle.growth_laws.specs.Gathering.{gathered};
 ghost use Rattle.growing_tree.specs.Decoded.{decoded};
 ghost use Rattle.growing_tree.specs.Gathered.{gatherers, rows_at, shown_level};
 ghost use Rattle.growing_tree.specs.GatheredEach.{AreRises, after_each, bytes_after, cost_after, counted_one, gathered_one, put_at_keys};
 ghost use Rattle.growing_tree.specs.Readiness.{IsReadyFor, is_keyed as is_keyed_kind, is_metric};
 ghost use Rattle.growing_tree.specs.Shown.{IsAlike};
+ghost use Rattle.growing_tree.specs.Steady.{IsSteady};
 ghost use Rattle.growing_tree.specs.Trees.{IsAligned};
 ghost use Rattle.growing_tree.specs.declared.ready.Ready.{out-Ready};
 
 use crate::at_codes::put_each_alone;
+use crate::beneath_roots::{are_simple, gather_beneath};
 use crate::gathering::{count, gather, put_row};
 use crate::kinds::{are_metrics, has_buckets, is_keyed};
 use crate::lone_rows::take_in_tree;
@@ -21,7 +24,7 @@ use crate::placing::put_block;
 use crate::ready::{Ready, ReadyKind};
 use crate::sums::sum;
 use crate::tree::{Level, Tree};
-use agg_model::Agg;
+use agg_model::{Agg, Kind};
 use shard_columns::Shard;
 use std::alloc::{AllocError, Global};
 
@@ -71,8 +74,8 @@ fn put_each(
     Ok(())
 }
 
-// The same in a tree.
-fn put_each_in_tree(
+/// The same in a tree. Above metrics alone it takes rows in steps as at once.
+pub(crate) fn put_each_in_tree(
     alloc: Global,
     agg: &Agg,
     ready: &Ready,
@@ -95,6 +98,7 @@ fn put_each_in_tree(
     ensures rises { OnOk result (AreRises
         (cost_after (gathered_one shard.now.rows agg.now) (rows_at shard.now rows.now) (decoded shard.now ready.now tree.old))
         (length rows.now) added.old.items added.new.items) }
+    ensures steady { IsTrue metrics → OnOk result (IsSteady (gathered shard.now.rows agg.now) (decoded shard.now ready.now tree.old)) }
 {
     if !has_buckets(&tree.level) {
         return Err(AllocError);
@@ -113,8 +117,8 @@ fn put_each_in_tree(
     Ok(())
 }
 
-// The values of more rows in the tree of a metric, one after another: it costs what it did after each.
-fn take_each(
+/// The values of more rows in the tree of a metric, one after another: it costs what it did after each.
+pub(crate) fn take_each(
     agg: &Agg,
     ready: &Ready,
     shard: &Shard,
@@ -199,7 +203,8 @@ fn count_in_turn(
 
 /// Puts rows that the aggregation is handed into its tree, one after another, each alone, and adds to the number of each by how
 /// many bytes the cost of the tree rose at it: there is one number for each row. Where the children of the aggregation are metrics,
-/// or it has none, a row takes no list and no call that calls itself.
+/// or it has none, a row takes no list and no call that calls itself. Where those of a nested aggregation are metrics, or have keys
+/// above metrics alone, the rows beneath all that it is handed take one list.
 ///
 /// Lists of codes, errors and time as in `gather`; more or fewer numbers than rows are answered as want of memory too. After an
 /// error nothing is said of the numbers either.
@@ -236,6 +241,13 @@ pub fn gather_each(
                 let metrics = are_metrics(&agg.children);
                 put_each_in_tree(alloc, agg, ready, shard, rows, metrics, spare, tree, added)?;
                 return Ok(());
+            }
+            if let Kind::Nested { context } = &agg.kind {
+                if *context != 0 && are_simple(&agg.children, &ready.children) {
+                    let path = *context - 1;
+                    gather_beneath(alloc, agg, ready, shard, path, rows, spare, tree, added)?;
+                    return Ok(());
+                }
             }
             gather_in_turn(alloc, agg, ready, shard, rows, spare, tree, added)?;
             Ok(())

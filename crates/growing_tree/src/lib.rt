@@ -6,6 +6,7 @@
 
 mod at_codes;
 mod beginning;
+mod beneath_roots;
 mod chosen;
 mod coded;
 mod finishing;
