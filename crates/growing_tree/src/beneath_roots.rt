@@ -25,6 +25,9 @@ use nested_agg::rows_beneath;
 use shard_columns::Shard;
 use std::alloc::{AllocError, Global};
 
+// So many rows at most go in together: while they do, each takes up to 28 bytes that no breaker counts.
+const MOST_TOGETHER: usize = 65_536;
+
 // Whether the tree of the aggregation takes rows in steps as at once: a metric does, and keys with metrics below.
 fn is_simple(agg: &Agg, ready: &Ready) -> bool
     ensures { result ≡ is_simple_agg agg.now ready.now }
@@ -48,6 +51,21 @@ pub(crate) fn are_simple(aggs: &List<Agg>, ready: &List<Ready>) -> bool
         }
     }
     true
+}
+
+/// Whether few rows lie beneath these, where they ascend: beneath all but the last are at most those among them. A wrong answer
+/// costs time or memory alone.
+pub(crate) fn are_few_beneath(shard: &Shard, path: u32, rows: &[u32]) -> bool
+    requires { All (λ n. n < length shard.now.rows) rows.now }
+{
+    match rows {
+        [] => true,
+        [last] => shard.children(*last, path).len() <= MOST_TOGETHER,
+        [first, .., last] => {
+            let among = last.saturating_sub(*first) as usize;
+            among.saturating_add(shard.children(*last, path).len()) <= MOST_TOGETHER
+        }
+    }
 }
 
 // More rows in such a tree, one after another.

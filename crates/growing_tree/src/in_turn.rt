@@ -16,7 +16,7 @@ ghost use Rattle.growing_tree.specs.Trees.{IsAligned};
 ghost use Rattle.growing_tree.specs.declared.ready.Ready.{out-Ready};
 
 use crate::at_codes::put_each_alone;
-use crate::beneath_roots::{are_simple, gather_beneath};
+use crate::beneath_roots::{are_few_beneath, are_simple, gather_beneath};
 use crate::gathering::{count, gather, put_row};
 use crate::kinds::{are_metrics, has_buckets, is_keyed};
 use crate::lone_rows::take_in_tree;
@@ -243,7 +243,10 @@ pub fn gather_each(
                 return Ok(());
             }
             if let Kind::Nested { context } = &agg.kind {
-                if *context != 0 && are_simple(&agg.children, &ready.children) {
+                if *context != 0
+                    && are_simple(&agg.children, &ready.children)
+                    && are_few_beneath(shard, *context - 1, rows)
+                {
                     let path = *context - 1;
                     gather_beneath(alloc, agg, ready, shard, path, rows, spare, tree, added)?;
                     return Ok(());
