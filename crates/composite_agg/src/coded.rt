@@ -184,8 +184,8 @@ fn told_at<T: HasKey>(
     }
 }
 
-/// The same as `find_spot`, with the key's code and those of the last items. Where the codes tell the spot it takes one comparison of keys or two, and else
-/// the binary search by keys.
+/// The same as `find_spot`, with the key's code and those of the last items. Where the codes tell the spot it takes one
+/// comparison of keys or two, and else the binary search by keys.
 pub fn find_spot_by<T: HasCode>(
     sources: &List<CompositeSource>,
     runs: &[Vec<T>],
