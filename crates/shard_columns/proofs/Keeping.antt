@@ -13,7 +13,7 @@ use Rattle.std.proofs.lemmas.Cmp.{nat_cmp_total}
 use Rattle.std.proofs.lemmas.List.{get_or_append_left}
 use Rattle.std.proofs.lemmas.Option.{same_Some}
 use Rattle.std.proofs.Math.Seq.{get_or-append_seam}
-use Rattle.shard_columns.specs.declared.field_words.Found.{Found}
+use Rattle.shard_columns.specs.declared.mapped_words.Found.{Found}
 use Rattle.shard_columns.specs.Numbered.{Entry, found_in, firsts_in, beginning_of, IsKept}
 use Rattle.shard_columns.specs.Values.{Words}
 use Rattle.shard_columns.proofs.Beginnings.{Puts, indexed-first}

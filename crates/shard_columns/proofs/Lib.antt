@@ -13,6 +13,7 @@ pub mod OneEach
 pub mod EachRoot
 pub mod Ascending
 pub mod Telling
+pub mod Bytewise
 pub mod Beginnings
 pub mod Keeping
 pub mod Arranging

@@ -24,7 +24,7 @@ use Rattle.shard_columns.specs.declared.values.Draft.{Draft}
 use Rattle.shard_columns.specs.declared.words.WordNumbers.{WordNumbers}
 use Rattle.shard_columns.specs.Values.{no_span, span_in, Words, Reader, cut, scalars, typed_len, is_typed, is_taken, draft_values, word_in, words_in, FieldsBelow, IsPart, WithinReach, IsShaped}
 use Rattle.shard_columns.specs.Lent.{wholes_in, flags_in}
-use Rattle.shard_columns.specs.Words.{number_of, Notes, of_field, Shows}
+use Rattle.shard_columns.specs.Words.{IsNumberOf, Notes, of_field, Shows}
 use Rattle.shard_columns.specs.Storing.{AddsTyped, AddsHeld}
 use Rattle.shard_columns.proofs.Searching.{find-one, find-not, find-none}
 
@@ -37,7 +37,7 @@ slice_range-seam xs ys n is = between_to_end (xs ++ ys) (length xs) n (omega (ar
 
 -- what has a number keeps it
 abbrev pub Keeps : WordNumbers → WordNumbers → Type 0
-Keeps old new = (f n : ℕ) (w : List ℕ) → number_of old f w ≡ Some n → number_of new f w ≡ Some n
+Keeps old new = (f n : ℕ) (w : List ℕ) → IsNumberOf old f w n → IsNumberOf new f w n
 
 pub Shows-before : (old new : WordNumbers) (show : Reader) → Keeps old new → Shows new show → Shows old show
 Shows-before old new show kept shows = record { word = λ f n w is. shows.word f n w (kept f n w is) }

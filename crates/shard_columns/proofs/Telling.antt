@@ -6,11 +6,11 @@ use Rattle.std.proofs.lemmas.List.{get_or-take, get_or_append_left, ext_get_or}
 use Rattle.shard_columns.specs.Numbered.{beginning_of}
 
 -- a number from its digits, the first of which weighs most
-abbrev horner : (ℕ → ℕ) → ℕ → ℕ
+abbrev pub horner : (ℕ → ℕ) → ℕ → ℕ
 horner f zero = f 0
 horner f (suc n) = horner f n * 256 + f (suc n)
 
-from-digits : (bytes : List ℕ) → from_be_bytes w128 bytes ≡ horner (λ i. get_or bytes i 0) 15
+pub from-digits : (bytes : List ℕ) → from_be_bytes w128 bytes ≡ horner (λ i. get_or bytes i 0) 15
 from-digits bytes = omega arith
 
 peel : (h k x y : ℕ) → x < 256 → y < 256 → h * 256 + x ≡ k * 256 + y → (h ≡ k) × (x ≡ y)
@@ -35,7 +35,7 @@ AreBytes bytes = (i : ℕ) → get_or bytes i 0 < 256
 bytes-tail : (x : ℕ) (xs : List ℕ) → AreBytes (x ∷ xs) → AreBytes xs
 bytes-tail x xs all = λ i. all (suc i)
 
-bytes-zeros : (n : ℕ) → AreBytes (replicate n 0)
+pub bytes-zeros : (n : ℕ) → AreBytes (replicate n 0)
 bytes-zeros zero = λ i. omega arith
 bytes-zeros (suc n) = zero-first (replicate n 0) (bytes-zeros n)
   where
@@ -43,7 +43,7 @@ bytes-zeros (suc n) = zero-first (replicate n 0) (bytes-zeros n)
     zero-first xs all zero = omega arith
     zero-first xs all (suc i) = all i
 
-bytes-padded : (n : ℕ) (xs ys : List ℕ) → AreBytes xs → AreBytes ys → AreBytes (take n (xs ++ ys))
+pub bytes-padded : (n : ℕ) (xs ys : List ℕ) → AreBytes xs → AreBytes ys → AreBytes (take n (xs ++ ys))
 bytes-padded zero xs ys all more i = omega arith
 bytes-padded (suc n) [] [] all more i = omega arith
 bytes-padded (suc n) [] (y ∷ ys) all more zero = more 0

@@ -20,7 +20,7 @@ use Rattle.shard_columns.specs.Ends.{each, root_ends}
 use Rattle.shard_columns.specs.Layout.{flat_rows, entries_of_laid, ids_of}
 use Rattle.shard_columns.specs.Stored.{AreStorable, AreDrafts, AreStored, AreColumns}
 use Rattle.shard_columns.specs.Values.{Words, found_values}
-use Rattle.shard_columns.specs.Words.{HasNone, Notes, row_words, AreDictionaries}
+use Rattle.shard_columns.specs.Words.{HasNoWords, Notes, row_words, AreDictionaries}
 
 -- The rows of these documents one after another, with their ends. They stay when further documents come behind them.
 pub record RootsLaid (laid : List Laid) (ends : List ℕ) (documents : List Document) : Type 0 where
@@ -31,7 +31,7 @@ pub record RootsLaid (laid : List Laid) (ends : List ℕ) (documents : List Docu
 -- the values of these rows, whose words have numbers
 pub record Holds (kinds : List FieldKind) (rows : List Laid) (numbers : WordNumbers) (drafts : Drafts) : Type 0 where
   pub none : WordNumbers
-  pub empty : HasNone none
+  pub empty : HasNoWords none
   pub sizes : length none.by_field.items ≡ length kinds
   pub notes : Notes none numbers (λ f. flat_map (row_words f) rows)
   pub values : AreDrafts kinds numbers rows drafts

@@ -1,176 +1,129 @@
 // The words of a field that are met in rows, each with its number.
-ghost use Rattle.std.specs.Prelude.{◌≡◌, ℕ, List, [], Some, IfOk, OnErr, IsTrue, unwrap_or, ◌↔◌, if◌then◌else◌};
-ghost use Rattle.std.specs.BTreeMap.{get, get_by_text, insert_entry, Updates, IsOrdered};
-ghost use Rattle.std.specs.Ordering.{nat_cmp};
+ghost use Rattle.std.specs.Prelude.{◌≡◌, ◌++◌, ◌∷◌, ℕ, List, IfOk, OnOk, length, Contains, ◌↔◌};
+ghost use Rattle.std.specs.Ordering.{nat_cmp, on, then_cmp};
 ghost use Rattle.std.specs.Cmp.Lexicographic.{slice_cmp};
-ghost use Rattle.std.specs.List.Sorted.{IsPermutation, IsStrictlySortedBy};
-ghost use Rattle.std.specs.Str.{bytes_eq};
-ghost use Rattle.shard_columns.specs.Numbered.{beginning_of, number_in, words_among, all_entries};
+ghost use Rattle.shard_columns.specs.Numbered.{HasNumber, HasNone, IsGiven, entry_of, all_entries, later_entries, IsBegun, AreBegun, AreSorted};
 
+use crate::mapped_words::{MappedWords, beginning_of};
 use packed_texts::PackedTexts;
 use std::alloc::{AllocError, Global};
-use std::collections::BTreeMap;
+use std::cmp::Ordering;
 use std::marker::Model;
 
-/// How many bytes of a word are read as one number.
-const BEGINNING: usize = 16;
+/// So many words of a field are looked up. Each look-up among more would wait for memory longer than a sort at the end takes.
+const MAPPED: usize = 4_096;
 
 /// A word with its number, lent.
 #[derive(Clone, Copy)]
 pub struct Numbered<'a> {
+    /// The first bytes as a number, which is compared sooner than the text.
+    pub beginning: u128,
     pub text: &'a str,
     pub number: u32,
 }
 
-/// The place of a word among the texts of its field, and its number.
-#[derive(Clone, Copy)]
-struct Found {
-    place: u32,
-    number: u32,
+impl<'a> Numbered<'a> {
+    /// This word with its number.
+    pub fn new(text: &'a str, number: u32) -> Self
+        ensures entry { entry_of result ≡ (text.now, number) }
+        ensures begun { IsBegun result }
+    {
+        Numbered {
+            beginning: beginning_of(text),
+            text,
+            number,
+        }
+    }
 }
 
-/// The words of a field, each with its number. Contracts see them as a list.
+/// The words of a field. Each number is that of one word; a word has one number as long as there are few, and later one for
+/// each time that it comes.
 #[derive(Drop)]
 pub struct FieldWords {
-    /// By its beginning the first word that began so: numbers are compared sooner than texts.
-    firsts: BTreeMap<u128, Found>,
-    /// The texts of those, in the order in which they came.
+    /// The words that came first, which are looked up.
+    mapped: MappedWords,
+    /// The texts of others, in the order in which they came.
     texts: PackedTexts,
-    /// The words whose beginning another one had. Their order is that of the bytes, so that no choice of words makes a look-up slow.
-    others: BTreeMap<String, u32>,
+    /// For each of those texts its number.
+    numbers: Vec<u32>,
 }
 
 impl Model for FieldWords {
-    ghost use Rattle.shard_columns.specs.Numbered.{Entries, first_entries, firsts_in, other_entries, IsKept};
-    ghost use Rattle.std.specs.Prelude.{◌++◌};
+    ghost use Rattle.std.specs.Prelude.{◌≡◌, length};
+    ghost use Rattle.shard_columns.specs.Numbered.{Known, later_entries};
 
-    ghost Value = { Entries };
+    ghost Value = { Known };
 
-    ghost view = { λ w. first_entries (firsts_in w.texts w.firsts.entries) ++ other_entries w.others.entries };
+    ghost view = { λ w. record { mapped = w.mapped; later = later_entries w.texts w.numbers.items } };
 
-    ghost invariant = { λ w. IsKept w.texts w.firsts.entries w.others.entries };
+    ghost invariant = { λ w. length w.texts ≡ length w.numbers.items };
 }
 
-/// The first bytes of a word as one number, where a shorter word is followed by zeros.
-fn beginning_of(word: &str) -> u128
-    ensures { result ≡ beginning_of word.now }
+/// The order of the bytes, which the beginnings tell where they differ.
+fn by_bytes(a: &Numbered, b: &Numbered) -> Ordering
+    ensures { result ≡ then_cmp (on (λ w. w.beginning) nat_cmp) (on (λ w. w.text.now) (slice_cmp nat_cmp)) a.now b.now }
 {
-    let bytes = word.as_bytes();
-    if let Some(first) = bytes.first_chunk::<BEGINNING>() {
-        return u128::from_be_bytes(*first);
+    a.beginning
+        .cmp(&b.beginning)
+        .then_with(|| a.text.cmp(b.text))
+}
+
+/// Puts texts with their numbers behind other words.
+fn lend_later<'a>(
+    texts: &'a PackedTexts,
+    numbers: &[u32],
+    words: &mut Vec<Numbered<'a>>,
+) -> Result<(), AllocError>
+    requires sizes { length texts.now ≡ length numbers.now }
+    requires begun { AreBegun words.old.items }
+    ensures added { OnOk result (all_entries words.new.items ≡ all_entries words.old.items ++ later_entries texts.now numbers.now) }
+    ensures begun { OnOk result (AreBegun words.new.items) }
+{
+    for (place, number) in numbers.iter().enumerate() {
+        words.push(Numbered::new(texts.get(place), *number))?;
     }
-    let mut padded = [0; BEGINNING];
-    padded[..bytes.len()].copy_from_slice(bytes);
-    u128::from_be_bytes(padded)
-}
-
-/// Whether two words that begin alike are the same. A short one is told by its length, with no look at its bytes.
-fn is_word(first: &str, word: &str) -> bool
-    requires { beginning_of first.now ≡ beginning_of word.now }
-    ensures { IsTrue result ↔ (first.now ≡ word.now) }
-{
-    let first = first.as_bytes();
-    let word = word.as_bytes();
-    first.len() == word.len() && (word.len() <= BEGINNING || first == word)
-}
-
-/// What stands at a beginning. Where nothing did, `new` is put there, in the same descent.
-fn first_at(
-    firsts: &mut BTreeMap<u128, Found>,
-    beginning: u128,
-    new: Found,
-) -> Result<Found, AllocError>
-    ensures found { IfOk result (λ f. f ≡ unwrap_or (get nat_cmp firsts.old beginning) new) }
-    ensures entries { IfOk result (λ f. firsts.new.entries ≡ insert_entry nat_cmp firsts.old.entries beginning f) }
-    ensures updates { IfOk result (λ f. Updates nat_cmp firsts.old firsts.new beginning (Some f)) }
-    ensures ordered { IsOrdered nat_cmp firsts.new }
-    ensures err { OnErr result (firsts.new.entries ≡ firsts.old.entries) }
-{
-    Ok(*firsts.entry(beginning)?.or_insert(new))
-}
-
-/// The number of a word; the next one where it had none. Only a new word is copied.
-fn number_among(
-    alloc: Global,
-    numbers: &mut BTreeMap<String, u32>,
-    word: &str,
-    next: u32,
-) -> Result<u32, AllocError>
-    ensures found { IfOk result (λ n. n ≡ unwrap_or (get_by_text numbers.old word.now) next) }
-    ensures after { IfOk result (λ n. (w : List ℕ) → get_by_text numbers.new w ≡ (if bytes_eq word.now w then Some n else get_by_text numbers.old w)) }
-    ensures err { OnErr result (numbers.new.entries ≡ numbers.old.entries) }
-{
-    if let Some(number) = numbers.get(word) {
-        return Ok(*number);
-    }
-    let word = String::from_str(alloc, word)?;
-    numbers.insert(word, next)?;
-    Ok(next)
+    Ok(())
 }
 
 impl FieldWords {
     /// No words yet.
     pub fn new(alloc: Global) -> Self
-        ensures { result ≡ [] }
+        ensures { HasNone result }
     {
         FieldWords {
-            firsts: BTreeMap::new(alloc),
+            mapped: MappedWords::new(alloc),
             texts: PackedTexts::new(alloc),
-            others: BTreeMap::new(alloc),
+            numbers: Vec::new(alloc),
         }
     }
 
-    /// The number of a word; the next one where it had none. Only a new word is copied. After want of memory for its text no
-    /// word is left.
+    /// A number of a word: one that it has, or the next one.
     pub fn number(&mut self, alloc: Global, word: &str, next: u32) -> Result<u32, AllocError>
-        ensures found { IfOk result (λ n. n ≡ unwrap_or (number_in self.old word.now) next) }
-        ensures after { IfOk result (λ n. (w : List ℕ) → number_in self.new w ≡ (if bytes_eq word.now w then Some n else number_in self.old w)) }
+        ensures { IfOk result (λ n. IsGiven self.old self.new word.now n next) }
     {
-        let Ok(place) = u32::try_from(self.texts.len()) else {
-            return Err(AllocError);
-        };
-        let new = Found {
-            place,
-            number: next,
-        };
-        let first = first_at(&mut self.firsts, beginning_of(word), new)?;
-        // The place behind all texts is that of a new word.
-        if first.place == place {
-            if self.texts.push(word).is_err() {
-                // What was put has no text.
-                self.firsts = BTreeMap::new(alloc);
-                self.others = BTreeMap::new(alloc);
-                return Err(AllocError);
-            }
-            return Ok(next);
+        if self.mapped.len() < MAPPED {
+            return self.mapped.number(alloc, word, next);
         }
-        if is_word(self.texts.get(first.place as usize), word) {
-            return Ok(first.number);
+        if let Some(number) = self.mapped.get(word) {
+            return Ok(number);
         }
-        number_among(alloc, &mut self.others, word, next)
+        self.numbers.reserve(1)?;
+        self.texts.push(word)?;
+        // There is room for it.
+        let _ = self.numbers.push(next);
+        Ok(next)
     }
 
-    /// The words, ascending by their bytes.
+    /// The words with each of their numbers, ascending by their bytes.
     pub fn sorted(&self, alloc: Global) -> Result<Vec<Numbered<'_>>, AllocError>
-        ensures same { IfOk result (λ sorted. IsPermutation self.now (all_entries sorted.items)) }
-        ensures strict { IfOk result (λ sorted. IsStrictlySortedBy (slice_cmp nat_cmp) (words_among (all_entries sorted.items))) }
+        ensures same { IfOk result (λ sorted. (w : List ℕ) (n : ℕ) → HasNumber self.now w n ↔ Contains (all_entries sorted.items) (w, n)) }
+        ensures ascending { IfOk result (λ sorted. AreSorted sorted.items) }
     {
-        let mut words = Vec::with_capacity(alloc, self.firsts.len() + self.others.len())?;
-        for found in self.firsts.values() {
-            let text = self.texts.get(found.place as usize);
-            words.push(Numbered {
-                text,
-                number: found.number,
-            })?;
-        }
-        for (text, number) in &self.others {
-            words.push(Numbered {
-                text: text.as_str(),
-                number: *number,
-            })?;
-        }
-        // Both parts ascend, so that this is one merge.
-        words.sort_by(|a, b| a.text.cmp(b.text))?;
+        let count = self.mapped.len().saturating_add(self.numbers.len());
+        let mut words = Vec::with_capacity(alloc, count)?;
+        self.mapped.lend(&mut words)?;
+        lend_later(&self.texts, self.numbers.as_slice(), &mut words)?;
+        words.sort_unstable_by(by_bytes);
         Ok(words)
     }
 }

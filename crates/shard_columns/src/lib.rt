@@ -10,6 +10,7 @@ mod field_words;
 mod held_rows;
 mod index;
 mod layout;
+mod mapped_words;
 mod search;
 mod shard;
 mod values;

@@ -1,15 +1,14 @@
 // The words of each field of a shard: distinct, and in ascending order.
-ghost use Rattle.std.specs.Prelude.{◌≡◌, ◌∷◌, ◌<◌, ◌≤◌, ◌+◌, ◌*◌, ◌^◌, ℕ, List as Items, [], Some, OnOk, IfOk, length, map, sum_by, slice_index_or, unwrap_or, if◌then◌else◌};
+ghost use Rattle.std.specs.Prelude.{◌≡◌, ◌≢◌, ◌∷◌, ◌<◌, ◌≤◌, ◌+◌, ◌*◌, ◌^◌, ℕ, List as Items, [], Some, None, OnOk, IfOk, IfSome, length, map, sum_by, slice_get, slice_index_or};
 ghost use Rattle.agg_evaluation.specs.Ceiling.{greatest_of};
-ghost use Rattle.shard_columns.specs.Numbered.{words_among};
-ghost use Rattle.shard_columns.specs.Words.{number_of, HasNone, IsNumbered, of_field, Notes, AreApart, AreRanked, SameWords, AreWords, ArePlaced};
+ghost use Rattle.shard_columns.specs.Words.{IsNumberOf, HasNoWords, IsNumbered, of_field, Notes, AreApart, AreRanked, AreWordsOf, AreWords, ArePlaced, IsPutLast};
 
 use crate::field_words::FieldWords;
 use agg_model::limits::{MAX_PATHS, WEIGHT_LIMIT};
 use packed_texts::PackedTexts;
 use std::alloc::{AllocError, Global};
 
-/// The words of each field that are met in rows, each with a number of its own, whatever its field.
+/// The words of each field that are met in rows, with their numbers: each number is that of one word, whatever its field.
 #[derive(Drop)]
 pub struct WordNumbers {
     pub by_field: Vec<FieldWords>,
@@ -21,7 +20,7 @@ impl WordNumbers {
     /// No words yet of any of so many fields.
     pub fn new(alloc: Global, fields: usize) -> Result<Self, AllocError>
         ensures sizes { IfOk result (λ numbers. length numbers.by_field.items ≡ fields) }
-        ensures empty { IfOk result (λ numbers. HasNone numbers) }
+        ensures empty { IfOk result (λ numbers. HasNoWords numbers) }
         ensures no_ranks { IfOk result (λ numbers. length numbers.ranks.items ≡ 0) }
         ensures sound { IfOk result (λ numbers. IsNumbered numbers) }
     {
@@ -35,13 +34,13 @@ impl WordNumbers {
         })
     }
 
-    /// The number of a word of a field, which is looked up once.
+    /// A number of a word of a field.
     pub fn number(&mut self, field: usize, word: &str) -> Result<u32, AllocError>
         requires in_range { field < length self.old.by_field.items }
         requires room { length self.old.ranks.items < 2 ^ 32 }
         requires sound { IsNumbered self.old }
         ensures notes { OnOk result (Notes self.old self.new (of_field field (word.now ∷ []))) }
-        ensures number { IfOk result (λ n. number_of self.new field word.now ≡ Some n) }
+        ensures number { IfOk result (λ n. IsNumberOf self.new field word.now n) }
         ensures few { OnOk result (length self.new.ranks.items ≤ length self.old.ranks.items + 1) }
     {
         let alloc = *self.ranks.allocator();
@@ -55,21 +54,46 @@ impl WordNumbers {
     }
 }
 
-/// The words of a field, ascending; the place of each is written at its number.
+/// The last place of these, where this word stands there.
+fn place_of_last(texts: &PackedTexts, word: &str) -> Option<usize>
+    ensures some { IfSome result (λ place. slice_get texts.now place ≡ Some word.now) }
+    ensures none { result ≡ None → (n : ℕ) → n + 1 ≡ length texts.now → slice_get texts.now n ≢ Some word.now }
+{
+    let last = texts.len().checked_sub(1)?;
+    if texts.get(last) == word {
+        Some(last)
+    } else {
+        None
+    }
+}
+
+/// The place of a word that is the last of these or comes behind them.
+fn place_of(texts: &mut PackedTexts, word: &str) -> Result<usize, AllocError>
+    ensures { IfOk result (λ place. IsPutLast texts.old texts.new word.now place) }
+{
+    if let Some(last) = place_of_last(texts, word) {
+        return Ok(last);
+    }
+    let end = texts.len();
+    texts.push(word)?;
+    Ok(end)
+}
+
+/// The words of a field, each once, ascending; the place of each is written at its numbers.
 fn dictionary(
     alloc: Global,
     words: FieldWords,
     ranks: &mut Vec<usize>,
 ) -> Result<PackedTexts, AllocError>
     requires { AreApart (length ranks.old.items) words }
-    ensures words { IfOk result (λ d. SameWords (words_among words) d) }
+    ensures words { IfOk result (λ d. AreWordsOf words d) }
     ensures ranked { IfOk result (λ d. AreRanked words d ranks.old.items ranks.new.items) }
 {
     let sorted = words.sorted(alloc)?;
     let mut texts = PackedTexts::new(alloc);
     for word in sorted {
-        ranks[word.number as usize] = texts.len();
-        texts.push(word.text)?;
+        let place = place_of(&mut texts, word.text)?;
+        ranks[word.number as usize] = place;
     }
     Ok(texts)
 }

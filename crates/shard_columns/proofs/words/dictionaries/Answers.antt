@@ -1,14 +1,14 @@
 use Rattle.std.proofs.Common.{◌≡◌, ◌+◌, ◌++◌, ◌∷◌, ℕ, List, [], length, length-append, get_or, sym, ◌∙◌, ap, subst, arith}
 use Rattle.std.proofs.lemmas.List.{append_assoc}
 use Rattle.std.proofs.Math.Seq.{get_or-append_seam}
-use Rattle.shard_columns.specs.Numbered.{Entries}
+use Rattle.shard_columns.specs.Numbered.{Known, none_known}
 use Rattle.shard_columns.specs.Values.{Words}
 use Rattle.shard_columns.proofs.Ranking.{AreMade, AreMade-none, AreMade-push, AreWords-made, apart-in}
 use Rattle.shard_columns.proofs.words.dictionaries.Goals as goal
 
 -- the words of this field
-this : (all yielded left rest : List Entries) (words : Entries) → all ≡ yielded ++ left → left ≡ words ∷ rest → words ≡ get_or all (length yielded) []
-this all yielded left rest words is next = sym (ap (λ (ws : List Entries). get_or ws (length yielded) []) (is ∙ ap (λ (ws : List Entries). yielded ++ ws) next) ∙ get_or-append_seam yielded words rest [])
+this : (all yielded left rest : List Known) (words : Known) → all ≡ yielded ++ left → left ≡ words ∷ rest → words ≡ get_or all (length yielded) none_known
+this all yielded left rest words is next = sym (ap (λ (ws : List Known). get_or ws (length yielded) none_known) (is ∙ ap (λ (ws : List Known). yielded ++ ws) next) ∙ get_or-append_seam yielded words rest none_known)
 
 pub loop-words-init : goal.loop-words-init
 loop-words-init c = record {
@@ -36,11 +36,11 @@ loop-words-preserved c =
           (subst (λ (ws : List Words). AreMade c.args.numbers (length yielded + 1) ws c.dictionary.new.ranks.items) (sym c.in_ok-push.ensures.items)
           (AreMade-push c.args.numbers (length yielded) c.loop-words.all.items c.loop-words.ranks.items c.dictionary.new.ranks.items words c.in_ok-dictionary.field-0 c.requires
           (this c.args.numbers.by_field.items yielded left rest words c.loop-words.invariant.rest c.in-Some.ensures.steps.0) c.loop-words.invariant.made one.words one.ranked));
-      rest = c.loop-words.invariant.rest ∙ (ap (λ (ws : List Entries). yielded ++ ws) c.in-Some.ensures.steps.0 ∙ sym (append_assoc yielded (words ∷ []) rest));
+      rest = c.loop-words.invariant.rest ∙ (ap (λ (ws : List Known). yielded ++ ws) c.in-Some.ensures.steps.0 ∙ sym (append_assoc yielded (words ∷ []) rest));
     }
 
 -- no field is left
-whole : (all yielded left : List Entries) → all ≡ yielded ++ left → length left ≡ 0 → length all ≡ length yielded
+whole : (all yielded left : List Known) → all ≡ yielded ++ left → length left ≡ 0 → length all ≡ length yielded
 whole all yielded left is none = ap length is ∙ omega (arith, length-append yielded left, none)
 
 pub returns : goal.returns

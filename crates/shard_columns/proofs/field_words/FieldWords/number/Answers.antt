@@ -1,203 +1,29 @@
-use Rattle.std.proofs.Common.{◌≡◌, ◌≢◌, refl, ◌++◌, ◌∷◌, ℕ, false, [], List, Option, Some, cond, unwrap_or, get_or, sym, ◌∙◌, ap, subst, arith}
-use Rattle.std.specs.Result.{OnOk, is_err}
-use Rattle.std.specs.declared.result.Result.{Result}
-use Rattle.std.specs.declared.result.Result.TheVariants.{Ok, Err}
-use Rattle.std.specs.BTreeMap.{get_by_text}
-use Rattle.std.specs.Str.{bytes_eq}
-use Rattle.std.proofs.lemmas.Result.{IfOk-weaker}
-use Rattle.shard_columns.specs.declared.field_words.Found.{Found}
-use Rattle.shard_columns.specs.Numbered.{Entries, number_in, beginning_of, firsts_in, found_in, first_entries, other_entries, IsKept}
+use Rattle.std.proofs.Common.{◌≡◌, ◌++◌, ◌∷◌, [], ℕ, Bool, true, List, if◌then◌else◌, ◌∙◌, ap, subst, arith}
+use Rattle.std.specs.Result.{is_ok, IfOk}
+use Rattle.shard_columns.specs.Numbered.{Known, Entries, later_entries, IsGiven}
 use Rattle.shard_columns.specs.Values.{Words}
-use Rattle.shard_columns.proofs.Beginnings.{begins-so, number-kept, found-first, found-other, indexed-either, after-other, found-none, after-first}
-use Rattle.shard_columns.proofs.Keeping.{Places, CameTo, came-to, met-low, met-first, same-entries, none-first, puts, kept-first}
-use Rattle.shard_columns.proofs.Searching.{read}
+use Rattle.shard_columns.proofs.Arranging.{later-push, given-later, given-if}
 use Rattle.shard_columns.proofs.field_words.FieldWords.number.Goals as goal
 
--- what is put is there, unless it failed
-added : {X E : Type 0} {P : Type 0} (r : Result X E) → OnOk r P → is_err r ≡ false → P
-added (Ok x) put fine = put
-added (Err e) put fine = absurd (cc fine)
+-- where there is room, it stands there
+pushed : (b : Bool) (old new before : List ℕ) (n : ℕ) → new ≡ (if b then old ++ n ∷ [] else old) → b ≡ true → old ≡ before → new ≡ before ++ n ∷ []
+pushed b old new before n is fits same = is ∙ (ap (λ (c : Bool). if c then old ++ n ∷ [] else old) fits ∙ ap (λ (xs : List ℕ). xs ++ n ∷ []) same)
 
-pub get-requires : goal.get-requires
-get-requires c =
+pub returns : goal.returns
+returns c =
+    let mapped : Entries = c.self.inside.mapped in
     let texts : Words = c.self.inside.texts in
-    let firsts = c.self.inside.firsts.entries in
-    let others = c.self.inside.others.entries in
-    let now = c.first_at.new.firsts.entries in
+    let numbers = c.self.inside.numbers.items in
     let word = c.args.word.now in
-    let first : Found = c.in_ok-first.first in
-    let new : Found = record { place = c.in-Ok.place; number = c.args.next } in
-    let kept = c.self.invariant in
-    let came : CameTo texts firsts now word first new =
-    came-to texts firsts now c.beginning_of.result word first new c.beginning_of.ensures c.in_ok-first.ensures.found c.in_ok-first.ensures.entries c.in_ok-first.ensures.updates.0 c.first_at.ensures.ordered (omega (arith, c.in-Ok.ensures, c.len.ensures)) in
-    met-low texts firsts now others word first new kept came c.if-first-place.false
-
-pub is_word-requires : goal.is_word-requires
-is_word-requires c =
-    let texts : Words = c.self.inside.texts in
-    let firsts = c.self.inside.firsts.entries in
-    let others = c.self.inside.others.entries in
-    let now = c.first_at.new.firsts.entries in
-    let word = c.args.word.now in
-    let first : Found = c.in_ok-first.first in
-    let new : Found = record { place = c.in-Ok.place; number = c.args.next } in
-    let kept = c.self.invariant in
-    let came : CameTo texts firsts now word first new =
-    came-to texts firsts now c.beginning_of.result word first new c.beginning_of.ensures c.in_ok-first.ensures.found c.in_ok-first.ensures.entries c.in_ok-first.ensures.updates.0 c.first_at.ensures.ordered (omega (arith, c.in-Ok.ensures, c.len.ensures)) in
-    let text : get_or texts first.place [] ≡ c.get.result.now = read texts first.place c.get.result.now [] c.get.ensures in
-    ap beginning_of (sym text) ∙ begins-so (firsts_in texts firsts) word (found_in texts first) kept.indexed.begun (met-first texts firsts now others word first new kept came c.if-first-place.false)
-
--- this word stands at its beginning
-here : (c : goal.Then-is_word) → number_in c.args.self.now c.args.word.now ≡ Some c.in_ok-first.first.number
-here c =
-    let texts : Words = c.self.inside.texts in
-    let firsts = c.self.inside.firsts.entries in
-    let others = c.self.inside.others.entries in
-    let now = c.first_at.new.firsts.entries in
-    let word = c.args.word.now in
-    let first : Found = c.in_ok-first.first in
-    let new : Found = record { place = c.in-Ok.place; number = c.args.next } in
-    let kept = c.self.invariant in
-    let came : CameTo texts firsts now word first new =
-    came-to texts firsts now c.beginning_of.result word first new c.beginning_of.ensures c.in_ok-first.ensures.found c.in_ok-first.ensures.entries c.in_ok-first.ensures.updates.0 c.first_at.ensures.ordered (omega (arith, c.in-Ok.ensures, c.len.ensures)) in
-    let text : get_or texts first.place [] ≡ c.get.result.now = read texts first.place c.get.result.now [] c.get.ensures in
-    ap (λ (es : Entries). number_in es word) (sym c.self.view_is)
-    ∙ found-first (firsts_in texts firsts) others word (found_in texts first) kept.indexed (met-first texts firsts now others word first new kept came c.if-first-place.false) (text ∙ c.is_word.ensures.0 c.if-is_word.true)
-
-pub returns-then-is_word-clause-found : goal.returns-then-is_word-clause-found
-returns-then-is_word-clause-found c = ap (λ (o : Option ℕ). unwrap_or o c.args.next) (sym (here c))
-
-pub invariant_of-self-then-is_word : goal.invariant_of-self-then-is_word
-invariant_of-self-then-is_word c =
-    let texts : Words = c.self.inside.texts in
-    let firsts = c.self.inside.firsts.entries in
-    let others = c.self.inside.others.entries in
-    let now = c.first_at.new.firsts.entries in
-    let word = c.args.word.now in
-    let first : Found = c.in_ok-first.first in
-    let new : Found = record { place = c.in-Ok.place; number = c.args.next } in
-    let kept = c.self.invariant in
-    let came : CameTo texts firsts now word first new =
-    came-to texts firsts now c.beginning_of.result word first new c.beginning_of.ensures c.in_ok-first.ensures.found c.in_ok-first.ensures.entries c.in_ok-first.ensures.updates.0 c.first_at.ensures.ordered (omega (arith, c.in-Ok.ensures, c.len.ensures)) in
-    subst (λ (fs : Places). IsKept texts fs others) (sym (same-entries texts firsts now others word first new kept came c.if-first-place.false)) kept
-
-pub returns-then-is_word-clause-after : goal.returns-then-is_word-clause-after
-returns-then-is_word-clause-after c = λ w.
-    let texts : Words = c.self.inside.texts in
-    let firsts = c.self.inside.firsts.entries in
-    let others = c.self.inside.others.entries in
-    let now = c.first_at.new.firsts.entries in
-    let word = c.args.word.now in
-    let first : Found = c.in_ok-first.first in
-    let new : Found = record { place = c.in-Ok.place; number = c.args.next } in
-    let kept = c.self.invariant in
-    let came : CameTo texts firsts now word first new =
-    came-to texts firsts now c.beginning_of.result word first new c.beginning_of.ensures c.in_ok-first.ensures.found c.in_ok-first.ensures.entries c.in_ok-first.ensures.updates.0 c.first_at.ensures.ordered (omega (arith, c.in-Ok.ensures, c.len.ensures)) in
-    ap (λ (fs : Places). number_in (first_entries (firsts_in texts fs) ++ other_entries others) w) (same-entries texts firsts now others word first new kept came c.if-first-place.false)
-    ∙ (ap (λ (es : Entries). number_in es w) c.self.view_is ∙ number-kept (number_in c.args.self.now) word first.number (here c) w)
-
--- another word stands there
-differs : (c : goal.After-number_among) → get_or c.self.inside.texts c.in_ok-first.first.place [] ≢ c.args.word.now
-differs c h = absurd (cc (sym (c.is_word.ensures.1 (sym (read c.self.inside.texts c.in_ok-first.first.place c.get.result.now [] c.get.ensures) ∙ h)) ∙ c.if-is_word.false))
-
-pub invariant_of-self-2 : goal.invariant_of-self-2
-invariant_of-self-2 c =
-    let texts : Words = c.self.inside.texts in
-    let firsts = c.self.inside.firsts.entries in
-    let others = c.self.inside.others.entries in
-    let now = c.first_at.new.firsts.entries in
-    let word = c.args.word.now in
-    let first : Found = c.in_ok-first.first in
-    let new : Found = record { place = c.in-Ok.place; number = c.args.next } in
-    let kept = c.self.invariant in
-    let came : CameTo texts firsts now word first new =
-    came-to texts firsts now c.beginning_of.result word first new c.beginning_of.ensures c.in_ok-first.ensures.found c.in_ok-first.ensures.entries c.in_ok-first.ensures.updates.0 c.first_at.ensures.ordered (omega (arith, c.in-Ok.ensures, c.len.ensures)) in
-    let among = c.number_among.new.numbers.entries in
-    let same : IsKept texts firsts among =
-    record {
-      within = kept.within;
-      indexed = indexed-either (firsts_in texts firsts) others among word (found_in texts first) c.number_among.result kept.indexed (met-first texts firsts now others word first new kept came c.if-first-place.false) (differs c) c.number_among.ensures.after c.number_among.ensures.err;
-    } in
-    subst (λ (fs : Places). IsKept texts fs among) (sym (same-entries texts firsts now others word first new kept came c.if-first-place.false)) same
-
-pub returns-clause-found : goal.returns-clause-found
-returns-clause-found c =
-    let texts : Words = c.self.inside.texts in
-    let firsts = c.self.inside.firsts.entries in
-    let others = c.self.inside.others.entries in
-    let now = c.first_at.new.firsts.entries in
-    let word = c.args.word.now in
-    let first : Found = c.in_ok-first.first in
-    let new : Found = record { place = c.in-Ok.place; number = c.args.next } in
-    let kept = c.self.invariant in
-    let came : CameTo texts firsts now word first new =
-    came-to texts firsts now c.beginning_of.result word first new c.beginning_of.ensures c.in_ok-first.ensures.found c.in_ok-first.ensures.entries c.in_ok-first.ensures.updates.0 c.first_at.ensures.ordered (omega (arith, c.in-Ok.ensures, c.len.ensures)) in
     let next = c.args.next in
-    let found : number_in c.args.self.now word ≡ get_by_text c.self.inside.others word =
-    ap (λ (es : Entries). number_in es word) (sym c.self.view_is) ∙ found-other (firsts_in texts firsts) others word (found_in texts first) kept.indexed (met-first texts firsts now others word first new kept came c.if-first-place.false) (differs c) in
-    IfOk-weaker c.number_among.result (λ n. n ≡ unwrap_or (get_by_text c.self.inside.others word) next) (λ n. n ≡ unwrap_or (number_in c.args.self.now word) next) (λ n is. is ∙ ap (λ (o : Option ℕ). unwrap_or o next) (sym found)) c.number_among.ensures.found
+    let put = pushed (is_ok c.push-2.result) c.reserve.new.self.items c.push-2.new.self.items numbers next c.push-2.ensures.items (c.push-2.ensures.succeeds (omega (arith, c.in_ok-reserve.ensures.ok))) c.reserve.ensures.items in
+    let later : later_entries c.push.new.self c.push-2.new.self.items ≡ later_entries texts numbers ++ (word, next) ∷ [] =
+    (λ i. later_entries (c.in_ok-push.ensures.added i) (put i)) ∙ later-push texts numbers word next c.self.invariant in
+    let given = given-later mapped (later_entries texts numbers) (later_entries c.push.new.self c.push-2.new.self.items) word next later in
+    subst (λ (known : Known). IsGiven known (record { mapped = mapped; later = later_entries c.push.new.self c.push-2.new.self.items }) word next next) c.self.view_is given
 
-pub returns-clause-after : goal.returns-clause-after
-returns-clause-after c =
-    let texts : Words = c.self.inside.texts in
-    let firsts = c.self.inside.firsts.entries in
-    let others = c.self.inside.others.entries in
-    let now = c.first_at.new.firsts.entries in
-    let word = c.args.word.now in
-    let first : Found = c.in_ok-first.first in
-    let new : Found = record { place = c.in-Ok.place; number = c.args.next } in
-    let kept = c.self.invariant in
-    let came : CameTo texts firsts now word first new =
-    came-to texts firsts now c.beginning_of.result word first new c.beginning_of.ensures c.in_ok-first.ensures.found c.in_ok-first.ensures.entries c.in_ok-first.ensures.updates.0 c.first_at.ensures.ordered (omega (arith, c.in-Ok.ensures, c.len.ensures)) in
-    let among = c.number_among.new.numbers.entries in
-    IfOk-weaker c.number_among.result (λ n. (w : List ℕ) → get_by_text c.number_among.new.numbers w ≡ cond (bytes_eq word w) (Some n) (get_by_text c.self.inside.others w)) _ (λ n after w.
-    ap (λ (fs : Places). number_in (first_entries (firsts_in texts fs) ++ other_entries among) w) (same-entries texts firsts now others word first new kept came c.if-first-place.false)
-    ∙ (after-other (firsts_in texts firsts) others among word (found_in texts first) n kept.indexed (met-first texts firsts now others word first new kept came c.if-first-place.false) (differs c) after w
-    ∙ ap (λ (es : Entries). cond (bytes_eq word w) (Some n) (number_in es w)) c.self.view_is)) c.number_among.ensures.after
-
--- no word begins so
-pub invariant_of-self-else-is_err : goal.invariant_of-self-else-is_err
-invariant_of-self-else-is_err c =
-    let texts : Words = c.self.inside.texts in
-    let firsts = c.self.inside.firsts.entries in
-    let others = c.self.inside.others.entries in
-    let now = c.first_at.new.firsts.entries in
-    let word = c.args.word.now in
-    let first : Found = c.in_ok-first.first in
-    let new : Found = record { place = c.in-Ok.place; number = c.args.next } in
-    let kept = c.self.invariant in
-    let came : CameTo texts firsts now word first new =
-    came-to texts firsts now c.beginning_of.result word first new c.beginning_of.ensures c.in_ok-first.ensures.found c.in_ok-first.ensures.entries c.in_ok-first.ensures.updates.0 c.first_at.ensures.ordered (omega (arith, c.in-Ok.ensures, c.len.ensures)) in
-    let push = added c.push.result c.push.ensures.added (sym c.is_err.ensures.value ∙ c.if-is_err.false) in
-    subst (λ (ts : Words). IsKept ts now others) (sym push) (kept-first texts firsts now others word first new kept came c.if-first-place.true)
-
-pub returns-then-first-place-clause-found : goal.returns-then-first-place-clause-found
-returns-then-first-place-clause-found c =
-    let texts : Words = c.self.inside.texts in
-    let firsts = c.self.inside.firsts.entries in
-    let others = c.self.inside.others.entries in
-    let now = c.first_at.new.firsts.entries in
-    let word = c.args.word.now in
-    let first : Found = c.in_ok-first.first in
-    let new : Found = record { place = c.in-Ok.place; number = c.args.next } in
-    let kept = c.self.invariant in
-    let came : CameTo texts firsts now word first new =
-    came-to texts firsts now c.beginning_of.result word first new c.beginning_of.ensures c.in_ok-first.ensures.found c.in_ok-first.ensures.entries c.in_ok-first.ensures.updates.0 c.first_at.ensures.ordered (omega (arith, c.in-Ok.ensures, c.len.ensures)) in
-    ap (λ (o : Option ℕ). unwrap_or o c.args.next) (sym (ap (λ (es : Entries). number_in es word) (sym c.self.view_is) ∙ found-none (firsts_in texts firsts) others word kept.indexed (none-first texts firsts now others word first new kept came c.if-first-place.true)))
-
-pub returns-then-first-place-clause-after : goal.returns-then-first-place-clause-after
-returns-then-first-place-clause-after c = λ w.
-    let texts : Words = c.self.inside.texts in
-    let firsts = c.self.inside.firsts.entries in
-    let others = c.self.inside.others.entries in
-    let now = c.first_at.new.firsts.entries in
-    let word = c.args.word.now in
-    let first : Found = c.in_ok-first.first in
-    let new : Found = record { place = c.in-Ok.place; number = c.args.next } in
-    let kept = c.self.invariant in
-    let came : CameTo texts firsts now word first new =
-    came-to texts firsts now c.beginning_of.result word first new c.beginning_of.ensures c.in_ok-first.ensures.found c.in_ok-first.ensures.entries c.in_ok-first.ensures.updates.0 c.first_at.ensures.ordered (omega (arith, c.in-Ok.ensures, c.len.ensures)) in
-    let push = added c.push.result c.push.ensures.added (sym c.is_err.ensures.value ∙ c.if-is_err.false) in
-    ap (λ (ts : Words). number_in (first_entries (firsts_in ts now) ++ other_entries others) w) push
-    ∙ (after-first (firsts_in texts firsts) (firsts_in (texts ++ word ∷ []) now) others word (beginning_of word) (word, c.args.next) refl refl kept.indexed (none-first texts firsts now others word first new kept came c.if-first-place.true) (puts texts firsts now others word first new kept came c.if-first-place.true) w
-    ∙ ap (λ (es : Entries). cond (bytes_eq word w) (Some c.args.next) (number_in es w)) c.self.view_is)
+pub returns-then-len-lt-MAPPED : goal.returns-then-len-lt-MAPPED
+returns-then-len-lt-MAPPED c =
+    let later : Entries = later_entries c.self.inside.texts c.self.inside.numbers.items in
+    let given = given-if c.self.inside.mapped c.number.new.self later c.args.word.now c.args.next c.number.result c.number.ensures.found c.number.ensures.after in
+    subst (λ (known : Known). IfOk c.number.result (λ n. IsGiven known (record { mapped = c.number.new.self; later = later }) c.args.word.now n c.args.next)) c.self.view_is given

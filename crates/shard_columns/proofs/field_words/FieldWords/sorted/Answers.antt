@@ -1,93 +1,23 @@
-use Rattle.std.proofs.Common.{rules, ◌≡◌, ◌++◌, ◌∷◌, [], ℕ, List, map, get_or, sym, ◌∙◌, ap, subst}
-use Rattle.std.specs.Prelude.{String, string_bytes}
-use Rattle.std.specs.declared.alloc.Global.{Global}
-use Rattle.std.specs.List.Sorted.{IsPermutation}
-use Rattle.std.specs.Map.{values_of}
-use Rattle.std.specs.Map.Iter.{deref, deref_pair}
-use Rattle.std.proofs.lemmas.List.{append-nil, append_assoc, map-append}
-use Rattle.std.proofs.lemmas.List.Sorted.{IsPermutation-map}
-use Rattle.std.proofs.lemmas.Map.Iter.{iter_end, rest_more, rest_so_far}
-use denote.Bor.{Bor}
-use Rattle.list_laws.proofs.Lists.{map-map}
-use Rattle.shard_columns.specs.declared.field_words.Found.{Found}
+use Rattle.std.proofs.Common.{rules, ◌≡◌, ◌++◌, List, sym, ◌∙◌, ap, subst}
 use Rattle.shard_columns.specs.declared.field_words.Numbered.{Numbered}
-use Rattle.shard_columns.specs.Numbered.{Entry, Entries, entry_of, all_entries, found_in, firsts_in, first_entries, other_entries}
-use Rattle.shard_columns.specs.Values.{Words}
-use Rattle.shard_columns.proofs.Arranging.{distinct-view, distinct-moved, rise-from_sort}
-use Rattle.shard_columns.proofs.Keeping.{Places, within-values}
-use Rattle.shard_columns.proofs.Searching.{read}
+use Rattle.shard_columns.specs.Numbered.{Known, Entries, all_entries, later_entries, AreBegun}
+use Rattle.shard_columns.proofs.Arranging.{AreSame, same-numbers, sorted-words}
 use Rattle.shard_columns.proofs.field_words.FieldWords.sorted.Goals as goal
 
-abbrev Others : Type 0
-Others = List (String Global × ℕ)
-
-abbrev Pair : Type 0
-Pair = Bor (String Global) × Bor ℕ
-
-pub loop-found-init : goal.loop-found-init
-loop-found-init c = ap all_entries c.in_ok-words.ensures.items
-
-pub get-text-requires : goal.get-text-requires
-get-text-requires c =
-    let firsts : Places = c.self.inside.firsts.entries in
-    let start : c.into_iter-found-iterator.result ≡ values_of firsts = c.into_iter-found-iterator.ensures.into_iter_gives ∙ c.values-found-items.ensures.rest in
-    let so_far = rest_so_far deref c.loop-found.yielded c.into_iter-found-iterator.result c.loop-found.found-iterator c.loop-found.yielded_by in
-    let next = rest_more deref c.loop-found.found-iterator c.next.new.self c.next.result c.in-Some.found c.in-Some.is c.next.ensures.steps in
-    within-values _ firsts (map deref c.loop-found.yielded) c.next.new.self c.in-Some.found.now c.self.invariant.within (sym start ∙ (so_far ∙ ap (λ (fs : List Found). map deref c.loop-found.yielded ++ fs) next))
-
-pub loop-found-preserved : goal.loop-found-preserved
-loop-found-preserved c =
-    let texts : Words = c.self.inside.texts in
-    let words : List Numbered = c.loop-found.words.items in
-    let found : Found = c.in-Some.found.now in
-    let text : get_or texts found.place [] ≡ c.get-text.result.now = read texts found.place c.get-text.result.now [] c.get-text.ensures in
-    let entry : (c.get-text.result.now, found.number) ≡ found_in texts found = (λ i. (sym text i, found.number)) in
-    ap all_entries c.in_ok-push.ensures.items
-    ∙ (map-append entry_of words _
-    ∙ ((λ i. c.loop-found.invariant i ++ entry i ∷ []) ∙ sym (map-append (λ (f : Bor Found). found_in texts f.now) c.loop-found.yielded (c.in-Some.found ∷ []))))
-
-entries-push : (front : Entries) (ys : List Pair) (y : Pair) (e : Entry) → e ≡ (string_bytes y.0.now, y.1.now) → (front ++ other_entries (map deref_pair ys)) ++ e ∷ [] ≡ front ++ other_entries (map deref_pair (ys ++ y ∷ []))
-entries-push front ys y e is = append_assoc front (other_entries (map deref_pair ys)) (e ∷ []) ∙ ap (λ (es : Entries). front ++ es) (behind ys)
-  where
-    behind : (ys : List Pair) → other_entries (map deref_pair ys) ++ e ∷ [] ≡ other_entries (map deref_pair (ys ++ y ∷ []))
-    behind [] = ap (λ (x : Entry). x ∷ []) is
-    behind (z ∷ zs) = ap (λ (es : Entries). (string_bytes z.0.now, z.1.now) ∷ es) (behind zs)
-
-pub loop-text-init : goal.loop-text-init
-loop-text-init c = sym (append-nil (all_entries c.loop-found.words.items))
-
-pub loop-text-preserved : goal.loop-text-preserved
-loop-text-preserved c =
-    let words : List Numbered = c.loop-text.words.items in
-    let entry : (c.as_str.result.now, c.in-Some-2.number.now) ≡ (string_bytes c.in-Some-2.text.now, c.in-Some-2.number.now) = (λ i. (c.as_str.ensures.value i, c.in-Some-2.number.now)) in
-    ap all_entries c.in_ok-push-2.ensures.items
-    ∙ (map-append entry_of words _
-    ∙ (ap (λ (es : Entries). es ++ (c.as_str.result.now, c.in-Some-2.number.now) ∷ []) c.loop-text.invariant
-    ∙ entries-push (all_entries c.loop-found.words.items) c.loop-text.yielded (c.in-Some-2.text, c.in-Some-2.number) (c.as_str.result.now, c.in-Some-2.number.now) entry))
-
--- all words, before they are sorted
-all : (c : goal.In_ok-sort_by) → all_entries c.loop-text.words.items ≡ first_entries (firsts_in c.self.inside.texts c.self.inside.firsts.entries) ++ other_entries c.self.inside.others.entries
-all c =
-    let texts : Words = c.self.inside.texts in
-    let firsts : Places = c.self.inside.firsts.entries in
-    let others : Others = c.self.inside.others.entries in
-    let start : c.into_iter-found-iterator.result ≡ values_of firsts = c.into_iter-found-iterator.ensures.into_iter_gives ∙ c.values-found-items.ensures.rest in
-    let front = iter_end deref (values_of firsts) c.loop-found.yielded c.into_iter-found-iterator.result c.loop-found.found-iterator c.next.new.self c.next.result start c.loop-found.yielded_by c.in-None.is c.next.ensures.steps in
-    let back = iter_end deref_pair others c.loop-text.yielded c.into_iter-text-iterator.result c.loop-text.text-iterator c.next-in-loop-text.new.self c.next-in-loop-text.result c.into_iter-text-iterator.ensures.into_iter_gives.0 c.loop-text.yielded_by c.in-None-2.is c.next-in-loop-text.ensures.steps in
-    let first_words : all_entries c.loop-found.words.items ≡ first_entries (firsts_in texts firsts) =
-    c.loop-found.invariant
-    ∙ (sym (map-map (found_in texts) deref c.loop-found.yielded)
-    ∙ (ap (map (found_in texts)) front.0 ∙ (map-map (found_in texts) (λ (e : ℕ × Found). e.1) firsts ∙ sym (map-map (λ (e : ℕ × Entry). e.1) (λ (e : ℕ × Found). (e.0, found_in texts e.1)) firsts)))) in
-    c.loop-text.invariant ∙ (λ i. first_words i ++ other_entries (back.0 i))
-
-same : (c : goal.In_ok-sort_by) → IsPermutation (first_entries (firsts_in c.self.inside.texts c.self.inside.firsts.entries) ++ other_entries c.self.inside.others.entries) (all_entries c.sort_by.new.self.items)
-same c = subst (λ (es : Entries). IsPermutation es (all_entries c.sort_by.new.self.items)) (all c) (IsPermutation-map entry_of c.loop-text.words.items c.sort_by.new.self.items c.in_ok-sort_by.ensures.permutation)
+pub lend-requires : goal.lend-requires
+lend-requires c = record { begun = subst AreBegun (sym c.in_ok-words.ensures.items) tt }
 
 pub returns-clause-same : goal.returns-clause-same
-returns-clause-same c = subst (λ (es : Entries). IsPermutation es (all_entries c.sort_by.new.self.items)) c.self.view_is (same c)
+returns-clause-same c =
+    let mapped : Entries = c.self.inside.mapped in
+    let later : Entries = later_entries c.self.inside.texts c.self.inside.numbers.items in
+    let before : List Numbered = c.lend_later.new.words.items in
+    let is : all_entries before ≡ mapped ++ later =
+    c.in_ok-lend_later.ensures.added
+    ∙ (λ i. (c.in_ok-lend.ensures.added ∙ ap (λ (ws : List Numbered). all_entries ws ++ mapped) c.in_ok-words.ensures.items) i ++ later_entries c.self.inside.texts (c.as_slice.ensures.value i)) in
+    let told = same-numbers mapped later before c.sort_unstable_by.new.self.items is c.len.ensures.distinct c.sort_unstable_by.ensures.permutation in
+    subst (λ (known : Known). AreSame known (all_entries c.sort_unstable_by.new.self.items)) c.self.view_is told
 
-pub returns-clause-strict : goal.returns-clause-strict
-returns-clause-strict c =
-    let firsts = firsts_in c.self.inside.texts c.self.inside.firsts.entries in
-    let distinct = distinct-view firsts c.self.inside.others.entries c.self.invariant.indexed c.len-2.ensures.ordered in
-    rise-from_sort c.sort_by.new.self.items c.in_ok-sort_by.ensures.sorted (λ a r f k. search rules) (distinct-moved (first_entries firsts ++ other_entries c.self.inside.others.entries) c.sort_by.new.self.items (same c) distinct)
+pub returns-clause-ascending : goal.returns-clause-ascending
+returns-clause-ascending c =
+    sorted-words c.lend_later.new.words.items c.sort_unstable_by.new.self.items c.in_ok-lend_later.ensures.begun c.sort_unstable_by.ensures.permutation c.sort_unstable_by.ensures.sorted (λ a r f k. search rules)

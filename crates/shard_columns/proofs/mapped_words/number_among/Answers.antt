@@ -3,7 +3,7 @@ use Rattle.std.specs.Prelude.{string_bytes}
 use Rattle.std.specs.BTreeMap.{get_by_text}
 use Rattle.std.specs.Str.{bytes_eq}
 use Rattle.std.proofs.lemmas.Map.Text.{btree_map_updates_text}
-use Rattle.shard_columns.proofs.field_words.number_among.Goals as goal
+use Rattle.shard_columns.proofs.mapped_words.number_among.Goals as goal
 
 pub returns-clause-after : goal.returns-clause-after
 returns-clause-after c = λ w.

@@ -1,7 +1,7 @@
 use Rattle.std.proofs.Common.{◌≡◌, length, ap, sym, ◌∙◌, arith, ◌≤◌}
 use Rattle.std.proofs.lemmas.Bool.Decides.{nat_tests}
 use Rattle.shard_columns.proofs.Telling.{AreBytes, told}
-use Rattle.shard_columns.proofs.field_words.is_word.Goals as goal
+use Rattle.shard_columns.proofs.mapped_words.is_word.Goals as goal
 
 pub returns-then-word-le-BEGINNING : goal.returns-then-word-le-BEGINNING
 returns-then-word-le-BEGINNING c =

@@ -1,7 +1,7 @@
 use Rattle.std.proofs.Common.{◌≡◌, ℕ, List, ◌++◌, ◌<◌, length, drop, take, replicate, ◌∙◌, ap, arith}
 use Rattle.std.specs.Int.{w128, from_be_bytes}
 use Rattle.shard_columns.proofs.Beginnings.{beginning-long, beginning-short}
-use Rattle.shard_columns.proofs.field_words.beginning_of.Goals as goal
+use Rattle.shard_columns.proofs.mapped_words.beginning_of.Goals as goal
 
 pub returns-in-Some : goal.returns-in-Some
 returns-in-Some c =
