@@ -221,10 +221,6 @@ pub all-push : {X : Type 0} (P : X → Type 0) (xs : List X) (x : X) → AllByRe
 all-push P [] x all here = (here, tt)
 all-push P (y ∷ ys) x all here = (all.0, all-push P ys x all.1 here)
 
-pub all-seam : {X : Type 0} (P : X → Type 0) (xs ys : List X) (x : X) → AllByRecursion P (xs ++ x ∷ ys) → P x
-all-seam P [] ys x all = all.0
-all-seam P (z ∷ zs) ys x all = all-seam P zs ys x all.1
-
 all-moved : {X : Type 0} (P : X → Type 0) (xs ys : List X) → IsPermutation xs ys → AllByRecursion P xs → AllByRecursion P ys
 all-moved P xs ys moved all = all-from P ys (λ y has. all-has P xs y all (Contains-permutation ys xs y (IsPermutation-sym xs ys moved) has))
 

@@ -43,6 +43,7 @@ beginning_of word = from_be_bytes w128 (take 16 (word ++ replicate 16 0))
 abbrev pub IsBegun : Numbered → Type 0
 IsBegun word = (word.beginning ≡ beginning_of word.text.now) × ((i : ℕ) → slice_index_or word.text.now i 0 < 256)
 
+-- each of these words does
 abbrev pub AreBegun : List Numbered → Type 0
 AreBegun words = AllByRecursion IsBegun words
 
