@@ -1,27 +1,25 @@
 -- Columns that are finished, one after another.
-use Rattle.std.proofs.Common.{Some, ◌≡◌, refl, zero, suc, ℕ, ◌+◌, ◌<◌, List, [], ◌∷◌, ◌++◌, map, length, get_or, set, take, sym, ◌∙◌, ap, subst, arith, length-append, None, Option, eqb, find, inl, inr}
+use Rattle.std.proofs.Common.{Some, ◌≡◌, refl, zero, suc, ℕ, ◌+◌, ◌<◌, List, [], ◌∷◌, ◌++◌, map, length, get_or, take, sym, ◌∙◌, ap, subst, arith, length-append, None, eqb, find, inl, inr}
 use Rattle.std.specs.Prelude.{slice_get}
-use Rattle.std.specs.Option.{option_map_or}
 use Rattle.std.specs.List.Sorted.{IsStrictlyIncreasing}
-use Rattle.std.proofs.lemmas.List.{length-take, get_or-take, get_or-set_same, get_or-set_other}
+use Rattle.std.proofs.lemmas.List.{length-take, get_or-take}
 use Rattle.std.proofs.lemmas.Option.{slice_get_within}
 use Rattle.agg_model.specs.declared.row.Scalar.{Scalar}
 use Rattle.shard_columns.specs.declared.values.Typed.{Typed}
-use Rattle.shard_columns.specs.declared.values.Span.{Span}
 use Rattle.shard_columns.specs.declared.values.Held.{Held}
 use Rattle.shard_columns.specs.declared.values.Draft.{Draft}
 use Rattle.shard_columns.specs.declared.homes.Homes.{Homes}
 use Rattle.shard_columns.specs.declared.columns.Spans.{Spans}
 use Rattle.shard_columns.specs.declared.columns.Column.{Column}
-use Rattle.shard_columns.specs.Values.{no_span, span_in, span_of, cut, scalars, typed_len, IsPart, IsShaped, WithinReach, AreRankedAll}
+use Rattle.shard_columns.specs.Values.{span_in, span_of, cut, scalars, typed_len, IsPart, IsShaped, WithinReach, AreRankedAll}
 use Rattle.shard_columns.specs.Homes.{home_count, home_of, AreHomes}
 use Rattle.shard_columns.specs.Columnar.{IsFinished, AreFinished, Rises, StandFor}
 use Rattle.shard_columns.proofs.Starting.{alike-part, alike-cut, AreStarts-row}
 use Rattle.shard_columns.specs.Starts.{AreStarts}
 use Rattle.shard_columns.proofs.Laying.{take-next}
 use Rattle.shard_columns.proofs.Searching.{find-none, rises-by}
-use Rattle.shard_columns.proofs.Storing.{find-other, find-last, span-part, get_or-any}
-use Rattle.shard_columns.proofs.Drafting.{slice_get-last, same-or-other}
+use Rattle.shard_columns.proofs.Storing.{span-part}
+use Rattle.shard_columns.proofs.Drafting.{slice_get-last}
 
 -- no entry of a row stands before it
 pub find-before : (hs : List Held) (k : ℕ) (h : Held) → IsStrictlyIncreasing (map (λ h. h.row) hs) → k < length hs → h ≡ get_or hs k h → find (λ (x : Held). eqb x.row h.row) (take k hs) ≡ None

@@ -1,6 +1,6 @@
 -- The starts of ranks, one after another.
 use Rattle.std.proofs.Common.{◌≡◌, ◌≢◌, refl, ℕ, ◌+◌, ◌-◌, ◌<◌, ◌≤◌, Bool, true, false, cond, eqb, T, List, [], ◌∷◌, ◌++◌, length, length-append, get_or, take, drop, find, sym, ◌∙◌, ap, subst, arith, inl, inr, Option, Some, None}
-use Rattle.std.specs.Prelude.{nat_lt, ◌⊎◌}
+use Rattle.std.specs.Prelude.{nat_lt}
 use Rattle.std.specs.Option.{option_map_or}
 use Rattle.std.proofs.lemmas.Bool.{cases_lt}
 use Rattle.std.proofs.lemmas.Bool.Decides.{nat_tests}
@@ -12,7 +12,7 @@ use Rattle.shard_columns.specs.declared.values.Held.{Held}
 use Rattle.shard_columns.specs.declared.values.Span.{Span}
 use Rattle.shard_columns.specs.Homes.{home_count, home_of, rank_at, rank_in, AreHomes}
 use Rattle.shard_columns.specs.Ones.{one_span, one_each}
-use Rattle.shard_columns.specs.Values.{no_span, cut, span_in, span_among, span_between, AreAlike, IsPart, WithinReach}
+use Rattle.shard_columns.specs.Values.{no_span, cut, span_in, span_among, span_between, AreAlike, IsPart}
 use Rattle.shard_columns.specs.Starts.{span_by_rank, AreStarts, AreOnes, HaveStarts}
 use Rattle.shard_columns.specs.Columnar.{StandFor}
 use Rattle.shard_columns.specs.declared.homes.Homes.TheVariants as homes

@@ -24,7 +24,8 @@ pub record AreStarts (homes : Homes) (context size : ℕ) (held : List Held) (en
 
 -- whatever rows the old starts are of, the new ones are of them too
 abbrev pub KeepStarts : List ℕ → List ℕ → ℕ → Type 0
-KeepStarts old new end = (homes : Homes) (context size : ℕ) (held : List Held) → AreStarts homes context size held end old → AreStarts homes context size held end new
+KeepStarts old new end =
+    (homes : Homes) (context size : ℕ) (held : List Held) → AreStarts homes context size held end old → AreStarts homes context size held end new
 
 -- so many ranks have one value each, at its place
 pub record AreOnes (starts : List ℕ) (count : ℕ) : Type 0 where

@@ -75,7 +75,8 @@ span_among count rank = if nat_lt rank count then one_span rank else no_span
 
 -- where the values of a rank are, given where those of each rank start, and at last where all end
 abbrev pub span_between : List ℕ → ℕ → Span
-span_between starts rank = if nat_lt (rank + 1) (length starts) then record { start = slice_index_or starts rank 0; end = slice_index_or starts (rank + 1) 0 } else no_span
+span_between starts rank =
+    if nat_lt (rank + 1) (length starts) then record { start = slice_index_or starts rank 0; end = slice_index_or starts (rank + 1) 0 } else no_span
 
 -- where the values of a row are
 abbrev pub span_in : List Held → ℕ → Span

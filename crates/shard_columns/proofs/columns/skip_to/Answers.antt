@@ -1,4 +1,4 @@
-use Rattle.std.proofs.Common.{ℕ, List, sym, subst}
+use Rattle.std.proofs.Common.{sym, subst}
 use Rattle.shard_columns.specs.Starts.{AreStarts}
 use Rattle.shard_columns.proofs.Starting.{AreStarts-skip}
 use Rattle.shard_columns.proofs.columns.skip_to.Goals as goal

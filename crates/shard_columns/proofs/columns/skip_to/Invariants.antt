@@ -1,4 +1,4 @@
-use Rattle.std.proofs.Common.{ℕ, ◌+◌, ◌-◌, length}
+use Rattle.std.proofs.Common.{◌+◌, ◌-◌, length}
 use Rattle.shard_columns.specs.Starts.{KeepStarts}
 use Rattle.shard_columns.proofs.columns.skip_to.Given as goal
 

@@ -1,8 +1,7 @@
-use Rattle.std.proofs.Common.{◌≡◌, ◌+◌, ◌<◌, ℕ, List, take, length, get_or, sym, ◌∙◌, subst, arith, rules}
+use Rattle.std.proofs.Common.{◌≡◌, ◌+◌, ◌<◌, take, length, get_or, sym, ◌∙◌, subst, arith}
 use Rattle.shard_columns.specs.Homes.{home_of}
 use Rattle.shard_columns.specs.Values.{no_span}
 use Rattle.shard_columns.specs.Starts.{AreStarts}
-use Rattle.shard_columns.specs.declared.homes.Home.{Home}
 use Rattle.shard_columns.specs.declared.values.Held.{Held}
 use Rattle.shard_columns.proofs.Storing.{get_or-any}
 use Rattle.shard_columns.proofs.Finishing.{starts-next}
