@@ -30,6 +30,8 @@ use Rattle.shard_columns.specs.declared.values.Held.{Held}
 use Rattle.shard_columns.specs.declared.values.Draft.{Draft}
 use Rattle.shard_columns.specs.declared.values.Drafts.{Drafts}
 use Rattle.shard_columns.specs.declared.columns.Column.{Column}
+use Rattle.shard_columns.specs.declared.homes.Homes.{Homes}
+use Rattle.shard_columns.specs.Homes.{home_count}
 use Rattle.shard_columns.specs.declared.words.WordNumbers.{WordNumbers}
 use Rattle.shard_columns.specs.Columnar.{AreFinished}
 use Rattle.shard_columns.specs.Layout.{values_of_laid}
@@ -156,37 +158,37 @@ map-range {X} {Y} g h m (y ∷ ys) same =
     let rest = map-range g h (m + 1) ys (λ n z at. ap g (let e : (m + 1) + n ≡ m + suc n = omega arith in e) ∙ same (suc n) z at) in
     (λ i. first i ∷ rest i)
 
-held-finished : (ranks : List ℕ) (words : List Words) (drafts : List Draft) (columns : List Column) (f n : ℕ) (c : Option Column) (d : Option Draft) → AreFinished ranks drafts columns → slice_get columns f ≡ c → slice_get drafts f ≡ d →
-    option_map_or (λ c. column_values (by_words words f) c n) c [] ≡ option_map_or (λ d. draft_values (λ p. by_words words f (ranked ranks p)) d n) d []
-held-finished ranks words drafts columns f n None None are c_is d_is = refl
-held-finished ranks words drafts columns f n None (Some d) are c_is d_is =
+held-finished : (homes : Homes) (ranks : List ℕ) (words : List Words) (drafts : List Draft) (columns : List Column) (f n : ℕ) (c : Option Column) (d : Option Draft) → AreFinished homes ranks drafts columns → n < home_count homes → slice_get columns f ≡ c → slice_get drafts f ≡ d →
+    option_map_or (λ c. column_values homes (by_words words f) c n) c [] ≡ option_map_or (λ d. draft_values (λ p. by_words words f (ranked ranks p)) d n) d []
+held-finished homes ranks words drafts columns f n None None are inside c_is d_is = refl
+held-finished homes ranks words drafts columns f n None (Some d) are inside c_is d_is =
     let low = slice_get_within drafts f d d_is in let size = are.sizes in absurd (cc (sym c_is ∙ slice_get-get_or columns f (absurd-column columns low size) (omega (arith, low, size))))
   where
     absurd-column : (columns : List Column) → f < length drafts → length columns ≡ length drafts → Column
     absurd-column [] low size = absurd (omega (arith, low, size))
     absurd-column (c ∷ cs) low size = c
-held-finished ranks words drafts columns f n (Some c) None are c_is d_is =
+held-finished homes ranks words drafts columns f n (Some c) None are inside c_is d_is =
     let low = slice_get_within columns f c c_is in let size = are.sizes in absurd (cc (sym d_is ∙ slice_get-get_or drafts f (absurd-draft drafts low size) (omega (arith, low, size))))
   where
     absurd-draft : (drafts : List Draft) → f < length columns → length columns ≡ length drafts → Draft
     absurd-draft [] low size = absurd (omega (arith, low, size))
     absurd-draft (d ∷ ds) low size = d
-held-finished ranks words drafts columns f n (Some c) (Some d) are c_is d_is = (are.each f d c d_is c_is).values (by_words words f) n
+held-finished homes ranks words drafts columns f n (Some c) (Some d) are inside c_is d_is = (are.each f d c d_is c_is).values (by_words words f) n inside
 
-pub AreStored-made : (kinds : List FieldKind) (numbers : WordNumbers) (rows : List Laid) (drafts : Drafts) (ranks : List ℕ) (words : List Words) (columns : List Column) → AreStorable kinds rows → AreDrafts kinds numbers rows drafts → AreFinished ranks drafts.columns.items columns →
-    Shows numbers (λ f p. by_words words f (ranked ranks p)) → ((n : ℕ) (l : Laid) → slice_get rows n ≡ Some l → FieldsBelow (length kinds) l.values.now) → AreStored rows words columns
-AreStored-made kinds numbers rows drafts ranks words columns storable are finished shows below =
+pub AreStored-made : (homes : Homes) (kinds : List FieldKind) (numbers : WordNumbers) (rows : List Laid) (drafts : Drafts) (ranks : List ℕ) (words : List Words) (columns : List Column) → AreStorable kinds rows → AreDrafts kinds numbers rows drafts → AreFinished homes ranks drafts.columns.items columns → length rows ≡ home_count homes →
+    Shows numbers (λ f p. by_words words f (ranked ranks p)) → ((n : ℕ) (l : Laid) → slice_get rows n ≡ Some l → FieldsBelow (length kinds) l.values.now) → AreStored homes rows words columns
+AreStored-made homes kinds numbers rows drafts ranks words columns storable are finished counted shows below =
     let size : length columns ≡ length kinds = finished.sizes ∙ are.sizes in
-    map-range (λ n. present_from (λ f. held_values (by_words words) columns f n) 0 (length columns)) (λ (l : Laid). l.values.now) 0 rows (λ n l at.
+    map-range (λ n. present_from (λ f. held_values homes (by_words words) columns f n) 0 (length columns)) (λ (l : Laid). l.values.now) 0 rows (λ n l at.
     let n_is : 0 + n ≡ n = omega arith in
-    ap (λ (m : ℕ). present_from (λ f. held_values (by_words words) columns f m) 0 (length columns)) n_is
-    ∙ (ap (present_from (λ f. held_values (by_words words) columns f n) 0) size
-    ∙ rebuilt kinds l.values.now 0 (length kinds) (λ f. held_values (by_words words) columns f n) (storable.sound n l at) (subst (λ (m : ℕ). FieldsBelow m l.values.now) (let e : length kinds ≡ 0 + length kinds = omega arith in e) (below n l at)) (λ f up low.
-    held-finished ranks words drafts.columns.items columns f n (slice_get columns f) (slice_get drafts.columns.items f) finished refl refl
+    ap (λ (m : ℕ). present_from (λ f. held_values homes (by_words words) columns f m) 0 (length columns)) n_is
+    ∙ (ap (present_from (λ f. held_values homes (by_words words) columns f n) 0) size
+    ∙ rebuilt kinds l.values.now 0 (length kinds) (λ f. held_values homes (by_words words) columns f n) (storable.sound n l at) (subst (λ (m : ℕ). FieldsBelow m l.values.now) (let e : length kinds ≡ 0 + length kinds = omega arith in e) (below n l at)) (λ f up low.
+    held-finished homes ranks words drafts.columns.items columns f n (slice_get columns f) (slice_get drafts.columns.items f) finished (let there = slice_get_within rows n l at in omega (arith, there, counted)) refl refl
     ∙ are.values (λ f p. by_words words f (ranked ranks p)) shows f n l (omega (arith, low)) at)))
 
-pub AreColumns-made : (kinds : List FieldKind) (numbers : WordNumbers) (rows : List Laid) (drafts : Drafts) (ranks : List ℕ) (columns : List Column) → AreDrafts kinds numbers rows drafts → AreFinished ranks drafts.columns.items columns → AreColumns kinds columns
-AreColumns-made kinds numbers rows drafts ranks columns are finished =
+pub AreColumns-made : (homes : Homes) (kinds : List FieldKind) (numbers : WordNumbers) (rows : List Laid) (drafts : Drafts) (ranks : List ℕ) (columns : List Column) → AreDrafts kinds numbers rows drafts → AreFinished homes ranks drafts.columns.items columns → AreColumns homes kinds columns
+AreColumns-made homes kinds numbers rows drafts ranks columns are finished =
     let sizes = finished.sizes in
     record {
       sizes = sizes ∙ are.sizes;

@@ -4,6 +4,8 @@ pub mod Laying
 pub mod Depths
 pub mod Storing
 pub mod Drafting
+pub mod Homing
+pub mod Starting
 pub mod Finishing
 pub mod Filling
 pub mod Growing

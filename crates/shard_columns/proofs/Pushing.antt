@@ -14,20 +14,23 @@ use Rattle.agg_evaluation.specs.Rows.{rows_of, rows_of_documents}
 use Rattle.agg_evaluation.specs.RowsWeight.{row_weight, rows_weight}
 use Rattle.shard_columns.specs.declared.columns.Column.{Column}
 use Rattle.shard_columns.specs.declared.draft.ShardDraft.{ShardDraft}
+use Rattle.shard_columns.specs.declared.homes.Homes.{Homes}
 use Rattle.shard_columns.specs.declared.layout.Entry.{Entry}
 use Rattle.shard_columns.specs.declared.layout.Laid.{Laid}
 use Rattle.shard_columns.specs.declared.layout.Origin.TheVariants.{Root}
+use Rattle.shard_columns.specs.Contexts.{ContextsBelow}
 use Rattle.shard_columns.specs.Drafted.{RootsLaid, Holds, HoldsBehind, CanHold, IsStoredFrom, IsDraftOf, Admits}
 use Rattle.shard_columns.specs.Ends.{each, root_ends, row_ends}
 use Rattle.shard_columns.specs.Given.{IsGiven}
+use Rattle.shard_columns.specs.Homes.{home_count}
 use Rattle.shard_columns.specs.Layout.{AddsRow, AddsRowBehind, flat_rows, placed, ids_of, entries_of_laid, values_of_laid}
 use Rattle.shard_columns.specs.Stored.{AreStorable}
 use Rattle.shard_columns.specs.Values.{Words, row_values, by_words}
-use Rattle.shard_columns.proofs.Building.{rows-stored}
+use Rattle.shard_columns.proofs.Building.{rows-stored, sizes-stored}
 use Rattle.shard_columns.proofs.Enclosing.{all-rows-laid}
 use Rattle.shard_columns.proofs.Givens.{documents_given}
 use Rattle.shard_columns.proofs.Laying.{RootsLaid-push, root_ends-push, rows-push, few-documents}
-use Rattle.shard_columns.proofs.Making.{storable-laid}
+use Rattle.shard_columns.proofs.Making.{contexts-below, storable-laid}
 use Rattle.shard_columns.proofs.Weighing.{rows-light}
 
 -- documents in front of others weigh no more than all
@@ -128,6 +131,17 @@ module _ (m : Mapping) (documents : List Document) (d : Document) (old : ShardDr
 pub flat-draft : (m : Mapping) (documents : List Document) (draft : ShardDraft) (held : IsDraftOf m documents draft) → flat_rows (ids_of documents) held.laid ≡ rows_of_documents documents
 flat-draft m documents draft held = flat documents held.laid draft.ends.items held.roots
 
+-- the contexts of the rows of a draft are those of its mapping, and the rows are few
+pub contexts-draft : (m : Mapping) (documents : List Document) (draft : ShardDraft) (held : IsDraftOf m documents draft) (count : ℕ) → count ≡ length m.nested → ContextsBelow (count + 1) draft.rows
+contexts-draft m documents draft held count size =
+    contexts-below (ids_of documents) held.laid draft.rows (rows_of_documents documents) (count + 1) held.entries (flat-draft m documents draft held)
+    (λ n. omega (arith, (documents_given m documents held.few held.light held.fit).contexts n, size))
+
+pub few-draft : (m : Mapping) (documents : List Document) (draft : ShardDraft) → IsDraftOf m documents draft → length draft.rows < 2 ^ 32
+few-draft m documents draft held =
+    let light = held.light in
+    omega (arith, light, rows-light (rows_of_documents documents), sizes-stored (ids_of documents) held.laid draft.rows (rows_of_documents documents) held.entries (flat-draft m documents draft held))
+
 pub storable-draft : (m : Mapping) (documents : List Document) (draft : ShardDraft) (held : IsDraftOf m documents draft) → AreStorable draft.kinds.items held.laid
 storable-draft m documents draft held =
     subst (λ (ks : List FieldKind). AreStorable ks held.laid) (sym held.kinds_are)
@@ -136,12 +150,13 @@ storable-draft m documents draft held =
 pub count-laid : (m : Mapping) (documents : List Document) (draft : ShardDraft) (held : IsDraftOf m documents draft) → length draft.rows ≡ length held.laid
 count-laid m documents draft held = ap length held.entries ∙ length-map held.laid (λ (l : Laid). l.entry)
 
-pub rows-draft : (m : Mapping) (documents : List Document) (draft : ShardDraft) (words : List Words) (columns : List Column) (held : IsDraftOf m documents draft) → IsStoredFrom draft.numbers draft.drafts words columns →
-    placed draft.ids [] (zip draft.rows (row_values (by_words words) columns (length draft.rows))) ≡ rows_of_documents documents
-rows-draft m documents draft words columns held stored =
+pub rows-draft : (m : Mapping) (documents : List Document) (draft : ShardDraft) (homes : Homes) (words : List Words) (columns : List Column) (held : IsDraftOf m documents draft) → home_count homes ≡ length draft.rows →
+    IsStoredFrom homes draft.numbers draft.drafts words columns → placed draft.ids [] (zip draft.rows (row_values homes (by_words words) columns (length draft.rows))) ≡ rows_of_documents documents
+rows-draft m documents draft homes words columns held homed stored =
     let entries = draft.rows in
-    let values = row_values (by_words words) columns (length entries) in
+    let values = row_values homes (by_words words) columns (length entries) in
     let values_are : values ≡ values_of_laid held.laid =
-    ap (row_values (by_words words) columns) (count-laid m documents draft held) ∙ stored.rows_are draft.kinds.items held.laid held.holds (storable-draft m documents draft held) in
+    ap (row_values homes (by_words words) columns) (count-laid m documents draft held)
+    ∙ stored.rows_are draft.kinds.items held.laid held.holds (storable-draft m documents draft held) (sym (homed ∙ count-laid m documents draft held)) in
     ap (λ (ids : List (List ℕ)). placed ids [] (zip entries values)) held.ids
     ∙ (rows-stored (ids_of documents) held.laid entries values held.entries values_are ∙ flat-draft m documents draft held)

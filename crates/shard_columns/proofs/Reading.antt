@@ -28,6 +28,7 @@ use Rattle.agg_model.specs.declared.row.Scalar.{Scalar}
 use Rattle.agg_model.specs.declared.row.FieldValues.{FieldValues}
 use Rattle.shard_columns.specs.Columns.{Columns}
 use Rattle.shard_columns.specs.Counts.{most_values}
+use Rattle.shard_columns.specs.Homes.{home_count}
 use Rattle.shard_columns.specs.Layout.{context_of, numbers_at}
 use Rattle.shard_columns.specs.Values.{Words, by_words, row_values, held_values, found_values, present_from, column_values, scalars, span_of, typed_len, is_taken, words_in}
 use Rattle.shard_columns.specs.Columnar.{IsColumn, wholes_part, ordinals_part, flags_part}
@@ -72,10 +73,10 @@ child-row rows context outer place ns are there =
     )
 
 abbrev pub vals : Inside → List (List FieldValues)
-vals s = row_values (by_words s.words.items) s.columns.items (length s.rows)
+vals s = row_values s.homes (by_words s.words.items) s.columns.items (length s.rows)
 
 pub aligned : (s : Inside) → length (vals s) ≡ length s.rows
-aligned s = length-map (range_with_len 0 (length s.rows)) (λ n. present_from (λ f. held_values (by_words s.words.items) s.columns.items f n) 0 (length s.columns.items)) ∙ range-length 0 (length s.rows)
+aligned s = length-map (range_with_len 0 (length s.rows)) (λ n. present_from (λ f. held_values s.homes (by_words s.words.items) s.columns.items f n) 0 (length s.columns.items)) ∙ range-length 0 (length s.rows)
 
 module _ (s : Inside) (v : Columns) (view : columns_of s ≡ v) (sound : IsSound s) where
   pub rows-are : placed_rows s ≡ v.rows
@@ -86,6 +87,10 @@ module _ (s : Inside) (v : Columns) (view : columns_of s ≡ v) (sound : IsSound
 
   pub in-range : (n : ℕ) → n < length v.rows → n < length s.rows
   in-range n below = subst (λ (k : ℕ). n < k) (sym len-is) below
+
+  -- each row has a home
+  pub home-in : (n : ℕ) → n < length v.rows → n < home_count s.homes
+  home-in n below = subst (λ (k : ℕ). n < k) (sym sound.homed) (in-range n below)
 
   pub context-is : (n : ℕ) (e : Entry) → n < length v.rows → e ≡ get_or s.rows n e → (row_of v.rows n).context ≡ context_of e.origin
   context-is n e below is = ap (λ (rs : List PlacedRow). (row_of rs n).context) (sym rows-are) ∙ context-at s.ids s.rows (vals s) n e (aligned s) (in-range n below) is
@@ -158,9 +163,9 @@ module _ (s : Inside) (v : Columns) (view : columns_of s ≡ v) (sound : IsSound
     root-row n below =
         slice_get-get_or (roots v.rows) n no_row below ∙ ap Some (ap (λ (rs : List PlacedRow). get_or rs n no_row) (sym roots-are) ∙ get_or-map (row_of v.rows) ns n 0 no_row (root-in n below))
 
-  row-fields : (n : ℕ) → n < length v.rows → (row_of v.rows n).values ≡ present_from (λ f. held_values (by_words s.words.items) s.columns.items f n) 0 (length s.columns.items)
+  row-fields : (n : ℕ) → n < length v.rows → (row_of v.rows n).values ≡ present_from (λ f. held_values s.homes (by_words s.words.items) s.columns.items f n) 0 (length s.columns.items)
   row-fields n below =
-      let fields : ℕ → List FieldValues = λ k. present_from (λ f. held_values (by_words s.words.items) s.columns.items f k) 0 (length s.columns.items) in
+      let fields : ℕ → List FieldValues = λ k. present_from (λ f. held_values s.homes (by_words s.words.items) s.columns.items f k) 0 (length s.columns.items) in
       let below' : n < length (placed_rows s) = subst (λ (rs : List PlacedRow). n < length rs) (sym rows-are) below in
       let count = length s.rows in
       let size = range-length 0 count in
@@ -170,15 +175,15 @@ module _ (s : Inside) (v : Columns) (view : columns_of s ≡ v) (sound : IsSound
       ∙ (ap (λ (vs : List (List FieldValues)). get_or vs n []) (values-are s.ids s.rows (vals s) (aligned s))
       ∙ (get_or-map fields (range_with_len 0 count) n 0 [] (omega (arith, low, size)) ∙ ap fields (range-at 0 count n low ∙ (let e : 0 + n ≡ n = omega arith in e)))))
 
-  pub values-held : (n field : ℕ) → n < length v.rows → values_of field (row_of v.rows n) ≡ held_values (by_words s.words.items) s.columns.items field n
+  pub values-held : (n field : ℕ) → n < length v.rows → values_of field (row_of v.rows n) ≡ held_values s.homes (by_words s.words.items) s.columns.items field n
   values-held n field below =
-      let read : ℕ → List Scalar = λ f. held_values (by_words s.words.items) s.columns.items f n in
+      let read : ℕ → List Scalar = λ f. held_values s.homes (by_words s.words.items) s.columns.items f n in
       let count = length s.columns.items in
       found-unwrap (find (λ (x : FieldValues). eqb x.field field) (row_of v.rows n).values)
       ∙ (ap (found_values field) (row-fields n below)
       ∙ elim (cases_lt field count) [
         | inl low ↦ found-present read 0 count field (omega arith) (omega (arith, low))
-        | inr past ↦ found-beyond read 0 count field (omega (arith, past)) ∙ sym (ap (λ (o : Option Column). option_map_or (λ (c : Column). column_values (by_words s.words.items field) c n) o []) (slice_get_past s.columns.items field past))
+        | inr past ↦ found-beyond read 0 count field (omega (arith, past)) ∙ sym (ap (λ (o : Option Column). option_map_or (λ (c : Column). column_values s.homes (by_words s.words.items field) c n) o []) (slice_get_past s.columns.items field past))
       ])
 
   pub values-few : (n field : ℕ) → length (values_of field (row_of v.rows n)) < 2 ^ 32
@@ -193,50 +198,50 @@ module _ (s : Inside) (v : Columns) (view : columns_of s ≡ v) (sound : IsSound
 
   pub no-column : (n field : ℕ) (cs : List Column) → n < length v.rows → cs ≡ s.columns.items → slice_get cs field ≡ None → values_of field (row_of v.rows n) ≡ []
   no-column n field cs below same none =
-      values-held n field below ∙ ap (λ (o : Option Column). option_map_or (λ (c : Column). column_values (by_words s.words.items field) c n) o []) (ap (λ (xs : List Column). slice_get xs field) (sym same) ∙ none)
+      values-held n field below ∙ ap (λ (o : Option Column). option_map_or (λ (c : Column). column_values s.homes (by_words s.words.items field) c n) o []) (ap (λ (xs : List Column). slice_get xs field) (sym same) ∙ none)
 
   module _ (n field : ℕ) (cs : List Column) (c : Column) (below : n < length v.rows) (same : cs ≡ s.columns.items) (is : slice_get cs field ≡ Some c) where
     here : slice_get s.columns.items field ≡ Some c
     here = ap (λ (xs : List Column). slice_get xs field) (sym same) ∙ is
 
-    pub column-sound : IsColumn c
+    pub column-sound : IsColumn s.homes c
     column-sound = sound.columns field c here
 
-    pub has-column : values_of field (row_of v.rows n) ≡ column_values (by_words s.words.items field) c n
-    has-column = values-held n field below ∙ ap (λ (o : Option Column). option_map_or (λ (c : Column). column_values (by_words s.words.items field) c n) o []) here
+    pub has-column : values_of field (row_of v.rows n) ≡ column_values s.homes (by_words s.words.items field) c n
+    has-column = values-held n field below ∙ ap (λ (o : Option Column). option_map_or (λ (c : Column). column_values s.homes (by_words s.words.items field) c n) o []) here
 
-    taken-all : list_all (is_taken c.typed) (column_values (by_words s.words.items field) c n) ≡ true
+    taken-all : list_all (is_taken c.typed) (column_values s.homes (by_words s.words.items field) c n) ≡ true
     taken-all =
         let low = slice_get_within s.columns.items field c here in
         let k_is = slice_get-get_or s.kinds.items field Keyword (omega (arith, low, sound.column_sizes)) in
         let k = get_or s.kinds.items field Keyword in
-        all-taken-of-kind k c.typed (column_values (by_words s.words.items field) c n) (sound.typed field k c k_is here)
+        all-taken-of-kind k c.typed (column_values s.homes (by_words s.words.items field) c n) (sound.typed field k c k_is here)
         (ap (list_all (is_of_kind k)) (sym has-column) ∙ of-kind n field k (ap (λ (ks : List FieldKind). slice_get ks field) (sym kinds-are) ∙ k_is))
 
-    pub wholes-lent : wholes_part c.typed (span_of c.spans n) ≡ wholes_in (values_of field (row_of v.rows n))
-    wholes-lent = lent-wholes (by_words s.words.items field) c.typed (span_of c.spans n) taken-all ∙ ap wholes_in (sym has-column)
+    pub wholes-lent : wholes_part c.typed (span_of s.homes c.spans n) ≡ wholes_in (values_of field (row_of v.rows n))
+    wholes-lent = lent-wholes (by_words s.words.items field) c.typed (span_of s.homes c.spans n) taken-all ∙ ap wholes_in (sym has-column)
 
-    pub flags-lent : flags_part c.typed (span_of c.spans n) ≡ flags_in (values_of field (row_of v.rows n))
-    flags-lent = lent-flags (by_words s.words.items field) c.typed (span_of c.spans n) taken-all ∙ ap flags_in (sym has-column)
+    pub flags-lent : flags_part c.typed (span_of s.homes c.spans n) ≡ flags_in (values_of field (row_of v.rows n))
+    flags-lent = lent-flags (by_words s.words.items field) c.typed (span_of s.homes c.spans n) taken-all ∙ ap flags_in (sym has-column)
 
-    pub ordinals-lent : (map (word_at (get_or s.words.items field [])) (ordinals_part c.typed (span_of c.spans n)) ≡ words_in (values_of field (row_of v.rows n)))
-        × ((k : ℕ) → k < length (ordinals_part c.typed (span_of c.spans n)) → get_or (ordinals_part c.typed (span_of c.spans n)) k 0 < length (get_or s.words.items field []))
+    pub ordinals-lent : (map (word_at (get_or s.words.items field [])) (ordinals_part c.typed (span_of s.homes c.spans n)) ≡ words_in (values_of field (row_of v.rows n)))
+        × ((k : ℕ) → k < length (ordinals_part c.typed (span_of s.homes c.spans n)) → get_or (ordinals_part c.typed (span_of s.homes c.spans n)) k 0 < length (get_or s.words.items field []))
     ordinals-lent =
-        let got = lent-ordinals (get_or s.words.items field []) c.typed (span_of c.spans n) taken-all in
+        let got = lent-ordinals (get_or s.words.items field []) c.typed (span_of s.homes c.spans n) taken-all in
         (got.0 ∙ ap words_in (sym has-column), got.1)
 
-    pub count-is : length (values_of field (row_of v.rows n)) ≡ (span_of c.spans n).end - (span_of c.spans n).start
+    pub count-is : length (values_of field (row_of v.rows n)) ≡ (span_of s.homes c.spans n).end - (span_of s.homes c.spans n).start
     count-is =
         let size = scalars-len (by_words s.words.items field) c.typed in
-        let part = column-sound.within n in
-        ap length has-column ∙ length-cut (scalars (by_words s.words.items field) c.typed) (span_of c.spans n) (part.0, (omega (arith, part.1, size)))
+        let part = column-sound.within n (home-in n below) in
+        ap length has-column ∙ length-cut (scalars (by_words s.words.items field) c.typed) (span_of s.homes c.spans n) (part.0, (omega (arith, part.1, size)))
 
-    pub value-at : (place : ℕ) → place < length (values_of field (row_of v.rows n)) → slice_get (values_of field (row_of v.rows n)) place ≡ slice_get (scalars (by_words s.words.items field) c.typed) ((span_of c.spans n).start + place)
+    pub value-at : (place : ℕ) → place < length (values_of field (row_of v.rows n)) → slice_get (values_of field (row_of v.rows n)) place ≡ slice_get (scalars (by_words s.words.items field) c.typed) ((span_of s.homes c.spans n).start + place)
     value-at place there =
-        let span = span_of c.spans n in
+        let span = span_of s.homes c.spans n in
         let all = scalars (by_words s.words.items field) c.typed in
         let size = scalars-len (by_words s.words.items field) c.typed in
-        let part = column-sound.within n in
+        let part = column-sound.within n (home-in n below) in
         let low : place < span.end - span.start = omega (arith, there, count-is) in
         slice_get-get_or (values_of field (row_of v.rows n)) place nothing there
         ∙ (ap Some (ap (λ (vs : List Scalar). get_or vs place nothing) has-column ∙ get_or-cut all span place nothing low)
@@ -245,31 +250,31 @@ module _ (s : Inside) (v : Columns) (view : columns_of s ≡ v) (sound : IsSound
         nothing : Scalar
         nothing = scalar.Flag false
 
-    pub place-low : (place : ℕ) → place < length (values_of field (row_of v.rows n)) → (span_of c.spans n).start + place < typed_len c.typed
+    pub place-low : (place : ℕ) → place < length (values_of field (row_of v.rows n)) → (span_of s.homes c.spans n).start + place < typed_len c.typed
     place-low place there =
-        let part = column-sound.within n in
+        let part = column-sound.within n (home-in n below) in
         omega (arith, there, count-is, part.0, part.1)
 
-    pub whole-at : (place : ℕ) (ns : Vec ℤ Global) (x : ℤ) → place < length (values_of field (row_of v.rows n)) → c.typed ≡ typed.Wholes ns → x ≡ get_or ns.items ((span_of c.spans n).start + place) x →
+    pub whole-at : (place : ℕ) (ns : Vec ℤ Global) (x : ℤ) → place < length (values_of field (row_of v.rows n)) → c.typed ≡ typed.Wholes ns → x ≡ get_or ns.items ((span_of s.homes c.spans n).start + place) x →
         slice_get (values_of field (row_of v.rows n)) place ≡ Some (scalar.Whole x)
     whole-at place ns x there typed_is x_is =
-        let at = (span_of c.spans n).start + place in
+        let at = (span_of s.homes c.spans n).start + place in
         let low : at < length ns.items = omega (arith, place-low place there, ap typed_len typed_is) in
         value-at place there ∙ (ap (λ (t : Typed). slice_get (scalars (by_words s.words.items field) t) at) typed_is
         ∙ (slice_get-map scalar.Whole ns.items at ∙ ap (option_map scalar.Whole) (taken ns.items at x low x_is)))
 
-    pub flag-at : (place : ℕ) (bs : Vec Bool Global) (x : Bool) → place < length (values_of field (row_of v.rows n)) → c.typed ≡ typed.Flags bs → x ≡ get_or bs.items ((span_of c.spans n).start + place) x →
+    pub flag-at : (place : ℕ) (bs : Vec Bool Global) (x : Bool) → place < length (values_of field (row_of v.rows n)) → c.typed ≡ typed.Flags bs → x ≡ get_or bs.items ((span_of s.homes c.spans n).start + place) x →
         slice_get (values_of field (row_of v.rows n)) place ≡ Some (scalar.Flag x)
     flag-at place bs x there typed_is x_is =
-        let at = (span_of c.spans n).start + place in
+        let at = (span_of s.homes c.spans n).start + place in
         let low : at < length bs.items = omega (arith, place-low place there, ap typed_len typed_is) in
         value-at place there ∙ (ap (λ (t : Typed). slice_get (scalars (by_words s.words.items field) t) at) typed_is
         ∙ (slice_get-map scalar.Flag bs.items at ∙ ap (option_map scalar.Flag) (taken bs.items at x low x_is)))
 
-    pub word-at : (place : ℕ) (ps : Vec ℕ Global) (x : ℕ) (r : Scalar) → place < length (values_of field (row_of v.rows n)) → c.typed ≡ typed.Words ps → x ≡ get_or ps.items ((span_of c.spans n).start + place) x →
+    pub word-at : (place : ℕ) (ps : Vec ℕ Global) (x : ℕ) (r : Scalar) → place < length (values_of field (row_of v.rows n)) → c.typed ≡ typed.Words ps → x ≡ get_or ps.items ((span_of s.homes c.spans n).start + place) x →
         r ≡ shown (get_or s.words.items field []) x → slice_get (values_of field (row_of v.rows n)) place ≡ Some r
     word-at place ps x r there typed_is x_is r_is =
-        let at = (span_of c.spans n).start + place in
+        let at = (span_of s.homes c.spans n).start + place in
         let low : at < length ps.items = omega (arith, place-low place there, ap typed_len typed_is) in
         value-at place there ∙ (ap (λ (t : Typed). slice_get (scalars (by_words s.words.items field) t) at) typed_is
         ∙ (slice_get-map (by_words s.words.items field) ps.items at ∙ (ap (option_map (by_words s.words.items field)) (taken ps.items at x low x_is) ∙ ap Some (sym r_is))))

@@ -14,9 +14,11 @@ use Rattle.shard_columns.specs.declared.draft.ShardDraft.{ShardDraft}
 use Rattle.shard_columns.specs.declared.values.Drafts.{Drafts}
 use Rattle.shard_columns.specs.declared.words.WordNumbers.{WordNumbers}
 use Rattle.shard_columns.specs.declared.columns.Column.{Column}
+use Rattle.shard_columns.specs.declared.homes.Homes.{Homes}
 use Rattle.shard_columns.specs.Built.{columns_from}
 use Rattle.shard_columns.specs.Columns.{Columns}
 use Rattle.shard_columns.specs.Ends.{each, root_ends}
+use Rattle.shard_columns.specs.Homes.{home_count}
 use Rattle.shard_columns.specs.Layout.{flat_rows, entries_of_laid, ids_of}
 use Rattle.shard_columns.specs.Stored.{AreStorable, AreDrafts, AreStored, AreColumns}
 use Rattle.shard_columns.specs.Values.{Words, found_values}
@@ -56,11 +58,11 @@ pub record HoldsSome (count : ℕ) (numbers : WordNumbers) (drafts : Drafts) : T
   pub count_is : count ≡ length rows
   pub holds : Holds kinds rows numbers drafts
 
--- these are the dictionaries and columns of what is held
-pub record IsStoredFrom (numbers : WordNumbers) (drafts : Drafts) (words : List Words) (columns : List Column) : Type 0 where
+-- these are the dictionaries and columns of what is held, of rows that have these homes
+pub record IsStoredFrom (homes : Homes) (numbers : WordNumbers) (drafts : Drafts) (words : List Words) (columns : List Column) : Type 0 where
   pub words_are : (kinds : List FieldKind) (rows : List Laid) → Holds kinds rows numbers drafts → AreDictionaries (length kinds) rows words
-  pub rows_are : (kinds : List FieldKind) (rows : List Laid) → Holds kinds rows numbers drafts → AreStorable kinds rows → AreStored rows words columns
-  pub columns_are : (kinds : List FieldKind) (rows : List Laid) → Holds kinds rows numbers drafts → AreColumns kinds columns
+  pub rows_are : (kinds : List FieldKind) (rows : List Laid) → Holds kinds rows numbers drafts → AreStorable kinds rows → length rows ≡ home_count homes → AreStored homes rows words columns
+  pub columns_are : (kinds : List FieldKind) (rows : List Laid) → Holds kinds rows numbers drafts → AreColumns homes kinds columns
 
 -- for each field the greatest number of values that one of the rows has that are held
 abbrev pub AreMostFrom : WordNumbers → Drafts → List ℕ → Type 0

@@ -2,8 +2,10 @@ pub mod Layout
 pub mod Ends
 pub mod Ones
 pub mod Roots
+pub mod Homes
 pub mod Values
 pub mod Lent
+pub mod Starts
 pub mod Columnar
 pub mod Stored
 pub mod Numbered

@@ -11,6 +11,7 @@ use Rattle.shard_columns.specs.Counts.{most_values}
 use Rattle.shard_columns.specs.Dictionary.{words_of, longest_word}
 use Rattle.agg_evaluation.specs.ColumnBytes.{value_count}
 use Rattle.shard_columns.specs.Given.{KindsHold}
+use Rattle.shard_columns.specs.Homes.{home_count}
 use Rattle.shard_columns.specs.Layout.{placed}
 use Rattle.shard_columns.specs.Values.{row_values, by_words, is_typed}
 use Rattle.shard_columns.specs.Columnar.{IsColumn}
@@ -19,14 +20,15 @@ use Rattle.agg_model.specs.declared.mapping.FieldKind.{FieldKind}
 use Rattle.agg_evaluation.specs.RowsWeight.{rows_weight}
 
 abbrev pub placed_rows : Inside → List PlacedRow
-placed_rows s = placed s.ids [] (zip s.rows (row_values (by_words s.words.items) s.columns.items (length s.rows)))
+placed_rows s = placed s.ids [] (zip s.rows (row_values s.homes (by_words s.words.items) s.columns.items (length s.rows)))
 
 abbrev pub columns_of : Inside → Columns
 columns_of s = record { kinds = s.kinds.items; contexts = s.contexts.items; parents = s.parents.items; rows = placed_rows s }
 
 pub record IsSound (s : Inside) : Type 0 where
-  pub columns : (f : ℕ) (c : Column) → slice_get s.columns.items f ≡ Some c → IsColumn c
+  pub columns : (f : ℕ) (c : Column) → slice_get s.columns.items f ≡ Some c → IsColumn s.homes c
   pub typed : (f : ℕ) (k : FieldKind) (c : Column) → slice_get s.kinds.items f ≡ Some k → slice_get s.columns.items f ≡ Some c → is_typed k c.typed ≡ true
+  pub homed : home_count s.homes ≡ length s.rows
   pub column_sizes : length s.columns.items ≡ length s.kinds.items
   pub numbered : AreNumbered (length s.parents.items + 1) s.rows s.numbers.items
   pub few_paths : length s.parents.items ≤ MAX_PATHS

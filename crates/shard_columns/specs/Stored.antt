@@ -8,6 +8,7 @@ use Rattle.agg_model.specs.FieldKinds.{is_of_kind}
 use Rattle.shard_columns.specs.declared.layout.Laid.{Laid}
 use Rattle.shard_columns.specs.declared.values.Drafts.{Drafts}
 use Rattle.shard_columns.specs.declared.columns.Column.{Column}
+use Rattle.shard_columns.specs.declared.homes.Homes.{Homes}
 use Rattle.shard_columns.specs.declared.words.WordNumbers.{WordNumbers}
 use Rattle.shard_columns.specs.Columnar.{IsColumn}
 use Rattle.shard_columns.specs.Layout.{values_of_laid}
@@ -39,11 +40,11 @@ pub record AreDrafts (kinds : List FieldKind) (numbers : WordNumbers) (rows : Li
   pub values : (show : Reader) → Shows numbers show → (f n : ℕ) (l : Laid) → f < length kinds → slice_get rows n ≡ Some l → drafted show drafts.columns.items f n ≡ found_values f l.values.now
 
 -- each row is read from the columns, where `words` has the words of each field
-abbrev pub AreStored : List Laid → List Words → List Column → Type 0
-AreStored rows words columns = row_values (by_words words) columns (length rows) ≡ values_of_laid rows
+abbrev pub AreStored : Homes → List Laid → List Words → List Column → Type 0
+AreStored homes rows words columns = row_values homes (by_words words) columns (length rows) ≡ values_of_laid rows
 
 -- a column for each field, of its type
-pub record AreColumns (kinds : List FieldKind) (columns : List Column) : Type 0 where
+pub record AreColumns (homes : Homes) (kinds : List FieldKind) (columns : List Column) : Type 0 where
   pub sizes : length columns ≡ length kinds
-  pub sound : (f : ℕ) (c : Column) → slice_get columns f ≡ Some c → IsColumn c
+  pub sound : (f : ℕ) (c : Column) → slice_get columns f ≡ Some c → IsColumn homes c
   pub typed : (f : ℕ) (k : FieldKind) (c : Column) → slice_get kinds f ≡ Some k → slice_get columns f ≡ Some c → is_typed k c.typed ≡ true

@@ -1,5 +1,5 @@
 -- Values in flat arrays, one for each field, with the spans of the rows that have any.
-use Rattle.std.specs.Prelude.{◌≡◌, ℕ, zero, suc, ◌+◌, ◌-◌, pos, ◌<◌, ◌≤◌, Bool, true, false, List, [], ◌∷◌, ◌++◌, map, length, slice_index_or, slice_range, Contains, find, flat_map, if◌then◌else◌, ◌==◌, slice_get, sum_by, nat_le, nat_lt}
+use Rattle.std.specs.Prelude.{◌≡◌, ◌⊎◌, ℕ, zero, suc, ◌+◌, ◌-◌, pos, ◌<◌, ◌≤◌, Bool, true, false, List, [], ◌∷◌, ◌++◌, map, length, slice_index_or, slice_range, Contains, find, flat_map, if◌then◌else◌, ◌==◌, slice_get, sum_by, nat_le, nat_lt}
 use Rattle.std.specs.Option.{option_map_or}
 use Rattle.std.specs.List.{range_with_len}
 use Rattle.std.specs.List.Sorted.{IsStrictlyIncreasing}
@@ -10,6 +10,8 @@ use Rattle.agg_model.specs.declared.row.Scalar.TheVariants as scalar
 use Rattle.agg_model.specs.declared.row.FieldValues.{FieldValues}
 use Rattle.agg_evaluation.specs.Ceiling.{greatest_of}
 use Rattle.shard_columns.specs.Ones.{one_span}
+use Rattle.shard_columns.specs.Homes.{rank_in}
+use Rattle.shard_columns.specs.declared.homes.Homes.{Homes}
 use Rattle.shard_columns.specs.declared.values.Typed.{Typed}
 use Rattle.shard_columns.specs.declared.values.Typed.TheVariants as typed
 use Rattle.shard_columns.specs.declared.values.Span.{Span}
@@ -67,14 +69,23 @@ is_taken _ _ = false
 abbrev pub no_span : Span
 no_span = record { start = 0; end = 0 }
 
+-- where the value of a rank is, if it is among so many that have one each, at its place
+abbrev pub span_among : ℕ → ℕ → Span
+span_among count rank = if nat_lt rank count then one_span rank else no_span
+
+-- where the values of a rank are, given where those of each rank start, and at last where all end
+abbrev pub span_between : List ℕ → ℕ → Span
+span_between starts rank =
+    if nat_lt (rank + 1) (length starts) then record { start = slice_index_or starts rank 0; end = slice_index_or starts (rank + 1) 0 } else no_span
+
 -- where the values of a row are
 abbrev pub span_in : List Held → ℕ → Span
 span_in held row = option_map_or (λ h. h.span) (find (λ h. h.row == row) held) no_span
 
-abbrev pub span_of : Spans → ℕ → Span
-span_of (spans.OneEach count) row = if nat_lt row count then one_span row else no_span
-span_of (spans.OfEach each) row = slice_index_or each.items row no_span
-span_of (spans.OfSome held) row = span_in held.items row
+abbrev pub span_of : Homes → Spans → ℕ → Span
+span_of homes (spans.OneEach context count) row = option_map_or (span_among count) (rank_in homes context row) no_span
+span_of homes (spans.OfEach context starts) row = option_map_or (span_between starts.items) (rank_in homes context row) no_span
+span_of homes (spans.OfSome held) row = span_in held.items row
 
 -- how many values a row has
 abbrev pub held_count : Held → ℕ
@@ -88,15 +99,15 @@ most_held d = greatest_of (map held_count d.held)
 abbrev pub draft_values : (ℕ → Scalar) → Draft → ℕ → List Scalar
 draft_values show d row = cut (scalars show d.typed) (span_in d.held row)
 
-abbrev pub column_values : (ℕ → Scalar) → Column → ℕ → List Scalar
-column_values show c row = cut (scalars show c.typed) (span_of c.spans row)
+abbrev pub column_values : Homes → (ℕ → Scalar) → Column → ℕ → List Scalar
+column_values homes show c row = cut (scalars show c.typed) (span_of homes c.spans row)
 
 -- the values of a field in a row
 abbrev pub drafted : Reader → List Draft → ℕ → ℕ → List Scalar
 drafted show drafts field row = option_map_or (λ d. draft_values (show field) d row) (slice_get drafts field) []
 
-abbrev pub held_values : Reader → List Column → ℕ → ℕ → List Scalar
-held_values show columns field row = option_map_or (λ c. column_values (show field) c row) (slice_get columns field) []
+abbrev pub held_values : Homes → Reader → List Column → ℕ → ℕ → List Scalar
+held_values homes show columns field row = option_map_or (λ c. column_values homes (show field) c row) (slice_get columns field) []
 
 -- a field that a row has
 abbrev pub present : ℕ → List Scalar → List FieldValues
@@ -109,8 +120,8 @@ present_from read field zero = []
 present_from read field (suc n) = present field (read field) ++ present_from read (field + 1) n
 
 -- the values of each of so many rows
-abbrev pub row_values : Reader → List Column → ℕ → List (List FieldValues)
-row_values show columns rows = map (λ n. present_from (λ f. held_values show columns f n) 0 (length columns)) (range_with_len 0 rows)
+abbrev pub row_values : Homes → Reader → List Column → ℕ → List (List FieldValues)
+row_values homes show columns rows = map (λ n. present_from (λ f. held_values homes show columns f n) 0 (length columns)) (range_with_len 0 rows)
 
 -- what a row's fields have
 abbrev pub found_values : ℕ → List FieldValues → List Scalar
@@ -142,6 +153,10 @@ FieldsBelow n (f ∷ fs) = (f.field < n) × FieldsBelow n fs
 -- a part of a list of this length
 abbrev pub IsPart : ℕ → Span → Type 0
 IsPart n span = (span.start ≤ span.end) × (span.end ≤ n)
+
+-- the same part, or neither is of any value, in a list of this length
+abbrev pub AreAlike : ℕ → Span → Span → Type 0
+AreAlike size new old = (new ≡ old) ⊎ ((old ≡ no_span) × ((new.start ≡ new.end) × (new.end ≤ size)))
 
 -- the values of each row lie within the flat array of this length
 unfoldable pub WithinReach : ℕ → List Held → Type 0

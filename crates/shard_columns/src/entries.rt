@@ -65,6 +65,11 @@ impl Entries {
         Ok(())
     }
 
+    /// Whether each row is known to be the root of the document of its number.
+    pub fn are_roots(&self) -> bool {
+        self.others.is_empty()
+    }
+
     /// The entry of a row.
     pub fn at(&self, row: u32) -> Entry
         requires { row < length self.now }

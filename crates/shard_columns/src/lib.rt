@@ -8,6 +8,7 @@ mod draft;
 mod entries;
 mod field_words;
 mod held_rows;
+mod homes;
 mod index;
 mod layout;
 mod mapped_words;

@@ -12,6 +12,7 @@ ghost use Rattle.agg_evaluation.specs.RowsWeight.{rows_weight};
 ghost use Rattle.shard_columns.specs.Dictionary.{words_of, as_values, NoRowHas, longest_word};
 ghost use Rattle.agg_evaluation.specs.Ceiling.{greatest_of};
 ghost use Rattle.agg_evaluation.specs.ColumnBytes.{shard_bytes};
+ghost use Rattle.shard_columns.specs.Homes.{home_count, AreHomes};
 ghost use Rattle.shard_columns.specs.Kinds.{AreOfKind};
 ghost use Rattle.shard_columns.specs.Beneath.{IsDirectlyBeneath, IsEnclosedBy};
 ghost use Rattle.agg_model.specs.declared.mapping.FieldKind.TheVariants.{Keyword, Boolean};
@@ -21,6 +22,7 @@ use crate::columns::{Column, column_at, columns, flags_at, ordinals_at, span_at,
 use crate::contexts::{context, numbers_by_context, numbers_of};
 use crate::draft::ShardDraft;
 use crate::entries::Entries;
+use crate::homes::{Homes, homes_of};
 use crate::layout::Origin;
 use crate::search::{Part, find_word, numbers_between};
 use crate::values::{Drafts, Typed, most_of_each};
@@ -40,6 +42,7 @@ pub struct Shard {
     parents: Vec<u32>,
     ids: PackedTexts,
     rows: Entries,
+    homes: Homes,
     ends: Vec<u32>,
     numbers: Vec<List<u32>>,
     words: Vec<PackedTexts>,
@@ -73,15 +76,16 @@ struct Stored {
     count: usize,
 }
 
-// The dictionaries and columns of the values that so many rows have.
+// The dictionaries and columns of the values of rows with these homes.
 fn store(
     alloc: Global,
     numbers: WordNumbers,
     drafts: Drafts,
-    rows: usize,
+    homes: &Homes,
 ) -> Result<Stored, AllocError>
-    requires { HoldsSome rows numbers drafts }
-    ensures stored { IfOk result (λ s. IsStoredFrom numbers drafts s.words.items s.columns.items) }
+    requires holds { HoldsSome (home_count homes.now) numbers drafts }
+    requires apart { AreHomes homes.now }
+    ensures stored { IfOk result (λ s. IsStoredFrom homes.now numbers drafts s.words.items s.columns.items) }
     ensures longest { IfOk result (λ s. s.longest.items ≡ map (λ ws. greatest_of (map length ws)) s.words.items) }
     ensures most { IfOk result (λ s. AreMostFrom numbers drafts s.most.items) }
     ensures counted { IfOk result (λ s. s.count ≡ drafts.count) }
@@ -93,7 +97,7 @@ fn store(
         count,
     } = drafts;
     let most = most_of_each(alloc, drafts.as_slice())?;
-    let columns = columns(alloc, drafts, ranks.as_slice(), rows)?;
+    let columns = columns(alloc, drafts, ranks.as_slice(), homes)?;
     Ok(Stored {
         words,
         longest,
@@ -169,8 +173,9 @@ impl ShardDraft {
             numbers,
             drafts,
         } = self;
-        let stored = store(alloc, numbers, drafts, rows.len())?;
         let nested = mapping.nested.as_slice();
+        let homes = homes_of(alloc, nested.len() + 1, &rows)?;
+        let stored = store(alloc, numbers, drafts, &homes)?;
         let numbers = numbers_by_context(alloc, nested.len() + 1, &rows)?;
         let contexts = contexts(alloc, mapping.fields.as_slice())?;
         let parents = parents(alloc, nested)?;
@@ -187,6 +192,7 @@ impl ShardDraft {
             parents,
             ids,
             rows,
+            homes,
             ends,
             numbers,
             words,
@@ -340,7 +346,7 @@ impl Shard {
     {
         match column_at(self.columns.as_slice(), field) {
             Some(column) => {
-                let span = span_at(column, row);
+                let span = span_at(column, &self.homes, row);
                 span.end - span.start
             }
             None => 0,
@@ -354,7 +360,7 @@ impl Shard {
         ensures values { IsTrue (holds_numbers self.now.kinds field) → map Whole result.now ≡ values_of field (row_of self.now.rows row) }
     {
         match column_at(self.columns.as_slice(), field) {
-            Some(column) => wholes_at(column, row),
+            Some(column) => wholes_at(column, &self.homes, row),
             None => &[],
         }
     }
@@ -369,7 +375,7 @@ impl Shard {
         ensures known { (k : ℕ) → k < length result.now → slice_index result.now k < length (words_of field self.now.rows) }
     {
         match column_at(self.columns.as_slice(), field) {
-            Some(column) => ordinals_at(column, row),
+            Some(column) => ordinals_at(column, &self.homes, row),
             None => &[],
         }
     }
@@ -381,7 +387,7 @@ impl Shard {
         ensures values { slice_get self.now.kinds field ≡ Some Boolean → map Flag result.now ≡ values_of field (row_of self.now.rows row) }
     {
         match column_at(self.columns.as_slice(), field) {
-            Some(column) => flags_at(column, row),
+            Some(column) => flags_at(column, &self.homes, row),
             None => &[],
         }
     }
@@ -394,7 +400,7 @@ impl Shard {
     {
         match column_at(self.columns.as_slice(), field) {
             Some(column) => {
-                let span = span_at(column, row);
+                let span = span_at(column, &self.homes, row);
                 let place = span.start as usize + place as usize;
                 match &column.typed {
                     Typed::Wholes(numbers) => Cell::Whole(numbers[place]),

@@ -7,10 +7,10 @@ use Rattle.shard_columns.proofs.columns.ordinals_at.Goals as goal
 pub returns-in-Words : goal.returns-in-Words
 returns-in-Words c =
     ap (λ (xs : List ℕ). cut xs c.span_at-span.result) c.deref.ensures.value
-    ∙ (ap (cut c.in-Words.places.items) c.span_at-span.ensures ∙ ap (λ (t : Typed). ordinals_part t (span_of c.args.column.now.spans c.args.row)) (sym c.in-Words.is))
+    ∙ (ap (cut c.in-Words.places.items) c.span_at-span.ensures ∙ ap (λ (t : Typed). ordinals_part t (span_of c.args.homes.now c.args.column.now.spans c.args.row)) (sym c.in-Words.is))
 
 pub returns-in-Wholes : goal.returns-in-Wholes
 returns-in-Wholes c = elim c.in-Wholes.is [
-  | inl other ↦ ap (λ (t : Typed). ordinals_part t (span_of c.args.column.now.spans c.args.row)) (sym other.1)
-  | inr other ↦ ap (λ (t : Typed). ordinals_part t (span_of c.args.column.now.spans c.args.row)) (sym other.1)
+  | inl other ↦ ap (λ (t : Typed). ordinals_part t (span_of c.args.homes.now c.args.column.now.spans c.args.row)) (sym other.1)
+  | inr other ↦ ap (λ (t : Typed). ordinals_part t (span_of c.args.homes.now c.args.column.now.spans c.args.row)) (sym other.1)
 ]

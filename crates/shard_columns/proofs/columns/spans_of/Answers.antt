@@ -1,8 +1,11 @@
-use Rattle.std.proofs.Common.{◌∙◌, List, sym, ap}
-use Rattle.shard_columns.specs.Values.{span_in}
-use Rattle.shard_columns.specs.declared.values.Held.{Held}
-use Rattle.shard_columns.proofs.OneEach.{span-one-each}
+use Rattle.std.proofs.Common.{sym, subst}
+use Rattle.shard_columns.specs.Columnar.{StandFor}
+use Rattle.shard_columns.specs.declared.homes.Homes.{Homes}
+use Rattle.shard_columns.specs.declared.columns.Spans.TheVariants.{OneEach}
+use Rattle.shard_columns.proofs.Starting.{roots-stand}
 use Rattle.shard_columns.proofs.columns.spans_of.Goals as goal
 
-pub returns-in-Some-clause-spans : goal.returns-in-Some-clause-spans
-returns-in-Some-clause-spans c = λ n. sym (ap (λ (hs : List Held). span_in hs n) c.in-Some.ensures ∙ span-one-each c.in-Some.count n)
+pub returns-in-Some-OfRoots-clause-spans : goal.returns-in-Some-OfRoots-clause-spans
+returns-in-Some-OfRoots-clause-spans c =
+    subst (λ (homes : Homes). StandFor homes (OneEach 0 c.in-Some-OfRoots.count) c.args.held) (sym c.in-Some-OfRoots.is-1)
+    (roots-stand c.in-Some-OfRoots.field-0-1 c.in-Some-OfRoots.count c.args.held c.in-Some-OfRoots.ensures)

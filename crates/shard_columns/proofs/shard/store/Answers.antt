@@ -8,10 +8,10 @@ use Rattle.shard_columns.proofs.Filling.{AreStored-made, AreColumns-made, few-wo
 use Rattle.shard_columns.proofs.shard.store.Goals as goal
 
 pub dictionaries-requires : goal.dictionaries-requires
-dictionaries-requires c = c.requires.holds.notes.sound
+dictionaries-requires c = c.requires.holds.holds.notes.sound
 
-pub columns-requires : goal.columns-requires
-columns-requires c = subst (λ (n : ℕ). AreShapedAll n c.args.drafts.columns.items) (sym c.requires.count_is) c.requires.holds.values.shaped
+pub columns-requires-clause-shaped : goal.columns-requires-clause-shaped
+columns-requires-clause-shaped c = subst (λ (n : ℕ). AreShapedAll n c.args.drafts.columns.items) (sym c.requires.holds.count_is) c.requires.holds.holds.values.shaped
 
 pub returns-clause-stored : goal.returns-clause-stored
 returns-clause-stored c =
@@ -19,14 +19,14 @@ returns-clause-stored c =
     let drafts = c.args.drafts in
     let words = c.in_ok-words.words.items in
     let ranks = c.in_ok-words.ranks.items in
-    let finished = subst (λ (rs : List ℕ). AreFinished rs drafts.columns.items c.in_ok-columns.columns.items) c.as_slice-3.ensures.value c.in_ok-columns.ensures in
+    let finished = subst (λ (rs : List ℕ). AreFinished c.args.homes.now rs drafts.columns.items c.in_ok-columns.columns.items) c.as_slice-3.ensures.value c.in_ok-columns.ensures in
     record {
       words_are = λ kinds rows held. AreDictionaries-made (length kinds) rows held.none numbers words held.sizes held.empty held.notes c.in_ok-words.ensures.words;
-      rows_are = λ kinds rows held storable.
+      rows_are = λ kinds rows held storable counted.
           let dictionaries = AreDictionaries-made (length kinds) rows held.none numbers words held.sizes held.empty held.notes c.in_ok-words.ensures.words in
-          AreStored-made kinds numbers rows drafts ranks words c.in_ok-columns.columns.items storable held.values finished
+          AreStored-made c.args.homes.now kinds numbers rows drafts ranks words c.in_ok-columns.columns.items storable held.values finished counted
           (Shows-ranked numbers words ranks c.in_ok-words.ensures.ranks (few-words (length kinds) rows words dictionaries storable.few_values)) (below-at (length kinds) rows storable.below);
-      columns_are = λ kinds rows held. AreColumns-made kinds numbers rows drafts ranks c.in_ok-columns.columns.items held.values finished;
+      columns_are = λ kinds rows held. AreColumns-made c.args.homes.now kinds numbers rows drafts ranks c.in_ok-columns.columns.items held.values finished;
     }
 
 pub returns-clause-longest : goal.returns-clause-longest

@@ -18,34 +18,42 @@ use Rattle.shard_columns.specs.Counts.{most_values}
 use Rattle.shard_columns.specs.Dictionary.{words_of, longest_word}
 use Rattle.shard_columns.specs.Ends.{each, root_ends}
 use Rattle.shard_columns.specs.Built.{columns_from}
-use Rattle.shard_columns.proofs.Building.{AllFieldsBelow-given, total-values, sizes-stored}
+use Rattle.shard_columns.proofs.Building.{AllFieldsBelow-given, total-values}
 use Rattle.shard_columns.proofs.Enclosing.{all-rows-laid}
 use Rattle.shard_columns.proofs.Givens.{documents_given}
 use Rattle.shard_columns.proofs.Counting.{counts-placed, longest-at}
-use Rattle.shard_columns.proofs.Making.{values-laid, contexts-below, AreEnclosed-laid, dictionaries-are}
-use Rattle.shard_columns.proofs.Pushing.{flat-draft, count-laid, rows-draft, storable-draft}
-use Rattle.shard_columns.proofs.Weighing.{rows-light, longest-words}
+use Rattle.shard_columns.proofs.Making.{values-laid, AreEnclosed-laid, dictionaries-are}
+use Rattle.shard_columns.proofs.Pushing.{flat-draft, contexts-draft, few-draft, count-laid, rows-draft, storable-draft}
+use Rattle.shard_columns.proofs.Weighing.{longest-words}
 use Rattle.shard_columns.proofs.draft.ShardDraft.finish.Goals as goal
 
 pub store-requires : goal.store-requires
 store-requires c =
     let held = c.requires.1 in
-    record { kinds = c.args.self.kinds.items; rows = held.laid; count_is = c.len.ensures ∙ (count-laid c.args.mapping.now c.requires.0 c.args.self held); holds = held.holds }
+    record {
+      holds = record { kinds = c.args.self.kinds.items; rows = held.laid; count_is = c.in_ok-homes.ensures.sizes ∙ count-laid c.args.mapping.now c.requires.0 c.args.self held; holds = held.holds };
+      apart = c.in_ok-homes.ensures.apart;
+    }
+
+pub homes_of-requires : goal.homes_of-requires
+homes_of-requires c =
+    let m = c.args.mapping.now in
+    let documents = c.requires.0 in
+    let held = c.requires.1 in
+    let nested_size = ap length c.as_slice-nested.ensures in
+    let few = held.few in
+    record {
+      contexts = contexts-draft m documents c.args.self held (length c.as_slice-nested.result.now) nested_size;
+      few_contexts = omega (arith, few, nested_size);
+      few_rows = few-draft m documents c.args.self held;
+    }
 
 pub numbers_by_context-requires : goal.numbers_by_context-requires
 numbers_by_context-requires c =
     let m = c.args.mapping.now in
     let documents = c.requires.0 in
     let held = c.requires.1 in
-    let flat = flat-draft m documents c.args.self held in
-    let nested_size = ap length c.as_slice-nested.ensures in
-    record {
-      contexts =
-          (contexts-below (ids_of documents) held.laid c.args.self.rows (rows_of_documents documents) (length c.as_slice-nested.result.now + 1) held.entries flat
-          (λ n. omega (arith, (documents_given m documents held.few held.light held.fit).contexts n, nested_size)));
-      few = (let light = held.light in
-          omega (arith, light, rows-light (rows_of_documents documents), sizes-stored (ids_of documents) held.laid c.args.self.rows (rows_of_documents documents) held.entries flat));
-    }
+    record { contexts = contexts-draft m documents c.args.self held (length c.as_slice-nested.result.now) (ap length c.as_slice-nested.ensures); few = few-draft m documents c.args.self held }
 
 pub invariant_of-result : goal.invariant_of-result
 invariant_of-result c =
@@ -57,8 +65,8 @@ invariant_of-result c =
     let entries = draft.rows in
     let words = c.in_ok-stored.stored.words.items in
     let columns = c.in_ok-stored.stored.columns.items in
-    let values = row_values (by_words words) columns (length entries) in
-    let rows_are : placed draft.ids [] (zip entries values) ≡ rows_of_documents documents = rows-draft m documents draft words columns held stored in
+    let values = row_values c.in_ok-homes.homes (by_words words) columns (length entries) in
+    let rows_are : placed draft.ids [] (zip entries values) ≡ rows_of_documents documents = rows-draft m documents draft c.in_ok-homes.homes words columns held c.in_ok-homes.ensures.sizes stored in
     let given = documents_given m documents held.few held.light held.fit in
     let all : List PlacedRow = rows_of_documents documents in
     let kinds_are = held.kinds_are in
@@ -84,6 +92,7 @@ invariant_of-result c =
     record {
       columns = made.sound;
       typed = made.typed;
+      homed = c.in_ok-homes.ensures.sizes;
       column_sizes = made.sizes;
       numbered = subst (λ (n : ℕ). AreNumbered n entries c.in_ok-numbers.numbers.items) (let e : length c.as_slice-nested.result.now + 1 ≡ length c.in_ok-parents.parents.items + 1 = omega (arith, nested_size, parents_size) in e)
           c.in_ok-numbers.ensures;
@@ -106,7 +115,7 @@ pub returns : goal.returns
 returns c = λ documents held.
     let m = c.args.mapping.now in
     let draft = c.args.self in
-    let rows_are = rows-draft m documents draft c.in_ok-stored.stored.words.items c.in_ok-stored.stored.columns.items held c.in_ok-stored.ensures.stored in
+    let rows_are = rows-draft m documents draft c.in_ok-homes.homes c.in_ok-stored.stored.words.items c.in_ok-stored.stored.columns.items held c.in_ok-homes.ensures.sizes c.in_ok-stored.ensures.stored in
     let kinds_are = held.kinds_are in
     let contexts_are = c.in_ok-contexts.ensures ∙ ap (map (λ (f : _). f.context)) c.as_slice.ensures in
     let parents_are = c.in_ok-parents.ensures ∙ ap (map (λ (p : _). p.parent)) c.as_slice-nested.ensures in

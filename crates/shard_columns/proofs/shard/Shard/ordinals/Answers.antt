@@ -7,11 +7,14 @@ use Rattle.shard_columns.specs.Lent.{word_at}
 use Rattle.shard_columns.specs.Values.{Words, words_in}
 use Rattle.shard_columns.proofs.Presenting.{words-all}
 use Rattle.shard_columns.proofs.Ranking.{map-after}
-use Rattle.shard_columns.proofs.Reading.{column-sound, ordinals-lent, words-are, of-kind, no-column}
+use Rattle.shard_columns.proofs.Reading.{home-in, column-sound, ordinals-lent, words-are, of-kind, no-column}
 use Rattle.shard_columns.proofs.shard.Shard.ordinals.Goals as goal
 
 pub ordinals_at-requires : goal.ordinals_at-requires
-ordinals_at-requires c = column-sound c.self.inside c.args.self.now c.self.view_is c.self.invariant c.args.row c.args.field c.as_slice.result.now c.in-Some.column.now c.requires c.as_slice.ensures.value c.in-Some.ensures.some
+ordinals_at-requires c = record {
+  sound = column-sound c.self.inside c.args.self.now c.self.view_is c.self.invariant c.args.row c.args.field c.as_slice.result.now c.in-Some.column.now c.requires c.as_slice.ensures.value c.in-Some.ensures.some;
+  in_range = home-in c.self.inside c.args.self.now c.self.view_is c.self.invariant c.args.row c.requires;
+}
 
 pub returns-in-Some-clause-exact : goal.returns-in-Some-clause-exact
 returns-in-Some-clause-exact c =

@@ -5,11 +5,17 @@ use Rattle.agg_model.specs.declared.row.Scalar.TheVariants.{Whole}
 use Rattle.shard_columns.specs.Cell.{scalar_of}
 use Rattle.shard_columns.specs.Values.{Words, shown, typed_len}
 use Rattle.shard_columns.specs.declared.values.Span.{Span}
-use Rattle.shard_columns.proofs.Reading.{place-low, whole-at, flag-at, word-at, no-column}
+use Rattle.shard_columns.proofs.Reading.{column-sound, home-in, place-low, whole-at, flag-at, word-at, no-column}
 use Rattle.shard_columns.proofs.shard.Shard.value.Goals as goal
 
 pub unreachable-requires : goal.unreachable-requires
 unreachable-requires c = omega (arith, c.requires.there, ap length (no-column c.self.inside c.args.self.now c.self.view_is c.self.invariant c.args.row c.args.field c.as_slice.result.now c.requires.in_range c.as_slice.ensures.value c.in-None.ensures.none))
+
+pub span_at-span-requires : goal.span_at-span-requires
+span_at-span-requires c = record {
+  sound = column-sound c.self.inside c.args.self.now c.self.view_is c.self.invariant c.args.row c.args.field c.as_slice.result.now c.in-Some.column.now c.requires.in_range c.as_slice.ensures.value c.in-Some.ensures.some;
+  in_range = home-in c.self.inside c.args.self.now c.self.view_is c.self.invariant c.args.row c.requires.in_range;
+}
 
 pub index-requires : goal.index-requires
 index-requires c = omega (arith, place-low c.self.inside c.args.self.now c.self.view_is c.self.invariant c.args.row c.args.field c.as_slice.result.now c.in-Some.column.now c.requires.in_range c.as_slice.ensures.value c.in-Some.ensures.some c.args.place c.requires.there, ap typed_len c.in-Wholes.is, ap (λ (s : Span). s.start) c.span_at-span.ensures, c.in-Wholes.numbers.ok.0)
