@@ -3,3 +3,4 @@ pub mod Apart
 pub mod Chosen
 pub mod Intervals
 pub mod Steps
+pub mod Ends

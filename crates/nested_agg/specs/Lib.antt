@@ -1,2 +1,3 @@
 -- Rows by nesting.
 pub mod Nesting
+pub mod Ends

@@ -7,5 +7,5 @@ mod beneath;
 mod nesting;
 
 pub use around::rows_around;
-pub use beneath::rows_beneath;
+pub use beneath::{Beneath, beneath_each, rows_beneath};
 pub use nesting::under;
