@@ -1,4 +1,4 @@
--- The words that are met in rows: each word of a field has a number of its own, and later its place in a dictionary.
+-- The words that are met in rows: each number is that of one word of one field, and later the place of that word in a dictionary.
 use Rattle.std.specs.Prelude.{◌≡◌, ◌≢◌, ◌⊎◌, ◌∷◌, ◌++◌, ℕ, ◌+◌, ◌<◌, ◌==◌, if◌then◌else◌, List, [], length, slice_index_or, slice_get, flat_map, Some, Contains}
 use Rattle.std.specs.Ordering.{nat_cmp}
 use Rattle.std.specs.Cmp.Lexicographic.{slice_cmp}
