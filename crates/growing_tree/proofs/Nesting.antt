@@ -22,7 +22,9 @@ use Rattle.growing_tree.specs.Decoded.{decoded}
 use Rattle.growing_tree.specs.Gathered.{decoders, key_at, shown_children}
 use Rattle.growing_tree.specs.GatheredEach.{AreRises, after_each, cost_after, gathered_one}
 use Rattle.growing_tree.specs.Shown.{HasGathered, fixed_buckets}
-use Rattle.growing_tree.specs.Steady.{AreSteady, GrowsAlone, IsSteady, lone, lone_node, side_by_side, side_cost}
+use Rattle.growing_tree.specs.LoneBuckets.{GrowsAlone, lone, lone_node}
+use Rattle.growing_tree.specs.SideBySide.{side_by_side, side_cost}
+use Rattle.growing_tree.specs.Steady.{AreSteady, IsSteady}
 use Rattle.growing_tree.specs.Trees.{numbered_buckets}
 use Rattle.growing_tree.specs.declared.ready.Ready.{Ready, out-Ready}
 use Rattle.growing_tree.specs.declared.tree.Growing.{Growing}

@@ -13,7 +13,8 @@ use Rattle.agg_evaluation.specs.Cost.{node_cost}
 use Rattle.agg_evaluation.specs.Rows.{PlacedRow}
 use Rattle.growth_laws.specs.Gathering.{Gatherer, gathered_children}
 use Rattle.growing_tree.specs.GatheredEach.{AreRises, after_each}
-use Rattle.growing_tree.specs.Steady.{AreSimple, AreSteady, IsSteady, is_simple, side_by_side}
+use Rattle.growing_tree.specs.SideBySide.{side_by_side}
+use Rattle.growing_tree.specs.Steady.{AreSimple, AreSteady, IsSteady, is_simple}
 use Rattle.growing_tree.specs.declared.ready.Ready.{Ready}
 use Rattle.growing_tree.proofs.Steps.{take-more}
 

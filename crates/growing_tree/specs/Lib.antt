@@ -14,6 +14,8 @@ pub mod Gathered
 pub mod Placements
 pub mod GatheredEach
 pub mod Steady
+pub mod SideBySide
+pub mod LoneBuckets
 pub mod Finished
 pub mod Frequent
 pub mod Starting

@@ -1,9 +1,10 @@
 //! Rows that go one after another into the tree of a nested aggregation: all that lie beneath them go into its one bucket
 //! together, where the trees below take rows in steps as at once.
-ghost use Rattle.std.specs.Prelude.{◌≡◌, ◌<◌, ◌≤◌, ◌+◌, ℕ, All, IfOk, IsTrue, OnOk, length, replicate};
+ghost use Rattle.std.specs.Prelude.{◌≡◌, ◌<◌, ◌+◌, ℕ, All, IfOk, IsTrue, OnOk, length, replicate};
 ghost use Rattle.agg_model.specs.declared.aggregation.Agg.{out-Agg};
 ghost use Rattle.agg_model.specs.declared.aggregation.Kind.TheVariants.{Nested as NestedKind};
 ghost use Rattle.agg_evaluation.specs.Counted.{IsApart};
+ghost use Rattle.nested_agg.specs.Ends.{AreEnds};
 ghost use Rattle.shard_columns.specs.Built.{IsShard};
 ghost use Rattle.growth_laws.specs.Gathering.{gathered};
 ghost use Rattle.growing_tree.specs.Decoded.{decoded};
@@ -11,7 +12,9 @@ ghost use Rattle.growing_tree.specs.Gathered.{decoders, gatherers, rows_at, show
 ghost use Rattle.growing_tree.specs.GatheredEach.{AreRises, after_each, cost_after, gathered_one};
 ghost use Rattle.growing_tree.specs.Readiness.{AreReadyFor, IsReadyFor};
 ghost use Rattle.growing_tree.specs.Shown.{HasGathered};
-ghost use Rattle.growing_tree.specs.Steady.{AreCharges, AreSimple, AreSteady, GrowsAlone, IsSteady, beneath_first, is_simple as is_simple_agg, side_by_side, side_cost};
+ghost use Rattle.growing_tree.specs.LoneBuckets.{GrowsAlone};
+ghost use Rattle.growing_tree.specs.SideBySide.{AreCharges, side_by_side, side_cost};
+ghost use Rattle.growing_tree.specs.Steady.{AreSimple, AreSteady, IsSteady, is_simple as is_simple_agg};
 ghost use Rattle.growing_tree.specs.Trees.{IsAligned, level_node};
 ghost use Rattle.growing_tree.specs.declared.ready.Ready.{out-Ready};
 
@@ -21,11 +24,11 @@ use crate::ready::{Ready, ReadyKind};
 use crate::sums::sum;
 use crate::tree::{Growing, Level, Tree};
 use agg_model::{Agg, List};
-use nested_agg::rows_beneath;
+use nested_agg::beneath_each;
 use shard_columns::Shard;
 use std::alloc::{AllocError, Global};
 
-// So many rows at most go in together: while they do, each takes up to 28 bytes that no breaker counts.
+// So many rows at most go in together: while they do, each takes up to 28 bytes, and each row above them 8, that no breaker counts.
 const MOST_TOGETHER: usize = 65_536;
 
 // Whether the tree of the aggregation takes rows in steps as at once: a metric does, and keys with metrics below.
@@ -233,9 +236,11 @@ fn gather_in_level(
 
 // The sum of the amounts of rows that lie one after another.
 fn total(amounts: &[u64], start: usize, end: usize) -> Result<u64, AllocError>
-    requires ordered { start ≤ end }
     ensures { IfOk result (λ total. (cost_at : ℕ → ℕ) → AreCharges cost_at amounts.now → cost_at end ≡ cost_at start + total) }
 {
+    if start > end {
+        return Err(AllocError);
+    }
     let mut total = 0;
     for place in start..end {
         if place >= amounts.len() {
@@ -246,30 +251,15 @@ fn total(amounts: &[u64], start: usize, end: usize) -> Result<u64, AllocError>
     Ok(total)
 }
 
-// Where so many items end that begin at a place.
-fn end_after(start: usize, count: usize) -> Result<usize, AllocError>
-    ensures { IfOk result (λ end. end ≡ start + count) }
-{
-    start.checked_add(count).ok_or(AllocError)
-}
-
-// Adds to the number of each row the amounts of the rows beneath it.
-fn share_out(
-    shard: &Shard,
-    path: u32,
-    rows: &[u32],
-    amounts: &[u64],
-    added: &mut Vec<u64>,
-) -> Result<(), AllocError>
-    requires in_range { All (λ n. n < length shard.now.rows) rows.now }
-    requires many { length added.old.items ≡ length rows.now }
-    ensures rises { OnOk result ((cost_at : ℕ → ℕ) → AreCharges cost_at amounts.now →
-        AreRises (λ n. cost_at (length (beneath_first shard.now.rows (path + 1) (rows_at shard.now rows.now) n)))
-        (length rows.now) added.old.items added.new.items) }
+// Adds to each number the amounts of a part of the list, which begins where the part before it ends.
+fn share_out(ends: &[usize], amounts: &[u64], added: &mut Vec<u64>) -> Result<(), AllocError>
+    requires many { length added.old.items ≡ length ends.now }
+    ensures rises { OnOk result ((cost_at end_of : ℕ → ℕ) → AreCharges cost_at amounts.now → AreEnds end_of ends.now →
+        AreRises (λ n. cost_at (end_of n)) (length ends.now) added.old.items added.new.items) }
 {
     let mut start: usize = 0;
-    for place in 0..rows.len() {
-        let end = end_after(start, shard.children(rows[place], path).len())?;
+    for place in 0..ends.len() {
+        let end = ends[place];
         let more = total(amounts, start, end)?;
         let next = sum(added[place], more)?;
         added[place] = next;
@@ -311,18 +301,18 @@ pub(crate) fn gather_beneath(
         (cost_after (gathered_one shard.now.rows agg.now) (rows_at shard.now rows.now) (decoded shard.now ready.now tree.old))
         (length rows.now) added.old.items added.new.items) }
 {
-    let inner = rows_beneath(alloc, shard, path, rows)?;
-    let mut amounts = zeros(alloc, inner.len())?;
+    let inner = beneath_each(alloc, shard, path, rows)?;
+    let mut amounts = zeros(alloc, inner.rows.len())?;
     gather_in_level(
         alloc,
         agg,
         ready,
         shard,
-        inner.as_slice(),
+        inner.rows.as_slice(),
         spare,
         &mut tree.level,
         &mut amounts,
     )?;
-    share_out(shard, path, rows, amounts.as_slice(), added)?;
+    share_out(inner.ends.as_slice(), amounts.as_slice(), added)?;
     Ok(())
 }

@@ -7,7 +7,8 @@ use Rattle.growth_laws.specs.Gathering.{gatherer_of}
 use Rattle.growing_tree.specs.Decoded.{decoded}
 use Rattle.growing_tree.specs.Gathered.{decoders, gatherers, rows_at, shown_children}
 use Rattle.growing_tree.specs.GatheredEach.{AreRises, after_each, cost_after, gathered_one}
-use Rattle.growing_tree.specs.Steady.{AreSteady, side_by_side, side_cost}
+use Rattle.growing_tree.specs.SideBySide.{side_by_side, side_cost}
+use Rattle.growing_tree.specs.Steady.{AreSteady}
 use Rattle.growing_tree.proofs.Children.{decoded-get, decoded-set, take-full}
 use Rattle.growing_tree.proofs.Rises.{rises-level}
 use Rattle.growing_tree.proofs.Steady.{both-rise, one-more-steady, side-cost, side-kept, side-more, side-none}
@@ -25,30 +26,23 @@ loop-place-init c =
       steady = tt;
     }
 
-pub gather_simple-requires-clause-ready : goal.gather_simple-requires-clause-ready
-gather_simple-requires-clause-ready c =
+pub gather_simple-requires : goal.gather_simple-requires
+gather_simple-requires c =
     let place = c.loop-place.place in
     let a = c.index-as_slice-place.result in
     let r = c.index-as_slice-place-in-loop-place.result in
     let below : place < length c.args.aggs.now = omega (arith, c.loop-place-test.true, c.len-place-end.ensures) in
     let within : place < length c.args.ready.now = omega (arith, c.if-place-len.false, c.len.ensures) in
-    let a_get = c.index-as_slice-place.is ∙ ap (λ xs. get_or xs place a) c.as_slice.ensures in
-    let r_get = c.index-as_slice-place-in-loop-place.is ∙ ap (λ xs. get_or xs place r) c.as_slice-in-loop-place.ensures in
-    c.requires.ready place a r (item-at c.args.aggs.now place a below a_get) (item-at c.args.ready.now place r within r_get)
-
-pub gather_simple-requires-clause-simple : goal.gather_simple-requires-clause-simple
-gather_simple-requires-clause-simple c =
-    let place = c.loop-place.place in
-    let a = c.index-as_slice-place.result in
-    let r = c.index-as_slice-place-in-loop-place.result in
-    let below : place < length c.args.aggs.now = omega (arith, c.loop-place-test.true, c.len-place-end.ensures) in
-    let within : place < length c.args.ready.now = omega (arith, c.if-place-len.false, c.len.ensures) in
-    let a_get = c.index-as_slice-place.is ∙ ap (λ xs. get_or xs place a) c.as_slice.ensures in
-    let r_get = c.index-as_slice-place-in-loop-place.is ∙ ap (λ xs. get_or xs place r) c.as_slice-in-loop-place.ensures in
-    c.requires.simple place a r (item-at c.args.aggs.now place a below a_get) (item-at c.args.ready.now place r within r_get)
-
-pub gather_simple-requires-clause-many : goal.gather_simple-requires-clause-many
-gather_simple-requires-clause-many c = c.loop-place.invariant.rises.many ∙ c.requires.many
+    let a_get = item-at c.args.aggs.now place a below (c.index-as_slice-place.is ∙ ap (λ xs. get_or xs place a) c.as_slice.ensures) in
+    let r_get = item-at c.args.ready.now place r within (c.index-as_slice-place-in-loop-place.is ∙ ap (λ xs. get_or xs place r) c.as_slice-in-loop-place.ensures) in
+    record {
+      ready = c.requires.ready place a r a_get r_get;
+      simple = c.requires.simple place a r a_get r_get;
+      built = c.requires.built;
+      apart = c.requires.apart;
+      in_range = c.requires.in_range;
+      many = c.loop-place.invariant.rises.many ∙ c.requires.many;
+    }
 
 pub loop-place-preserved : goal.loop-place-preserved
 loop-place-preserved c =
@@ -83,26 +77,15 @@ loop-place-preserved c =
       steady = subst (λ m. AreSteady (take m gs) ns) (sym (add-one i)) (one-more-steady gs ns i g (d old) g_is n_is c.loop-place.invariant.steady c.in_ok-gather_simple.ensures.steady);
     }
 
-pub returns-clause-trees : goal.returns-clause-trees
-returns-clause-trees c =
+pub returns : goal.returns
+returns c =
     let shard = c.args.shard.now in
-    let gs = gatherers shard c.args.aggs.now in
+    let rows = rows_at shard c.args.rows.now in
+    let ns = shown_children shard c.args.ready.now c.args.children.now.items in
     let many = length-map c.args.aggs.now (gatherer_of shard.rows) in
-    c.loop-place.invariant.trees
-    ∙ ap (λ hs. after_each (side_by_side hs) (rows_at shard c.args.rows.now) (shown_children shard c.args.ready.now c.args.children.now.items)) (take-full gs c.loop-place.place (omega (arith, many, c.loop-place-test.false, c.len-place-end.ensures)))
-
-pub returns-clause-rises : goal.returns-clause-rises
-returns-clause-rises c =
-    let shard = c.args.shard.now in
-    let gs = gatherers shard c.args.aggs.now in
-    let many = length-map c.args.aggs.now (gatherer_of shard.rows) in
-    subst (λ hs. AreRises (side_cost hs (rows_at shard c.args.rows.now) (shown_children shard c.args.ready.now c.args.children.now.items)) (length c.args.rows.now) c.args.added.now.items c.loop-place.added.items)
-    (take-full gs c.loop-place.place (omega (arith, many, c.loop-place-test.false, c.len-place-end.ensures))) c.loop-place.invariant.rises
-
-pub returns-clause-steady : goal.returns-clause-steady
-returns-clause-steady c =
-    let shard = c.args.shard.now in
-    let gs = gatherers shard c.args.aggs.now in
-    let many = length-map c.args.aggs.now (gatherer_of shard.rows) in
-    subst (λ hs. AreSteady hs (shown_children shard c.args.ready.now c.args.children.now.items))
-    (take-full gs c.loop-place.place (omega (arith, many, c.loop-place-test.false, c.len-place-end.ensures))) c.loop-place.invariant.steady
+    let all = take-full (gatherers shard c.args.aggs.now) c.loop-place.place (omega (arith, many, c.loop-place-test.false, c.len-place-end.ensures)) in
+    record {
+      trees = c.loop-place.invariant.trees ∙ ap (λ hs. after_each (side_by_side hs) rows ns) all;
+      rises = subst (λ hs. AreRises (side_cost hs rows ns) (length c.args.rows.now) c.args.added.now.items c.loop-place.added.items) all c.loop-place.invariant.rises;
+      steady = subst (λ hs. AreSteady hs ns) all c.loop-place.invariant.steady;
+    }

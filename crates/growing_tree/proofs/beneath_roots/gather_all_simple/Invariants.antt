@@ -1,7 +1,8 @@
 use Rattle.std.proofs.Common.{◌≡◌, length, take}
 use Rattle.growing_tree.specs.Gathered.{gatherers, rows_at, shown_children}
 use Rattle.growing_tree.specs.GatheredEach.{AreRises, after_each}
-use Rattle.growing_tree.specs.Steady.{AreSteady, side_by_side, side_cost}
+use Rattle.growing_tree.specs.SideBySide.{side_by_side, side_cost}
+use Rattle.growing_tree.specs.Steady.{AreSteady}
 use Rattle.growing_tree.proofs.beneath_roots.gather_all_simple.Given as goal
 
 abbrev pub invariant-loop-place : goal.invariant-loop-place

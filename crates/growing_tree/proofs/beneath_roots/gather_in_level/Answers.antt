@@ -7,7 +7,8 @@ use Rattle.agg_evaluation.specs.Rows.{row_of}
 use Rattle.growing_tree.specs.Decoded.{decoded}
 use Rattle.growing_tree.specs.Gathered.{gatherers, rows_at, shown_children}
 use Rattle.growing_tree.specs.GatheredEach.{AreRises}
-use Rattle.growing_tree.specs.Steady.{GrowsAlone, side_cost}
+use Rattle.growing_tree.specs.LoneBuckets.{GrowsAlone}
+use Rattle.growing_tree.specs.SideBySide.{side_cost}
 use Rattle.growing_tree.specs.Trees.{level_node, numbered_buckets}
 use Rattle.growing_tree.specs.declared.ready.Ready.{out-Ready}
 use Rattle.growing_tree.specs.declared.tree.Level.{Level}

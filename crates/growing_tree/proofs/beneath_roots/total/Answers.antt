@@ -2,7 +2,7 @@ use Rattle.std.proofs.Common.{◌≡◌, ◌<◌, ◌∙◌, sym, ap, arith, len
 use Rattle.growing_tree.proofs.beneath_roots.total.Goals as goal
 
 pub loop-place-init : goal.loop-place-init
-loop-place-init c = record { ordered = c.requires.ordered; costs = λ cost_at h. omega arith }
+loop-place-init c = record { ordered = omega (arith, c.if-start-end.false); costs = λ cost_at h. omega arith }
 
 pub loop-place-preserved : goal.loop-place-preserved
 loop-place-preserved c =

@@ -1,5 +1,5 @@
 use Rattle.std.proofs.Common.{◌≡◌, ◌≤◌, ◌+◌, ℕ}
-use Rattle.growing_tree.specs.Steady.{AreCharges}
+use Rattle.growing_tree.specs.SideBySide.{AreCharges}
 use Rattle.growing_tree.proofs.beneath_roots.total.Given as goal
 
 abbrev pub invariant-loop-place : goal.invariant-loop-place
