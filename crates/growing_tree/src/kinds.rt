@@ -133,7 +133,6 @@ pub fn row_codes(
 
 /// The code of the row's one key, where that is told without a list; `Some(None)` says that the row has no key. Of another row
 /// nothing is said: it has the codes that `row_codes` gives. Time is constant.
-#[inline(always)]
 pub(crate) fn lone_code(
     shard: &Shard,
     kind: &Kind,
@@ -220,7 +219,6 @@ fn is_metric_kind(kind: &Kind) -> bool
 }
 
 /// The values of one more row.
-#[inline(always)]
 pub(crate) fn take_row(
     kind: &Kind,
     shard: &Shard,

@@ -41,7 +41,6 @@ pub(crate) struct Spot {
 
 /// The place of the bucket of a code, which is begun without rows where there was none. Whatever rows are still to go into the
 /// buckets, one more that goes to this place is in the bucket of the code.
-#[inline(always)]
 pub(crate) fn place_for(
     agg: &Agg,
     ready: &Ready,

@@ -53,5 +53,5 @@ returns c =
           (subst (λ m. AreRises (λ n. cost_at (end_of n)) m c.args.added.now.items c.share_out.new.added.items) as_many shared));
     }
 
-pub share_out-requires-clause-many : goal.share_out-requires-clause-many
-share_out-requires-clause-many c = c.requires.many ∙ sym (ap length c.as_slice-2.ensures.value ∙ c.in_ok-inner.ensures.many)
+pub share_out-requires : goal.share_out-requires
+share_out-requires c = record { many = c.requires.many ∙ sym (ap length c.as_slice-2.ensures.value ∙ c.in_ok-inner.ensures.many) }

@@ -18,13 +18,12 @@ loop-place-preserved c =
     let more = c.in_ok-more.more in
     let below : i < length ends = omega (arith, c.loop-place-test.true) in
     let within : i < length now = omega (arith, c.loop-place.invariant.many, c.requires.many, below) in
-    let end_is = get_or_read ends i c.index-ends-place.result below c.index-ends-place.is 0 in
     record {
-      start = λ end_of are. end_is ∙ are.each i below;
+      start = λ end_of are. are.each i below;
       many = length-set now i c.in_ok-next.next ∙ c.loop-place.invariant.many;
       rising = λ cost_at end_of h are.
           rising-more (λ n. cost_at (end_of n)) i more c.in_ok-next.next c.args.added.now.items now (c.loop-place.invariant.rising cost_at end_of h are) within
-          (ap cost_at (sym (are.each i below) ∙ sym end_is) ∙ c.in_ok-more.ensures cost_at h ∙ ap (λ m. cost_at m + more) (c.loop-place.invariant.start end_of are))
+          (ap cost_at (sym (are.each i below)) ∙ c.in_ok-more.ensures cost_at h ∙ ap (λ m. cost_at m + more) (c.loop-place.invariant.start end_of are))
           (c.in_ok-next.ensures ∙ ap (λ (k : ℕ). k + more) (get_or_read now i c.index.result.now within c.index.ensures 0));
     }
 
