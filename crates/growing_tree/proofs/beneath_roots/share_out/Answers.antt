@@ -1,4 +1,4 @@
-use Rattle.std.proofs.Common.{◌≡◌, ◌<◌, ◌+◌, ◌∙◌, ℕ, sym, ap, arith, refl, get_or, length}
+use Rattle.std.proofs.Common.{◌<◌, ◌+◌, ◌∙◌, ℕ, sym, ap, arith, refl, length}
 use Rattle.std.proofs.lemmas.List.{get_or_read, length-set}
 use Rattle.growing_tree.proofs.Rises.{all-rose, rising-more, rising-none}
 use Rattle.growing_tree.proofs.beneath_roots.share_out.Goals as goal
