@@ -1,8 +1,9 @@
 //! The rows that an aggregation hands on to its children, and how many paths of keys lead to each.
-ghost use Rattle.std.specs.Prelude.{◌≡◌, IfOk, IsTrue, length, true};
+ghost use Rattle.std.specs.Prelude.{◌≡◌, ◌+◌, IfOk, IsTrue, length, true};
 ghost use Rattle.agg_cost.specs.Paths.{reached_by, AreAlike, AreBelow};
 ghost use Rattle.agg_cost.specs.Staying.{stays};
 ghost use Rattle.agg_evaluation.specs.Ceiling.{handed_on};
+ghost use Rattle.agg_model.specs.declared.aggregation.Kind.TheVariants.{Nested as NestedKind};
 ghost use Rattle.agg_evaluation.specs.Counted.{IsApart};
 ghost use Rattle.filters_agg.specs.Filtering.{IsMadeFor};
 ghost use Rattle.nested_agg.specs.Nesting.{goes_by_nesting};
@@ -35,6 +36,27 @@ fn by_keys(
     for from in reached {
         let keys = key_count(shard, kind, &counter, from.row);
         put(&mut found, from.row, from.paths.saturating_mul(keys))?;
+    }
+    Ok(found)
+}
+
+// Each path to a row goes on to each row at a nested path within it.
+fn by_path(
+    alloc: Global,
+    shard: &Shard,
+    path: u32,
+    reached: &[RowPaths],
+) -> Result<Vec<RowPaths>, AllocError>
+    requires in_range { AreBelow (length shard.now.rows) reached.now }
+    ensures paths { IfOk result (λ found. AreAlike (reached_by shard.now.rows found.items)
+        (handed_on shard.now.kinds shard.now.rows (NestedKind (path + 1)) (reached_by shard.now.rows reached.now))) }
+    ensures in_range { IfOk result (λ found. AreBelow (length shard.now.rows) found.items) }
+{
+    let mut found = Vec::new(alloc);
+    for from in reached {
+        for row in shard.children(from.row, path) {
+            put(&mut found, *row, from.paths)?;
+        }
     }
     Ok(found)
 }
@@ -83,7 +105,8 @@ pub fn hand_on(
     ensures in_range { IfOk result (λ found. AreBelow (length shard.now.rows) found.items) }
 {
     match kind {
-        Kind::Nested { .. } | Kind::ReverseNested { .. } => by_nesting(alloc, shard, kind, reached),
+        Kind::Nested { context } => by_path(alloc, shard, *context - 1, reached),
+        Kind::ReverseNested { .. } => by_nesting(alloc, shard, kind, reached),
         Kind::Terms { .. }
         | Kind::Histogram { .. }
         | Kind::Filters { .. }
