@@ -1,5 +1,5 @@
 -- The conditions of the crates of the kinds hold of a kind that is made for the mapping of the shard.
-use Rattle.std.proofs.Common.{◌≡◌, refl, ℕ, zero, suc, ◌<◌, Bool, true, false, List, [], ◌∷◌, length, sym, ◌∙◌, ap, subst, arith}
+use Rattle.std.proofs.Common.{◌≡◌, refl, ℕ, zero, suc, ◌<◌, ◌≤◌, Bool, true, false, List, [], ◌∷◌, length, sym, ◌∙◌, ap, subst, arith}
 use Rattle.std.specs.Prelude.{◌&&◌, ◌^◌, nat_le, nat_lt, Option, Some, None, IfSome, option_to_list, slice_get}
 use Rattle.std.specs.List.{list_all}
 use Rattle.std.specs.Option.{option_map_or}
@@ -157,3 +157,8 @@ module _ (shard : Columns) where
   pub nested-goes : (context : ℕ) → IsMadeFor shard (kind.Nested context) → goes_by_nesting (kind.Nested context) ≡ true
   nested-goes zero made = ∥∥₁_elim made (Bool-set _ _) (λ found. found.1.1.1.1.1)
   nested-goes (suc path) made = refl
+
+  -- never to the roots, so there is a path
+  pub nested-above : (context : ℕ) → IsMadeFor shard (kind.Nested context) → 1 ≤ context
+  nested-above zero made = absurd (false≢true (nested-goes zero made))
+  nested-above (suc path) made = omega arith

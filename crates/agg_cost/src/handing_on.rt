@@ -105,7 +105,10 @@ pub fn hand_on(
     ensures in_range { IfOk result (λ found. AreBelow (length shard.now.rows) found.items) }
 {
     match kind {
-        Kind::Nested { context } => by_path(alloc, shard, *context - 1, reached),
+        Kind::Nested { context } => {
+            let path = *context - 1;
+            by_path(alloc, shard, path, reached)
+        }
         Kind::ReverseNested { .. } => by_nesting(alloc, shard, kind, reached),
         Kind::Terms { .. }
         | Kind::Histogram { .. }

@@ -1,4 +1,4 @@
-use Rattle.std.proofs.Common.{◌≡◌, ◌+◌, true, append-nil, length, map, take, get_or, sym, ◌∙◌, ap, add-one, refl}
+use Rattle.std.proofs.Common.{◌≡◌, ◌+◌, true, append-nil, length, take, get_or, sym, ◌∙◌, ap, add-one, refl}
 use Rattle.agg_model.specs.declared.aggregation.Kind.TheVariants as kind
 use Rattle.agg_evaluation.specs.Rows.{beneath, row_of}
 use Rattle.nested_agg.specs.Nesting.{goes_by_nesting}
