@@ -4,6 +4,7 @@
 
 mod code_sets;
 mod content;
+mod counts;
 mod included;
 mod prepared;
 mod preparing;
@@ -12,6 +13,7 @@ mod row_keys;
 mod row_values;
 mod trimming;
 
+pub use counts::Counts;
 pub use prepared::{
     PreparedTerms, code_count, codes_have_keys_of_their_own, has_key, key, key_bytes,
 };
