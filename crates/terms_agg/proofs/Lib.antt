@@ -1,5 +1,6 @@
 pub mod Ascending
 pub mod Coding
+pub mod Counting
 pub mod LastLaws
 pub mod Lending
 pub mod Made
@@ -7,6 +8,7 @@ pub mod NextCode
 pub mod Probing
 pub mod Readiness
 pub mod Rising
+pub mod RowCounting
 pub mod Standing
 pub mod TrimLaws
 pub mod Values
