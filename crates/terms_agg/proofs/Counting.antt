@@ -1,6 +1,6 @@
 -- Counters of words, raised one word after another.
-use Rattle.std.proofs.Common.{◌≡◌, refl, ℕ, ◌+◌, ◌<◌, zero, suc, Bool, true, false, T, cond, List, [], ◌∷◌, ◌++◌, length, map, filter, get_or, sym, ◌∙◌, ap, subst, arith, zero-add}
-use Rattle.std.specs.Prelude.{◌||◌, not, sum_by, slice_set}
+use Rattle.std.proofs.Common.{◌≡◌, refl, ℕ, ◌+◌, ◌<◌, zero, suc, Bool, true, false, cond, List, [], ◌∷◌, ◌++◌, length, filter, take, get_or, sym, ◌∙◌, ap, arith, zero-add}
+use Rattle.std.specs.Prelude.{replicate, ◌||◌, not, sum_by, slice_set}
 use Rattle.std.specs.List.{AllByRecursion}
 use Rattle.std.specs.List.Sorted.{IsStrictlySortedBy}
 use Rattle.std.specs.declared.cmp.Ordering.{Ordering}
@@ -22,10 +22,10 @@ use Rattle.shard_columns.specs.Values.{Words}
 use Rattle.terms_agg.specs.Counts.{word_key, counted, is_counted, bucket_bytes, new_bucket_bytes}
 
 -- each word comes before those after it
-abbrev Strict : Words → Type 0
+abbrev pub Strict : Words → Type 0
 Strict = IsStrictlySortedBy (slice_cmp nat_cmp)
 
-abbrev IsBefore : List ℕ → Words → Type 0
+abbrev pub IsBefore : List ℕ → Words → Type 0
 IsBefore w ws = AllByRecursion (λ v. slice_cmp nat_cmp w v ≡ Less) ws
 
 pub word_cmp : (v w : List ℕ) → key_cmp (Word v) (Word w) ≡ slice_cmp nat_cmp v w
@@ -69,7 +69,13 @@ counted-raised (w ∷ ws) (suc n ∷ cs) (suc o) strict long below =
     let k = word_key ws o in
     ap (λ (rest : List (Key × ℕ)). (Word w, suc n) ∷ rest) (counted-raised ws cs o strict.1 (omega (arith, long)) (omega (arith, below)))
     ∙ ap (λ (r : Ordering). put_by r k (Word w, suc n) (counted ws cs) (raised k (counted ws cs)))
-      (sym (behind w (get_or ws o []) (before-at w ws o strict.0 (omega (arith, below)))))
+    (sym (behind w (get_or ws o []) (before-at w ws o strict.0 (omega (arith, below)))))
+
+-- no word is counted at first
+pub counted-zeros : (ws : Words) (n : ℕ) → counted ws (replicate n 0) ≡ []
+counted-zeros [] n = refl
+counted-zeros (w ∷ ws) zero = refl
+counted-zeros (w ∷ ws) (suc n) = counted-zeros ws n
 
 -- a word that stands before others has no counter among theirs
 no-counter : (w : List ℕ) (ws : Words) (cs : List ℕ) → IsBefore w ws → is_counted (counted ws cs) (Word w) ≡ false
@@ -78,7 +84,8 @@ no-counter w (v ∷ vs) [] h = refl
 no-counter w (v ∷ vs) (zero ∷ cs) h = no-counter w vs cs h.1
 no-counter w (v ∷ vs) (suc n ∷ cs) h = ap (λ (r : Ordering). is_eq r || is_counted (counted vs cs) (Word w)) (word_cmp w v ∙ h.0) ∙ no-counter w vs cs h.1
 
-abbrev is_above_zero : ℕ → Bool
+-- whether a counter is not 0
+abbrev pub is_above_zero : ℕ → Bool
 is_above_zero zero = false
 is_above_zero (suc n) = true
 
@@ -145,4 +152,37 @@ bytes-last cs ks k absent =
     ap (sum_by bucket_bytes) (filter-append (λ q. not (is_counted cs q)) ks (k ∷ []))
     ∙ (sum_by-append bucket_bytes (filter (λ q. not (is_counted cs q)) ks) (filter (λ q. not (is_counted cs q)) (k ∷ []))
     ∙ ap (λ (b : Bool). new_bucket_bytes cs ks + sum_by bucket_bytes (cond (not b) (k ∷ []) []))
-      (sym (has-raised_by k ks cs ∙ ap (λ (b : Bool). b || is_counted cs k) absent)))
+    (sym (has-raised_by k ks cs ∙ ap (λ (b : Bool). b || is_counted cs k) absent)))
+
+none-counted : (ws : Words) (cs : List ℕ) → counted (take 0 ws) cs ≡ []
+none-counted [] cs = refl
+none-counted (w ∷ ws) cs = refl
+
+after : (n : ℕ) → suc n + 1 ≡ suc (n + 1)
+after n = omega arith
+
+-- one more word, whose counter is not 0
+pub counted-more : (ws : Words) (cs : List ℕ) (n : ℕ) → length cs ≡ length ws → n < length ws → 0 < get_or cs n 0
+    → counted (take (n + 1) ws) cs ≡ counted (take n ws) cs ++ (word_key ws n, get_or cs n 0) ∷ []
+counted-more [] cs n long below above = absurd (omega (arith, below))
+counted-more (w ∷ ws) [] n long below above = absurd (omega (arith, long))
+counted-more (w ∷ ws) (zero ∷ cs) zero long below above = absurd (omega (arith, above))
+counted-more (w ∷ ws) (suc c ∷ cs) zero long below above = ap (λ (rest : List (Key × ℕ)). (Word w, suc c) ∷ rest) (none-counted ws cs)
+counted-more (w ∷ ws) (zero ∷ cs) (suc n) long below above =
+    ap (λ (m : ℕ). counted (take m (w ∷ ws)) (zero ∷ cs)) (after n) ∙ counted-more ws cs n (omega (arith, long)) (omega (arith, below)) above
+counted-more (w ∷ ws) (suc c ∷ cs) (suc n) long below above =
+    ap (λ (m : ℕ). counted (take m (w ∷ ws)) (suc c ∷ cs)) (after n)
+    ∙ ap (λ (rest : List (Key × ℕ)). (Word w, suc c) ∷ rest) (counted-more ws cs n (omega (arith, long)) (omega (arith, below)) above)
+
+-- and one whose counter is 0
+pub counted-less : (ws : Words) (cs : List ℕ) (n : ℕ) → length cs ≡ length ws → n < length ws → get_or cs n 0 ≡ 0
+    → counted (take (n + 1) ws) cs ≡ counted (take n ws) cs
+counted-less [] cs n long below none = absurd (omega (arith, below))
+counted-less (w ∷ ws) [] n long below none = absurd (omega (arith, long))
+counted-less (w ∷ ws) (zero ∷ cs) zero long below none = none-counted ws cs
+counted-less (w ∷ ws) (suc c ∷ cs) zero long below none = absurd (omega (arith, none))
+counted-less (w ∷ ws) (zero ∷ cs) (suc n) long below none =
+    ap (λ (m : ℕ). counted (take m (w ∷ ws)) (zero ∷ cs)) (after n) ∙ counted-less ws cs n (omega (arith, long)) (omega (arith, below)) none
+counted-less (w ∷ ws) (suc c ∷ cs) (suc n) long below none =
+    ap (λ (m : ℕ). counted (take m (w ∷ ws)) (suc c ∷ cs)) (after n)
+    ∙ ap (λ (rest : List (Key × ℕ)). (Word w, suc c) ∷ rest) (counted-less ws cs n (omega (arith, long)) (omega (arith, below)) none)

@@ -9,7 +9,9 @@ pub mod Probing
 pub mod Readiness
 pub mod Rising
 pub mod RowCounting
+pub mod SizeCounts
 pub mod Standing
 pub mod TrimLaws
 pub mod Values
+pub mod WholeCounts
 pub mod Words

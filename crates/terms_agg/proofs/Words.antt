@@ -43,7 +43,7 @@ once (v ∷ vs) strict (suc k) (suc o) w k_at o_at = ap suc (once vs strict.1 k 
 pub one-place : (field : ℕ) (rows : List PlacedRow) (k o : ℕ) (w : List ℕ) → slice_get (words_of field rows) k ≡ Some w → slice_get (words_of field rows) o ≡ Some w → k ≡ o
 one-place field rows k o w k_at o_at = once (words_of field rows) (words_of-strict field rows) k o w k_at o_at
 
-abbrev In : {A : Type 0} → A → List A → Type 0
+abbrev pub In : {A : Type 0} → A → List A → Type 0
 In x [] = ⊥
 In x (y ∷ ys) = (x ≡ y) ⊎ In x ys
 
@@ -52,7 +52,7 @@ In-get [] k x is = absurd (cc is)
 In-get (y ∷ ys) zero x is = inl (let same : x ≡ y = cc is in same)
 In-get (y ∷ ys) (suc k) x is = inr (In-get ys k x is)
 
-contains-in : {A : Type 0} (xs : List A) (x : A) → In x xs → Contains xs x
+pub contains-in : {A : Type 0} (xs : List A) (x : A) → In x xs → Contains xs x
 contains-in [] x is = absurd is
 contains-in (y ∷ ys) x is = elim is [
   | inl here ↦ (0, omega arith, sym here)

@@ -1,6 +1,8 @@
 -- Counters of the words of a field, and what rows make of them (Elasticsearch Reference 8, 'Terms aggregation', execution hint:
 -- global ordinals).
-use Rattle.std.specs.Prelude.{ℕ, zero, suc, ◌+◌, Bool, not, List, [], ◌∷◌, map, filter, slice_index_or, sum_by}
+use Rattle.std.specs.Prelude.{◌≡◌, ℕ, zero, suc, ◌+◌, ◌<◌, Bool, not, List, [], ◌∷◌, length, map, filter, slice_index_or, sum_by, None}
+use Rattle.agg_model.specs.Options.{TermsOptions, terms_kind}
+use Rattle.agg_model.specs.declared.aggregation.Agg.{Agg, out-Agg}
 use Rattle.agg_model.specs.declared.costs.TheConstants.{BUCKET_BYTES}
 use Rattle.agg_model.specs.declared.key.Key.{Key}
 use Rattle.agg_model.specs.declared.key.Key.TheVariants.{Word}
@@ -47,3 +49,21 @@ counted_bucket c = record { key = c.0; count = c.1; covered = 0; children = [] }
 -- the buckets of the counters, of which none was cut
 abbrev pub counted_node : List (Key × ℕ) → Node
 counted_node counters = Keyed (map counted_bucket counters) 0 0 0
+
+-- a terms aggregation of this field that has no children, and takes each value of a row and none for a missing one
+pub record IsPlainTerms (field : ℕ) (a : Agg) : Type 0 where
+  pub options : TermsOptions
+  pub kind_is : (out-Agg a).kind ≡ terms_kind options
+  pub field_is : options.field ≡ field
+  pub all_included : options.include ≡ None
+  pub none_excluded : options.exclude ≡ []
+  pub none_for_missing : options.missing ≡ None
+  pub no_children : (out-Agg a).children ≡ []
+
+-- how many rows have the key
+abbrev pub rows_with : ℕ → List PlacedRow → Key → ℕ
+rows_with field rows key = length (filter (λ row. has_key key (keys_in_row field row)) rows)
+
+-- each counter is the number of rows that have its word
+abbrev pub AreSizes : ℕ → Words → List PlacedRow → List ℕ → Type 0
+AreSizes field words rows counters = (n : ℕ) → n < length words → slice_index_or counters n 0 ≡ rows_with field rows (word_key words n)

@@ -1,14 +1,17 @@
 //! Counters of words by their places among those of a field.
-ghost use Rattle.std.specs.Prelude.{◌≡◌, ◌+◌, ◌<◌, ◌==◌, [], ◌∷◌, IfOk, OnErr, OnOk, Some, length, replicate, slice_get, slice_index_or};
+ghost use Rattle.std.specs.Prelude.{◌≡◌, ℕ, ◌+◌, ◌<◌, ◌==◌, [], ◌∷◌, IfOk, List as AnyList, OnErr, OnOk, Some, false, flat_map, length, map, replicate, slice_get, slice_index_or};
 ghost use Rattle.std.specs.List.{slice_set};
+ghost use Rattle.agg_model.specs.declared.aggregation.Agg.{Agg};
 ghost use Rattle.agg_model.specs.declared.mapping.FieldKind.TheVariants.{Keyword};
 ghost use Rattle.agg_evaluation.specs.Counters.{raised, raised_by};
-ghost use Rattle.agg_evaluation.specs.Rows.{row_of};
+ghost use Rattle.agg_evaluation.specs.Rows.{PlacedRow, row_of};
+ghost use Rattle.agg_evaluation.specs.Shard.{collected_node};
 ghost use Rattle.shard_columns.specs.Built.{IsShard};
 ghost use Rattle.shard_columns.specs.Dictionary.{words_of};
-ghost use Rattle.terms_agg.specs.Counts.{counted, counted_bucket, counted_node, keys_in_row, new_bucket_bytes, word_key};
+ghost use Rattle.terms_agg.specs.Counts.{AreSizes, IsPlainTerms, counted, counted_bucket, counted_node, keys_in_row, new_bucket_bytes, word_key};
 
-use agg_model::{Bucket, Key, List, Node, Text, costs::BUCKET_BYTES};
+use agg_model::costs::BUCKET_BYTES;
+use agg_model::{Bucket, Key, List, Node, Text};
 use shard_columns::Shard;
 use std::alloc::{AllocError, Global};
 use std::marker::Model;
@@ -102,8 +105,8 @@ impl Counts {
         ensures many { length self.new ≡ length self.old }
         ensures counters { OnOk result (counted (words_of field shard.now.rows) self.new
             ≡ raised_by (keys_in_row field (row_of shard.now.rows row)) (counted (words_of field shard.now.rows) self.old)) }
-        ensures bytes { IfOk result (λ bytes. bytes
-            ≡ new_bucket_bytes (counted (words_of field shard.now.rows) self.old) (keys_in_row field (row_of shard.now.rows row))) }
+        ensures bytes { IfOk result (λ bytes. bytes ≡ new_bucket_bytes (counted (words_of field shard.now.rows) self.old)
+            (keys_in_row field (row_of shard.now.rows row))) }
     {
         let mut bytes: u64 = 0;
         for ordinal in shard.ordinals(row, field) {
@@ -113,11 +116,21 @@ impl Counts {
         Ok(bytes)
     }
 
-    /// The buckets of the words whose counters are not 0, ascending by key, none of which is cut. It takes time in proportion to
-    /// the words, and memory in proportion to the buckets and their keys.
+    /// The buckets of the words whose counters are not 0, ascending by key, none of which is cut. Where rows were counted, this
+    /// is the node of those rows, by terms of the field that have no children. It takes time in proportion to the words, and
+    /// memory in proportion to the buckets and their keys.
     pub fn into_node(self, alloc: Global, shard: &Shard, field: u32) -> Result<Node, AllocError>
-        requires { length self ≡ length (words_of field shard.now.rows) }
-        ensures { IfOk result (λ node. node ≡ counted_node (counted (words_of field shard.now.rows) self)) }
+        requires built { IsShard shard.now }
+        requires counters { length self ≡ length (words_of field shard.now.rows) }
+        ensures node { IfOk result (λ node. node ≡ counted_node (counted (words_of field shard.now.rows) self)) }
+        ensures of_counted_rows { IfOk result (λ node. (a : Agg) (roots rows : AnyList PlacedRow) →
+            IsPlainTerms field a →
+            counted (words_of field shard.now.rows) self ≡ raised_by (flat_map (keys_in_row field) rows) [] →
+            node ≡ collected_node false shard.now.rows roots a rows) }
+        ensures of_sizes { IfOk result (λ node. (a : Agg) (roots : AnyList PlacedRow) (rows : AnyList ℕ) →
+            IsPlainTerms field a → slice_get shard.now.kinds field ≡ Some Keyword →
+            AreSizes field (words_of field shard.now.rows) (map (row_of shard.now.rows) rows) self →
+            node ≡ collected_node false shard.now.rows roots a (map (row_of shard.now.rows) rows)) }
     {
         let mut buckets = Vec::new(alloc);
         for ordinal in 0..shard.words(field) {

@@ -1,5 +1,6 @@
 //! The terms of a shard (Elasticsearch Reference 8, 'Terms aggregation'): the keys of a row, by numbers that stand for them,
-//! and what a shard answers, the first `shard_size` in the aggregation's order, with what was cut and the error of the counts.
+//! counters of words by their places, and what a shard answers, the first `shard_size` in the aggregation's order, with what was
+//! cut and the error of the counts.
 #![tactic(auto)]
 
 mod code_sets;

@@ -1,4 +1,4 @@
-use Rattle.std.proofs.Common.{◌≡◌, ℕ, ◌+◌, ◌<◌, ◌^◌, Result, Ok, Option, Some, None, List, [], ◌∷◌, map, take, get_or, sym, ◌∙◌, ap}
+use Rattle.std.proofs.Common.{◌≡◌, ℕ, ◌+◌, ◌<◌, ◌^◌, Ok, Option, Some, None, List, [], ◌∷◌, map, take, get_or, sym, ◌∙◌, ap}
 use Rattle.std.specs.Option.{SomeIff, ok_or}
 use Rattle.agg_model.specs.declared.key.Key.{Key}
 use Rattle.agg_evaluation.specs.Counters.{raised, raised_by}
@@ -25,7 +25,7 @@ loop-ordinal-preserved c =
     let more = take-more f os n c.loop-ordinal-test.true in
     let ascends = row-ascends c.args.shard.now c.requires.built c.args.field c.args.row os (c.ordinals-ordinal-items.ensures.values c.requires.keyword) in
     let sum : c.in_ok-bytes.bytes ≡ l.bytes + c.in_ok-more.more
-    = ok-value (l.bytes + c.in_ok-more.more < 2 ^ 64) c.checked_add.result (l.bytes + c.in_ok-more.more) c.in_ok-bytes.bytes (record { }) (sym c.ok_or.ensures.value ∙ c.in_ok-bytes.was) c.checked_add.ensures in
+    = ok-value (l.bytes + c.in_ok-more.more < 2 ^ 64) c.checked_add.result (l.bytes + c.in_ok-more.more) c.in_ok-bytes.bytes (record {}) (sym c.ok_or.ensures.value ∙ c.in_ok-bytes.was) c.checked_add.ensures in
     record {
       many = c.count_word.ensures.many ∙ l.invariant.many;
       counters = c.in_ok-more.ensures.counters
@@ -41,8 +41,8 @@ returns-clause-counters c =
     let os = c.ordinals-ordinal-items.result.now in
     c.loop-ordinal.invariant.counters
     ∙ ap (λ (ks : List Key). raised_by ks (counted words c.args.self.now))
-      (take-whole (word_key words) os c.loop-ordinal.ordinal-index c.loop-ordinal-test.false
-      ∙ row-keys c.args.shard.now c.requires.built c.args.field c.args.row os (c.ordinals-ordinal-items.ensures.values c.requires.keyword))
+    (take-whole (word_key words) os c.loop-ordinal.ordinal-index c.loop-ordinal-test.false
+    ∙ row-keys c.args.shard.now c.requires.built c.args.field c.args.row os (c.ordinals-ordinal-items.ensures.values c.requires.keyword))
 
 pub returns-clause-bytes : goal.returns-clause-bytes
 returns-clause-bytes c =
@@ -50,5 +50,5 @@ returns-clause-bytes c =
     let os = c.ordinals-ordinal-items.result.now in
     c.loop-ordinal.invariant.bytes
     ∙ ap (new_bucket_bytes (counted words c.args.self.now))
-      (take-whole (word_key words) os c.loop-ordinal.ordinal-index c.loop-ordinal-test.false
-      ∙ row-keys c.args.shard.now c.requires.built c.args.field c.args.row os (c.ordinals-ordinal-items.ensures.values c.requires.keyword))
+    (take-whole (word_key words) os c.loop-ordinal.ordinal-index c.loop-ordinal-test.false
+    ∙ row-keys c.args.shard.now c.requires.built c.args.field c.args.row os (c.ordinals-ordinal-items.ensures.values c.requires.keyword))

@@ -42,6 +42,6 @@ returns-clause-bytes c =
     let size : Some (length (slice_index_or words c.args.ordinal [])) ≡ Some c.word_len.result
     = ap (option_map length) (sym (slice_get-get_or words c.args.ordinal [] c.requires.there)) ∙ c.word_len.ensures in
     let bytes : length (slice_index_or words c.args.ordinal []) ≡ c.word_len.result = cc size in
-    some-value (128 + c.word_len.result < 2 ^ 64) c.ok_or.result c.checked_add.result (128 + c.word_len.result) _ (record { }) c.ok_or.ensures.value c.checked_add.ensures
+    some-value (128 + c.word_len.result < 2 ^ 64) c.ok_or.result c.checked_add.result (128 + c.word_len.result) _ (record {}) c.ok_or.ensures.value c.checked_add.ensures
     (ap (λ (n : ℕ). 128 + n) (sym bytes)
     ∙ sym (new-bytes words c.args.self.now c.args.ordinal (words_of-strict c.args.field c.args.shard.now.rows) c.requires.counters c.requires.there (grind (arith, nat_tests, absent))))
