@@ -5,6 +5,8 @@
 #[cfg(test)]
 mod columns;
 #[cfg(test)]
+mod counts;
+#[cfg(test)]
 mod filters;
 #[cfg(test)]
 mod matching;
