@@ -45,7 +45,7 @@ sorted-entries (b ∷ bs) h = both _ _ (below b bs (and_left _ _ h)) (sorted-ent
     below b (c ∷ bs) h = both _ _ (and_left _ _ h) (below b bs (and_right _ _ h))
 
 -- two choices in the other order, where both give the same
-swap : {A : Type 0} (a b : Bool) (x y z : A) → (a ≡ true → b ≡ true → x ≡ y) → cond a x (cond b y z) ≡ cond b y (cond a x z)
+pub swap : {A : Type 0} (a b : Bool) (x y z : A) → (a ≡ true → b ≡ true → x ≡ y) → cond a x (cond b y z) ≡ cond b y (cond a x z)
 swap true true x y z h = h refl refl
 swap true false x y z h = refl
 swap false true x y z h = refl
@@ -121,7 +121,7 @@ module _ (gs : List Gatherer) (rows : List PlacedRow) (k : Key) where
         sym (buckets-entries (sorted_by_key cs)) ∙ ap (map (λ e. e.1)) same ∙ buckets-entries (put_rows gs rows k (sorted_by_key bs))
 
 -- the same choice twice
-twice : {A : Type 0} (a : Bool) (x y z : A) → cond a x z ≡ cond a x (cond a y z)
+pub twice : {A : Type 0} (a : Bool) (x y z : A) → cond a x z ≡ cond a x (cond a y z)
 twice true x y z = refl
 twice false x y z = refl
 

@@ -19,10 +19,11 @@ use Rattle.growing_tree.specs.Decoded.{decoded_bucket}
 use Rattle.growing_tree.specs.Grouped.{HasOwnKeys}
 use Rattle.growing_tree.specs.Shown.{level_buckets}
 use Rattle.growing_tree.specs.Measures.{measures_of}
-use Rattle.growing_tree.specs.Trees.{IsAligned, coded_buckets, measured_buckets, numbered_buckets}
+use Rattle.growing_tree.specs.Trees.{IsAligned, coded_buckets, counter_buckets, measured_buckets, numbered_buckets}
 use Rattle.growing_tree.specs.declared.tree.Growing.{Growing}
 use Rattle.growing_tree.specs.declared.tree.Level.{Level}
-use Rattle.growing_tree.specs.declared.tree.Level.TheVariants.{Keyed, Measured, Fixed, Number}
+use Rattle.growing_tree.specs.declared.tree.Level.TheVariants.{Keyed, Measured, Counts, Fixed, Number}
+use Rattle.growing_tree.proofs.Counters.{counters-distinct}
 use Rattle.growing_tree.proofs.Putting.{distinct}
 
 module _ (ds : List (Node → Node)) (key_of : ℤ → Key) where
@@ -39,5 +40,6 @@ module _ (ds : List (Node → Node)) (key_of : ℤ → Key) where
   pub level-up : HasOwnKeys key_of → (l : Level) → IsAligned l → T (is_ascending (map bucket_key (level_buckets ds key_of l)))
   level-up own (Keyed k) h = ascending-sorted bucket_key (map (decoded_bucket ds key_of) (coded_buckets k.places k.buckets.items)) (distinct (λ g. g.count) (λ g. g.children.items) [] [] ds key_of own k.places k.buckets.items h.distinct)
   level-up own (Measured m) h = ascending-sorted bucket_key (map (decoded_bucket ds key_of) (measured_buckets m.places (measures_of m))) (distinct (λ m. m.count) (λ m. map node.Number m.metrics) [] [] ds key_of own m.places (measures_of m) h.distinct)
+  level-up own (Counts ns) h = ascending-sorted bucket_key (map (decoded_bucket ds key_of) (counter_buckets 0 ns)) (counters-distinct ds key_of own 0 ns)
   level-up own (Fixed bs) h = numbered-up 0 bs.items
   level-up own (Number m) h = tt

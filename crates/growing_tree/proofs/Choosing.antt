@@ -78,7 +78,7 @@ coded-counts count_of children_of (c ∷ cs) [] few = refl
 coded-counts count_of children_of (c ∷ cs) (g ∷ gs) few = ap (λ ns. count_of g ∷ ns) (coded-counts count_of children_of cs gs (omega (arith, few)))
 
 -- each bucket has at least no row
-frequent-all : (bs : List Bucket) → frequent 0 bs ≡ bs
+pub frequent-all : (bs : List Bucket) → frequent 0 bs ≡ bs
 frequent-all [] = refl
 frequent-all (b ∷ bs) = sym (kept-less-none b bs) ∙ ap (λ cs. b ∷ cs) (frequent-all bs)
   where

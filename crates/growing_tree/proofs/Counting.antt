@@ -31,7 +31,7 @@ use Rattle.growing_tree.specs.declared.ready.Ready.{Ready, out-Ready}
 use Rattle.growing_tree.specs.declared.ready.ReadyKind.{ReadyKind}
 use Rattle.growing_tree.specs.declared.ready.ReadyKind.TheVariants.{Single, Metric as Values, Terms, Filters, Histogram, Composite}
 use Rattle.growing_tree.specs.declared.tree.Level.{Level}
-use Rattle.growing_tree.specs.declared.tree.Level.TheVariants.{Keyed, Measured, Fixed, Number}
+use Rattle.growing_tree.specs.declared.tree.Level.TheVariants.{Keyed, Measured, Counts, Fixed, Number}
 use Rattle.growing_tree.proofs.Finals.{keeps_all}
 use Rattle.growing_tree.proofs.Levels.{cost-is, counted-keyed, counted-number, decoded-is}
 use Rattle.growing_tree.proofs.Singles.{single-gathered}
@@ -130,9 +130,11 @@ module _ (shard : Columns) (a : Agg) (r : Ready) where
       decoded-is shard r (Number n) ∙ ap node.Number h ∙ sym (ap (counted shard.rows a rows) (decoded-is shard r (Number m)) ∙ counted-number shard.rows a rows m)
   metric-counted rows (Number m) (Keyed k) h = absurd h
   metric-counted rows (Number m) (Measured k) h = absurd h
+  metric-counted rows (Number m) (Counts ns) h = absurd h
   metric-counted rows (Number m) (Fixed bs) h = absurd h
   metric-counted rows (Keyed k) new h = absurd h
   metric-counted rows (Measured k) new h = absurd h
+  metric-counted rows (Counts ns) new h = absurd h
   metric-counted rows (Fixed bs) new h = absurd h
 
   -- which costs nothing
@@ -140,7 +142,9 @@ module _ (shard : Columns) (a : Agg) (r : Ready) where
   metric-cost rows (Number m) (Number n) h = level-cost (Number m) (Number n) 0 (omega arith)
   metric-cost rows (Number m) (Keyed k) h = absurd h
   metric-cost rows (Number m) (Measured k) h = absurd h
+  metric-cost rows (Number m) (Counts ns) h = absurd h
   metric-cost rows (Number m) (Fixed bs) h = absurd h
   metric-cost rows (Keyed k) new h = absurd h
   metric-cost rows (Measured k) new h = absurd h
+  metric-cost rows (Counts ns) new h = absurd h
   metric-cost rows (Fixed bs) new h = absurd h

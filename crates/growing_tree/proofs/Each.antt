@@ -26,7 +26,7 @@ use Rattle.growing_tree.specs.declared.ready.Ready.{Ready, out-Ready}
 use Rattle.growing_tree.specs.declared.ready.ReadyKind.{ReadyKind}
 use Rattle.growing_tree.specs.declared.ready.ReadyKind.TheVariants.{Single, Metric, Terms, Filters, Histogram, Composite}
 use Rattle.growing_tree.specs.declared.tree.Level.{Level}
-use Rattle.growing_tree.specs.declared.tree.Level.TheVariants.{Keyed, Measured, Fixed, Number}
+use Rattle.growing_tree.specs.declared.tree.Level.TheVariants.{Keyed, Measured, Counts, Fixed, Number}
 use Rattle.growing_tree.proofs.Children.{take-full}
 use Rattle.growing_tree.proofs.Counting.{keyed-keeps}
 use Rattle.growing_tree.proofs.Finals.{one-row}
@@ -76,6 +76,7 @@ keyed-handed shard k Composite rows h keyed = absurd (false≢true keyed)
 cost-with : (l : Level) (bs : List Bucket) → HasBuckets l → node_cost (node_with l bs) ≡ 512 + sum_by bytes bs
 cost-with (Keyed k) bs has = cost-Keyed bs 0 0 0
 cost-with (Measured m) bs has = cost-Keyed bs 0 0 0
+cost-with (Counts ns) bs has = cost-Keyed bs 0 0 0
 cost-with (Fixed gs) bs has = cost-Fixed bs
 cost-with (Number m) bs has = absurd has
 

@@ -25,7 +25,7 @@ use Rattle.growing_tree.specs.Trees.{level_node}
 use Rattle.growing_tree.specs.declared.ready.Ready.{Ready, Ready', Row_of-Ready, end_of-Ready, more_of-Ready, out-Ready, items-the_row-Ready, items_shown-the_row-Ready-0}
 use Rattle.growing_tree.specs.declared.ready.Ready.TheOpen.{Ready-F}
 use Rattle.growing_tree.specs.declared.tree.Level.{Level}
-use Rattle.growing_tree.specs.declared.tree.Level.TheVariants.{Keyed, Measured, Fixed, Number}
+use Rattle.growing_tree.specs.declared.tree.Level.TheVariants.{Keyed, Measured, Counts, Fixed, Number}
 
 -- all that unfolds when a prepared aggregation is taken apart
 unfoldable pub taken_apart : Unit {0}
@@ -56,6 +56,7 @@ module _ (shard : Columns) (r : Ready) where
   pub decoded-is : (l : Level) → decoded shard r (level_node l) ≡ node_with l (shown_level l)
   decoded-is (Keyed k) = decoded-out _ _ (out-Keyed _ 0 0 0)
   decoded-is (Measured m) = decoded-out _ _ (out-Keyed _ 0 0 0)
+  decoded-is (Counts ns) = decoded-out _ _ (out-Keyed _ 0 0 0)
   decoded-is (Fixed bs) = decoded-out _ _ (out-Fixed _)
   decoded-is (Number m) = decoded-out _ _ (out-Number _)
 
@@ -63,6 +64,7 @@ module _ (shard : Columns) (r : Ready) where
   pub cost-is : (l : Level) → node_cost (decoded shard r (level_node l)) ≡ 512 + sum_by bytes (shown_level l)
   cost-is (Keyed k) = ap node_cost (decoded-is (Keyed k)) ∙ cost-Keyed _ 0 0 0
   cost-is (Measured m) = ap node_cost (decoded-is (Measured m)) ∙ cost-Keyed _ 0 0 0
+  cost-is (Counts ns) = ap node_cost (decoded-is (Counts ns)) ∙ cost-Keyed _ 0 0 0
   cost-is (Fixed bs) = ap node_cost (decoded-is (Fixed bs)) ∙ cost-Fixed _
   cost-is (Number m) = ap node_cost (decoded-is (Number m)) ∙ cost-Number m
 
@@ -93,6 +95,7 @@ module _ (all : List PlacedRow) (a : Agg) where
       → HasBuckets l → counted all a rows (node_with l bs) ≡ node_with l cs
   counted-keyed rows (Keyed k) bs cs e h = counted-out rows _ _ (out-Keyed bs 0 0 0) ∙ ap (node_with (Keyed k)) e
   counted-keyed rows (Measured m) bs cs e h = counted-out rows _ _ (out-Keyed bs 0 0 0) ∙ ap (node_with (Measured m)) e
+  counted-keyed rows (Counts ns) bs cs e h = counted-out rows _ _ (out-Keyed bs 0 0 0) ∙ ap (node_with (Counts ns)) e
   counted-keyed rows (Fixed gs) bs cs e h = counted-out rows _ _ (out-Fixed bs) ∙ ap (node_with (Fixed gs)) e
   counted-keyed rows (Number m) bs cs e h = absurd h
 

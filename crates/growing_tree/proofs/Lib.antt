@@ -9,6 +9,9 @@ pub mod Orderings
 pub mod Grouping
 pub mod Finals
 pub mod Empties
+pub mod Counters
+pub mod CountersRaised
+pub mod CountersChosen
 pub mod Ascents
 pub mod AggSizes
 pub mod Cuts

@@ -11,7 +11,7 @@ use Rattle.shard_columns.specs.Columns.{Columns}
 use Rattle.growing_tree.specs.Codes.{code_key}
 use Rattle.growing_tree.specs.Decoded.{decoded, decoded_children}
 use Rattle.growing_tree.specs.Measures.{measures_from}
-use Rattle.growing_tree.specs.Shown.{fixed_buckets, keyed_buckets, level_buckets, metric_buckets}
+use Rattle.growing_tree.specs.Shown.{counted_buckets, fixed_buckets, keyed_buckets, level_buckets, metric_buckets}
 use Rattle.growing_tree.specs.declared.ready.Ready.{Ready, out-Ready}
 use Rattle.growing_tree.specs.declared.tree.Growing.{Growing}
 use Rattle.growing_tree.specs.declared.tree.Level.{Level}
@@ -44,6 +44,10 @@ module _ (shard : Columns) where
   -- the buckets of codes below which there are metrics alone
   abbrev pub shown_measured : Ready → List ℤ → List ℕ → (ℕ → List Metric) → List Bucket
   shown_measured r codes counts at = metric_buckets (decoders (out-Ready r).children) (key_at r) codes (measures_from at 0 counts)
+
+  -- the buckets whose rows are counted alone
+  abbrev pub shown_counted : Ready → List ℕ → List Bucket
+  shown_counted r = counted_buckets (decoders (out-Ready r).children) (key_at r)
 
   -- the buckets that exist from the start
   abbrev pub shown_fixed : Ready → List Growing → List Bucket

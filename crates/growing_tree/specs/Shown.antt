@@ -10,10 +10,10 @@ use Rattle.agg_evaluation.specs.Shard.{sorted_by_key}
 use Rattle.growing_tree.specs.Decoded.{decoded_bucket, decoded_children}
 use Rattle.growth_laws.specs.Gathering.{Gatherer, gathered_children, gathered_metric, put_rows}
 use Rattle.growing_tree.specs.Measures.{Measure, measures_of}
-use Rattle.growing_tree.specs.Trees.{coded_buckets, measured_buckets, numbered_buckets}
+use Rattle.growing_tree.specs.Trees.{coded_buckets, counter_buckets, measured_buckets, numbered_buckets}
 use Rattle.growing_tree.specs.declared.tree.Growing.{Growing}
 use Rattle.growing_tree.specs.declared.tree.Level.{Level}
-use Rattle.growing_tree.specs.declared.tree.Level.TheVariants.{Keyed, Measured, Fixed, Number}
+use Rattle.growing_tree.specs.declared.tree.Level.TheVariants.{Keyed, Measured, Counts, Fixed, Number}
 
 -- `decoders` are those of the children, and `key_of` gives the keys of codes
 module _ (decoders : List (Node → Node)) (key_of : ℤ → Key) where
@@ -25,6 +25,10 @@ module _ (decoders : List (Node → Node)) (key_of : ℤ → Key) where
   abbrev pub metric_buckets : List ℤ → List Measure → List Bucket
   metric_buckets codes measures = sorted_by_key (map (decoded_bucket decoders key_of) (measured_buckets codes measures))
 
+  -- those whose rows are counted alone
+  abbrev pub counted_buckets : List ℕ → List Bucket
+  counted_buckets counters = sorted_by_key (map (decoded_bucket decoders key_of) (counter_buckets 0 counters))
+
   -- the buckets that exist from the start
   abbrev pub fixed_buckets : List Growing → List Bucket
   fixed_buckets buckets = map (decoded_bucket decoders key_of) (numbered_buckets 0 buckets)
@@ -33,6 +37,7 @@ module _ (decoders : List (Node → Node)) (key_of : ℤ → Key) where
   abbrev pub level_buckets : Level → List Bucket
   level_buckets (Keyed k) = keyed_buckets k.places k.buckets.items
   level_buckets (Measured m) = metric_buckets m.places (measures_of m)
+  level_buckets (Counts ns) = counted_buckets ns
   level_buckets (Fixed bs) = fixed_buckets bs.items
   level_buckets (Number m) = []
 
@@ -40,6 +45,7 @@ module _ (decoders : List (Node → Node)) (key_of : ℤ → Key) where
 abbrev pub node_with : Level → List Bucket → Node
 node_with (Keyed k) bs = node.Keyed bs 0 0 0
 node_with (Measured m) bs = node.Keyed bs 0 0 0
+node_with (Counts ns) bs = node.Keyed bs 0 0 0
 node_with (Fixed gs) bs = node.Fixed bs
 node_with (Number m) bs = node.Number m
 

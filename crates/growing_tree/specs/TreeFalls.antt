@@ -9,7 +9,7 @@ use Rattle.agg_evaluation.specs.Cost.{node_cost}
 use Rattle.evaluation_laws.proofs.CostLaws.{bytes, cost-Keyed, cost-Fixed}
 use Rattle.growing_tree.specs.declared.tree.Growing.{Growing}
 use Rattle.growing_tree.specs.declared.tree.Level.{Level}
-use Rattle.growing_tree.specs.declared.tree.Level.TheVariants.{Keyed, Measured, Fixed, Number}
+use Rattle.growing_tree.specs.declared.tree.Level.TheVariants.{Keyed, Measured, Counts, Fixed, Number}
 use Rattle.growing_tree.specs.declared.tree.Tree.TheDeep.{deep-Level, deep-Growing}
 use Rattle.growing_tree.specs.Trees.{level_node, bucket_at, coded_buckets, numbered_buckets, IsAligned}
 use denote.Param.Weighed.{most}
@@ -44,5 +44,6 @@ level-falls (Keyed k) h =
     let fall = coded-fall k.places k.buckets.items h.few in
     omega arith
 level-falls (Measured m) h = omega arith
+level-falls (Counts ns) h = omega arith
 level-falls (Fixed bs) h = let all = cost-Fixed (numbered_buckets 0 bs.items) in let fall = numbered-fall 0 bs.items in omega arith
 level-falls (Number m) h = omega arith

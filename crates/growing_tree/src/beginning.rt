@@ -13,7 +13,7 @@ ghost use Rattle.growing_tree.specs.Shown.{AreEmpty};
 ghost use Rattle.growing_tree.specs.Trees.{IsAligned, level_node};
 ghost use Rattle.growing_tree.specs.declared.ready.Ready.{out-Ready};
 
-use crate::kinds::{are_metrics, code_bytes};
+use crate::kinds::{are_metrics, code_bytes, is_terms};
 use crate::measured::{Measured, no_columns};
 use crate::number::Taken;
 use crate::ready::{Ready, Table};
@@ -24,6 +24,7 @@ use agg_model::{Agg, Kind, List, Query, Text};
 use bucket_places::Places;
 use shard_columns::Shard;
 use std::alloc::{AllocError, Global};
+use terms_agg::Counts;
 
 /// What the bucket of a code costs before its first row, in bytes: 128 for itself, its key, and its children. More than 64 bits
 /// of it are answered as want of memory. Time and memory are constant.
@@ -113,17 +114,26 @@ fn begin_buckets(
     Ok(buckets)
 }
 
+// Whether the terms of the aggregation have counters: rows have no other codes, and there is nothing below.
+fn has_counters(agg: &Agg, table: Table) -> bool {
+    is_terms(&agg.kind) && table.from_start && table.has_all_codes && agg.children.is_empty()
+}
+
 // No bucket of keys that rows bring.
-fn begin_keyed(alloc: Global, places: Places, aggs: &List<Agg>) -> Result<Level, AllocError>
-    requires none { places ≡ [] }
+fn begin_keyed(alloc: Global, agg: &Agg, table: Table) -> Result<Level, AllocError>
     ensures node { IfOk result (λ level. level_node level ≡ KeyedNode [] 0 0 0) }
     ensures aligned { IfOk result IsAligned }
 {
-    if are_metrics(aggs) {
+    if has_counters(agg, table) {
+        let counts = Counts::new(alloc, table.width)?;
+        return Ok(Level::Counts(counts));
+    }
+    let places = no_codes(alloc, table)?;
+    if are_metrics(&agg.children) {
         return Ok(Level::Measured(Measured {
             places,
             counts: Vec::new(alloc),
-            columns: no_columns(alloc, aggs.len())?,
+            columns: no_columns(alloc, agg.children.len())?,
         }));
     }
     Ok(Level::Keyed(Keyed {
@@ -144,8 +154,7 @@ pub fn begin(alloc: Global, agg: &Agg, ready: &Ready) -> Result<Tree, AllocError
 {
     match &agg.kind {
         Kind::Terms { .. } | Kind::Histogram { .. } | Kind::Composite { .. } => {
-            let places = no_codes(alloc, ready.table)?;
-            let level = begin_keyed(alloc, places, &agg.children)?;
+            let level = begin_keyed(alloc, agg, ready.table)?;
             Ok(Tree { level })
         }
         Kind::Sum { .. }

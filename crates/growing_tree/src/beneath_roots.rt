@@ -230,7 +230,9 @@ fn gather_in_level(
             )?;
             Ok(())
         }
-        Level::Keyed(_) | Level::Measured(_) | Level::Number(_) => Err(AllocError),
+        Level::Keyed(_) | Level::Measured(_) | Level::Counts(_) | Level::Number(_) => {
+            Err(AllocError)
+        }
     }
 }
 

@@ -3,9 +3,10 @@
 ghost use Rattle.std.specs.Prelude.{◌≡◌, IfOk, map, sum_by};
 ghost use Rattle.growing_tree.specs.Frequent.{IsChosen};
 ghost use Rattle.growing_tree.specs.Measures.{measures_of};
-ghost use Rattle.growing_tree.specs.Trees.{IsIndexed, coded_buckets, measured_buckets};
+ghost use Rattle.growing_tree.specs.Trees.{IsIndexed, coded_buckets, counter_buckets, measured_buckets};
 
 use crate::coded::{Coded, with_codes};
+use crate::counted::with_counters;
 use crate::frequent::least_count;
 use crate::measured::Measured;
 use crate::sums::sum;
@@ -13,6 +14,7 @@ use crate::tree::{Growing, Keyed};
 use crate::with_trees::with_trees;
 use agg_model::Kind;
 use std::alloc::{AllocError, Global};
+use terms_agg::Counts;
 
 /// Buckets of a level, with the codes that stand for their keys.
 #[derive(Drop)]
@@ -71,5 +73,21 @@ pub(crate) fn choose_measured(
     Ok(Chosen {
         total: total_count(counts)?,
         coded: with_trees(alloc, &measured, least)?,
+    })
+}
+
+/// The same of buckets whose rows are counted alone.
+pub(crate) fn choose_counted(
+    alloc: Global,
+    kind: &Kind,
+    counts: &Counts,
+) -> Result<Chosen, AllocError>
+    ensures { IfOk result (IsChosen kind.now (counter_buckets 0 counts.now)) }
+{
+    let counters = counts.counters();
+    let least = least_count(kind, counters);
+    Ok(Chosen {
+        total: total_count(counters)?,
+        coded: with_counters(alloc, counters, least)?,
     })
 }

@@ -20,7 +20,7 @@ ghost use Rattle.growing_tree.specs.Grouped.{AreApart};
 ghost use Rattle.growing_tree.specs.Trees.{numbered_buckets};
 ghost use Rattle.growing_tree.specs.declared.ready.Ready.{out-Ready};
 
-use crate::chosen::{Chosen, choose, choose_measured};
+use crate::chosen::{Chosen, choose, choose_counted, choose_measured};
 use crate::coded::{Coded, sort_by_code};
 use crate::kinds::{is_terms, place_of};
 use crate::ready::{Ready, ReadyKind};
@@ -216,7 +216,7 @@ fn finish_chosen(
 
 /// What a shard answers to an aggregation whose rows are all in the tree: keys for codes, ascending by key, and the terms of each
 /// level cut to the shard size, the lowest first. Everything is moved. It takes time by the buckets, times the logarithm of those
-/// of a level.
+/// of a level, and by the counters of trees whose terms have them from the start.
 ///
 /// `AllocError` says that memory is wanted, or that the tree is of another aggregation: at some level it has not so many
 /// children, a number that is no code of the shard, or counts that together have more than 64 bits.
@@ -240,6 +240,10 @@ pub fn finish(
         }
         Level::Measured(measured) => {
             let chosen = choose_measured(alloc, &agg.kind, measured)?;
+            finish_chosen(alloc, agg, ready, shard, chosen)
+        }
+        Level::Counts(counts) => {
+            let chosen = choose_counted(alloc, &agg.kind, &counts)?;
             finish_chosen(alloc, agg, ready, shard, chosen)
         }
         Level::Fixed(buckets) => Ok(Node::Fixed {

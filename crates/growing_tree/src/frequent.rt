@@ -60,8 +60,8 @@ fn count_from(counts: &[u64], least: u64) -> usize
 }
 
 /// How many rows a bucket has at least that is among those that a shard keeps of its terms, by the rows of each bucket: where those
-/// with most rows come first, such a number that there are enough of them, so that nothing is made of the others; else 0. It takes
-/// time by the buckets.
+/// with most rows come first, such a number that there are enough of them, so that nothing is made of the others; else 0. Counts of
+/// no row, which have no bucket, may be among them. It takes time by the counts.
 pub(crate) fn least_count(kind: &Kind, counts: &[u64]) -> u64
     ensures { IsLeast kind.now counts.now result }
 {

@@ -304,7 +304,7 @@ fn put(
             let more = put_fixed(alloc, agg, ready, shard, rows, spare, code, buckets)?;
             Ok(more)
         }
-        Level::Measured(_) | Level::Number(_) => Err(AllocError),
+        Level::Measured(_) | Level::Counts(_) | Level::Number(_) => Err(AllocError),
     }
 }
 

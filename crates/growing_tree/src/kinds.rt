@@ -63,7 +63,7 @@ pub(crate) fn has_buckets(level: &Level) -> bool
     ensures { IsTrue result → HasBuckets level.now }
 {
     match level {
-        Level::Keyed(_) | Level::Measured(_) | Level::Fixed(_) => true,
+        Level::Keyed(_) | Level::Measured(_) | Level::Counts(_) | Level::Fixed(_) => true,
         Level::Number(_) => false,
     }
 }
@@ -173,7 +173,9 @@ pub(crate) fn take_rows(
             }
             Ok(())
         }
-        Level::Keyed(_) | Level::Measured(_) | Level::Fixed(_) => Err(AllocError),
+        Level::Keyed(_) | Level::Measured(_) | Level::Counts(_) | Level::Fixed(_) => {
+            Err(AllocError)
+        }
     }
 }
 
@@ -194,7 +196,9 @@ pub(crate) fn take_one(
             take_row(kind, shard, row, taken)?;
             Ok(())
         }
-        Level::Keyed(_) | Level::Measured(_) | Level::Fixed(_) => Err(AllocError),
+        Level::Keyed(_) | Level::Measured(_) | Level::Counts(_) | Level::Fixed(_) => {
+            Err(AllocError)
+        }
     }
 }
 

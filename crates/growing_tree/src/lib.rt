@@ -9,6 +9,7 @@ mod beginning;
 mod beneath_roots;
 mod chosen;
 mod coded;
+mod counted;
 mod finishing;
 mod frequent;
 mod gathering;

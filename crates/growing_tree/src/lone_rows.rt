@@ -18,6 +18,7 @@ ghost use Rattle.growing_tree.specs.Trees.{IsAligned};
 ghost use Rattle.growing_tree.specs.declared.ready.Ready.{out-Ready};
 
 use crate::at_codes::{TakesRow, put_alone};
+use crate::counted::put_one_counted;
 use crate::kinds::{has_fixed_keys, place_of, take_one};
 use crate::placing::put_one_measured;
 use crate::ready::Ready;
@@ -153,6 +154,10 @@ impl TakesRow<()> for Level {
         match self {
             Level::Measured(measured) => {
                 let more = put_one_measured(agg, ready, shard, row, code, measured)?;
+                Ok(more)
+            }
+            Level::Counts(counts) => {
+                let more = put_one_counted(agg, ready, shard, code, counts)?;
                 Ok(more)
             }
             Level::Fixed(buckets) => {

@@ -19,8 +19,8 @@ use shard_columns::Shard;
 use std::alloc::{AllocError, Global};
 use terms_agg::{code_count, prepare as prepare_terms};
 
-// The tables that all trees of an aggregation have from the start have at most so many entries together, of 4 bytes each, but where
-// there is one tree, or each has few codes, which take no more memory in a table than in a map.
+// The tables that all trees of an aggregation have from the start have at most so many entries together, of 4 bytes each, or of 8 that
+// are counters, but where there is one tree, or each has few codes, which take no more memory in a table than in a map.
 const MOST_ENTRIES: u64 = 1 << 20;
 
 const FEW_CODES: u32 = 16;
@@ -112,6 +112,7 @@ fn table_of(kind: &ReadyKind, codes: u64, trees: u64) -> Table {
     let entries = u64::from(width).saturating_mul(trees);
     Table {
         width,
+        has_all_codes: u64::from(width) == codes,
         from_start: trees == 1 || width <= FEW_CODES || entries <= MOST_ENTRIES,
     }
 }
@@ -147,7 +148,7 @@ fn prepare_within(alloc: Global, shard: &Shard, agg: &Agg, trees: u64) -> Result
 ///
 /// It takes time and memory by the aggregations, and by what each kind takes to prepare. One tree is to grow of the aggregation:
 /// its codes are looked up in a table from the start, and so are those of aggregations below where all their trees have tables of
-/// 4 MiB at most; any other tree gets its table once it has many codes.
+/// 4 MiB at most, or counters of 8; any other tree gets its table once it has many codes.
 pub fn prepare(alloc: Global, shard: &Shard, agg: &Agg) -> Result<Ready, AllocError>
     requires built { IsShard shard.now }
     requires made { IsAggFor shard.now agg.now }

@@ -24,6 +24,8 @@ pub enum ReadyKind {
 pub struct Table {
     /// So many codes, from 0 on, have an entry.
     pub width: u32,
+    /// Whether rows have no other codes.
+    pub has_all_codes: bool,
     /// Whether a tree has it from the start, and not only once it has many codes.
     pub from_start: bool,
 }

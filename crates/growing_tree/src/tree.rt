@@ -4,6 +4,7 @@ use crate::measured::Measured;
 use crate::number::Taken;
 use bucket_places::Places;
 use std::marker::Model;
+use terms_agg::Counts;
 
 /// The tree of an aggregation over some rows. Contracts see it as that tree, in which codes stand for the keys that rows have,
 /// in the order in which they came.
@@ -20,6 +21,8 @@ pub(crate) enum Level {
     Keyed(Keyed),
     /// Such buckets, below which there are metrics alone, or nothing.
     Measured(Measured),
+    /// Such buckets below which there is nothing: that of a code is there once its counter is not 0.
+    Counts(Counts),
     /// Buckets that exist from the start, by number.
     Fixed(Vec<Growing>),
     Number(Taken),

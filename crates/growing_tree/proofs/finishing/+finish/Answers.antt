@@ -16,12 +16,13 @@ use Rattle.growing_tree.specs.Codes.{code_key}
 use Rattle.growing_tree.specs.Decoded.{decoded}
 use Rattle.growing_tree.specs.Finished.{finished_bucket, finished_children, finished_with}
 use Rattle.growing_tree.specs.CodedBuckets.{code_order, coded_bucket}
-use Rattle.growing_tree.specs.Trees.{IsAligned, coded_buckets, level_node, measured_buckets, numbered_buckets}
+use Rattle.growing_tree.specs.Trees.{IsAligned, coded_buckets, counter_buckets, level_node, measured_buckets, numbered_buckets}
 use Rattle.growing_tree.specs.declared.ready.Ready.{out-Ready}
 use Rattle.growing_tree.specs.declared.tree.Level.TheVariants.{Keyed as KeyedLevel, Measured as MeasuredLevel}
 use Rattle.growing_tree.specs.Measures.{measures_of}
 use Rattle.growing_tree.proofs.AggSizes.{children_less, item-most}
 use Rattle.growing_tree.proofs.Codes.{codes-own}
+use Rattle.growing_tree.proofs.CountersChosen.{counted-apart}
 use Rattle.growing_tree.proofs.Cuts.{child-finished, drop-full, fixed-finished, keyed-finished, number-finished, numbered-more}
 use Rattle.growing_tree.proofs.Levels.{children-ready, level-ready}
 use Rattle.growing_tree.proofs.Frequents.{chosen-within, finished-rows, suffices-cut, terms-cut}
@@ -211,6 +212,11 @@ finish-finish_chosen-requires-in-Measured t c =
     let within = chosen-within (out-Agg c.args.agg.now).kind (measured_buckets m.places (measures_of m)) c.in_ok-chosen-in-Measured.chosen c.in_ok-chosen-in-Measured.ensures in
     (omega (arith, c.decreases), (c.requires.ready, (c.requires.built, within)))
 
+pub finish-finish_chosen-requires-in-Counts : goal.finish-finish_chosen-requires-in-Counts
+finish-finish_chosen-requires-in-Counts t c =
+    let within = chosen-within (out-Agg c.args.agg.now).kind (counter_buckets 0 c.in-Counts.counts) c.in_ok-chosen-in-Counts.chosen c.in_ok-chosen-in-Counts.ensures in
+    (omega (arith, c.decreases), (c.requires.ready, (c.requires.built, within)))
+
 pub finish-returns-in_ok-chosen-in-Keyed : goal.finish-returns-in_ok-chosen-in-Keyed
 finish-returns-in_ok-chosen-in-Keyed t c =
     let a = c.args.agg.now in
@@ -236,3 +242,14 @@ finish-returns-in_ok-chosen-in-Measured t c =
     let apart = keys-apart shard a r (λ g. g.count) (λ g. map Number g.metrics) own m.places (measures_of m) aligned.distinct in
     let tree_is : Keyed all 0 0 0 ≡ c.args.tree = sym (ap level_node c.in-Measured.is) ∙ c.tree.view_is in
     record { node = subst (λ n. IfOk c.finish_chosen-in-Measured.result (λ m. m ≡ cut_tree a (decoded shard r n))) tree_is (c.finish_chosen-in-Measured.ensures.node all c.in_ok-chosen-in-Measured.ensures apart) }
+
+pub finish-returns-in_ok-chosen-in-Counts : goal.finish-returns-in_ok-chosen-in-Counts
+finish-returns-in_ok-chosen-in-Counts t c =
+    let a = c.args.agg.now in
+    let r = c.args.ready.now in
+    let shard = c.args.shard.now in
+    let all = counter_buckets 0 c.in-Counts.counts in
+    let own = codes-own shard (out-Agg a).kind (out-Ready r).kind (level-ready shard a r c.requires.ready).kind in
+    let apart = counted-apart shard a r own 0 c.in-Counts.counts in
+    let tree_is : Keyed all 0 0 0 ≡ c.args.tree = sym (ap level_node c.in-Counts.is) ∙ c.tree.view_is in
+    record { node = subst (λ n. IfOk c.finish_chosen-in-Counts.result (λ m. m ≡ cut_tree a (decoded shard r n))) tree_is (c.finish_chosen-in-Counts.ensures.node all c.in_ok-chosen-in-Counts.ensures apart) }
