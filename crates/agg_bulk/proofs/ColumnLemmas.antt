@@ -24,7 +24,7 @@ use Rattle.shard_columns.specs.Index.{AreShardsOf, rows_by_shard}
 use Rattle.agg_model.specs.declared.costs.TheConstants.{FIELDDATA_OVERHEAD}
 use Rattle.agg_spec.specs.Columns.{columns_charge}
 use Rattle.shard_columns.specs.declared.index.Index.{Index as Built}
-use Rattle.index_laws.specs.Indexes.{index_of}
+use Rattle.fitting_laws.specs.Indexes.{index_of}
 use Rattle.agg_bulk.specs.ColumnBytes.{bytes_in, all_bytes}
 
 dictionary-light : (rows : List PlacedRow) (field : ℕ) → dictionary_bytes rows field ≤ rows_weight rows

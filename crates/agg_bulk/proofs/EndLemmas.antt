@@ -8,7 +8,7 @@ use Rattle.script_lines.specs.declared.fault.ScriptFault.{ScriptFault}
 use Rattle.script_lines.specs.declared.fault.ScriptFault.TheVariants as fault
 use Rattle.agg_bulk.specs.Charging.{RefusesColumns}
 use Rattle.agg_bulk.specs.Indexing.{IsLoaded}
-use Rattle.index_laws.specs.Indexes.{index_of}
+use Rattle.fitting_laws.specs.Indexes.{index_of}
 use Rattle.agg_bulk.specs.Loading.{Ends}
 use Rattle.agg_bulk.specs.Loads.{EndsLoading, end_of}
 use Rattle.agg_bulk.specs.declared.end.LoadEnd.{LoadEnd}

@@ -8,7 +8,7 @@ use Rattle.agg_model.specs.Lines.{lines}
 use Rattle.agg_reading.specs.Lines.{Place}
 use Rattle.agg_reading.specs.Script.{Loaded, loaded}
 use Rattle.agg_spec.specs.Requests.{loaded_index}
-use Rattle.index_laws.specs.Indexes.{index_of}
+use Rattle.fitting_laws.specs.Indexes.{index_of}
 use Rattle.script_lines.specs.Steps.{place_of}
 use Rattle.script_lines.specs.declared.fault.ScriptFault.{ScriptFault}
 use Rattle.agg_bulk.specs.Loading.{GoesOnAt, Ends}

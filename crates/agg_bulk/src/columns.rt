@@ -2,7 +2,7 @@
 ghost use Rattle.std.specs.Prelude.{◌≡◌, ◌<◌, ◌^◌};
 ghost use Rattle.agg_spec.specs.Columns.{columns_charge};
 ghost use Rattle.agg_bulk.specs.ColumnBytes.{all_bytes};
-ghost use Rattle.index_laws.specs.Indexes.{index_of};
+ghost use Rattle.fitting_laws.specs.Indexes.{index_of};
 
 use agg_model::costs::FIELDDATA_OVERHEAD;
 use shard_columns::{Index, Shard};

@@ -9,7 +9,7 @@ ghost use Rattle.script_lines.specs.Steps.{place_of};
 ghost use Rattle.script_lines.specs.declared.fault.ScriptFault.TheVariants.{Read};
 ghost use Rattle.column_loading.specs.Loadings.{IsLoadingOf, store_of};
 ghost use Rattle.agg_bulk.specs.Indexing.{Indexes};
-ghost use Rattle.index_laws.specs.Indexes.{index_of};
+ghost use Rattle.fitting_laws.specs.Indexes.{index_of};
 ghost use Rattle.agg_bulk.specs.Loading.{loaded_of};
 
 use crate::sections::{Sections, load_sections};

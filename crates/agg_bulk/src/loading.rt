@@ -6,7 +6,7 @@ ghost use Rattle.agg_reading.specs.Lines.{start};
 ghost use Rattle.agg_spec.specs.Columns.{columns_charge, columns_refusal};
 ghost use Rattle.script_lines.specs.Steps.{place_of};
 ghost use Rattle.breaker_tree.specs.Reopening.{HoldsColumns};
-ghost use Rattle.index_laws.specs.Indexes.{index_of};
+ghost use Rattle.fitting_laws.specs.Indexes.{index_of};
 ghost use Rattle.agg_bulk.specs.Loads.{Loads, end_of};
 ghost use Rattle.agg_bulk.specs.declared.end.LoadEnd.TheVariants.{Read};
 

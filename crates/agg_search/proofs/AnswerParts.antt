@@ -19,10 +19,10 @@ use Rattle.fitting_laws.proofs.Aparts.{documents_apart}
 use Rattle.shard_columns.specs.Built.{IsBuiltFrom, IsShardOf}
 use Rattle.shard_columns.specs.Columns.{Columns}
 use Rattle.shard_columns.specs.declared.index.Index.{Index as ShardIndex}
-use Rattle.index_laws.specs.Indexes.{index_of}
+use Rattle.fitting_laws.specs.Indexes.{index_of}
 use Rattle.agg_search.proofs.Batching.{rows-count}
 use Rattle.list_laws.specs.Among.{AreAmong}
-use Rattle.index_laws.proofs.SomeShards.{finish-some}
+use Rattle.fitting_laws.proofs.SomeShards.{finish-some}
 use Rattle.agg_search.proofs.Parts.{among-left}
 
 built-apart : (m : Mapping) (s : Columns) (documents : List Document) → IsBuiltFrom m documents s → IsApart s.rows

@@ -27,7 +27,7 @@ use Rattle.solo_charges.specs.Standing.{Before, StandsAt}
 use Rattle.agg_spec.specs.Failures.{has_failed, unfailed}
 use Rattle.shard_columns.specs.Columns.{Columns}
 use Rattle.shard_columns.specs.declared.index.Index.{Index as ShardIndex}
-use Rattle.index_laws.specs.Indexes.{index_of}
+use Rattle.fitting_laws.specs.Indexes.{index_of}
 use Rattle.agg_search.specs.Progressing.{Follows, IsAt, IsStopped, StopsIn, going_at}
 use Rattle.agg_search.specs.Reached.{HasReached}
 use Rattle.agg_search.specs.Reducing.{IsReduced, Reduces, StopsReducing}

@@ -13,7 +13,7 @@ use Rattle.agg_spec.specs.Outcome.{Request, answer_of}
 use Rattle.agg_spec.specs.Pages.{is_paged, last_key, next_page, next_search, request_after, search_after}
 use Rattle.fitting_laws.proofs.NextPages.{next_fits}
 use Rattle.shard_columns.specs.declared.index.Index.{Index as ShardIndex}
-use Rattle.index_laws.specs.Indexes.{index_of}
+use Rattle.fitting_laws.specs.Indexes.{index_of}
 use Rattle.agg_search.specs.Paging.{IsBehind, page_of, search_behind}
 use Rattle.agg_search.specs.Telling.{next_as, told_as}
 use Rattle.agg_search.specs.declared.paging.Found.{Found}

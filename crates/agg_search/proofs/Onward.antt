@@ -19,7 +19,7 @@ use Rattle.breaker_words.specs.declared.view.View.{View}
 use Rattle.shard_columns.specs.declared.index.Index.{Index as ShardIndex}
 use Rattle.solo_charges.specs.Alone.{IsAlone}
 use Rattle.solo_charges.specs.Standing.{Before, StandsAt}
-use Rattle.index_laws.specs.Indexes.{index_of}
+use Rattle.fitting_laws.specs.Indexes.{index_of}
 use Rattle.agg_search.specs.Answering.{AnswersAlone, IsAnswered}
 use Rattle.agg_search.specs.Paging.{AnswersPages, ArePagesFrom, IsBehind, page_of, request_at}
 

@@ -19,8 +19,8 @@ use Rattle.batch_reduce.specs.Parts.{AreParts}
 use Rattle.shard_columns.specs.declared.index.Index.{Index as ShardIndex}
 use Rattle.list_laws.specs.Among.{AreAmong}
 use Rattle.list_laws.proofs.Among.{among-part, sum-filter}
-use Rattle.index_laws.specs.Indexes.{index_of}
-use Rattle.index_laws.proofs.SomeShards.{fit-some}
+use Rattle.fitting_laws.specs.Indexes.{index_of}
+use Rattle.fitting_laws.proofs.SomeShards.{fit-some}
 use Rattle.agg_search.proofs.Numbers.{left_before}
 
 pub among-left : (fs : List Failure) (n : ℕ) → AreAmong n (left_before fs n)

@@ -4,7 +4,7 @@ use Rattle.agg_evaluation.specs.Ceiling.{search_ceiling}
 use Rattle.agg_evaluation.specs.SearchFits.{search_fits}
 use Rattle.agg_model.specs.declared.aggregation.Search.{Search}
 use Rattle.agg_spec.specs.Index.{field_kinds}
-use Rattle.index_laws.specs.Indexes.{index_of}
+use Rattle.fitting_laws.specs.Indexes.{index_of}
 use Rattle.shard_columns.specs.declared.index.Index.{Index as ShardIndex}
 use Rattle.shard_columns.specs.Index.{rows_by_shard}
 

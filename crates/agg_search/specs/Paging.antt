@@ -17,7 +17,7 @@ use Rattle.agg_spec.specs.Solo.{after_request, solo_answer}
 use Rattle.breaker_words.specs.declared.view.View.{View}
 use Rattle.shard_columns.specs.declared.index.Index.{Index as ShardIndex}
 use Rattle.solo_charges.specs.Standing.{Before, StandsAt}
-use Rattle.index_laws.specs.Indexes.{index_of}
+use Rattle.fitting_laws.specs.Indexes.{index_of}
 
 -- the search for what follows the key, where there is a key and the search is paged
 abbrev pub search_behind : Bool → Search → Option Key → Option Search

@@ -6,7 +6,7 @@ ghost use Rattle.agg_spec.specs.Failures.{AreFailures, unfailed};
 ghost use Rattle.agg_spec.specs.Index.{Index as AnyIndex};
 ghost use Rattle.agg_spec.specs.Outcome.{Request, outcome_of_shards, whole_unless_none};
 ghost use Rattle.agg_search.specs.Defined.{CanRun};
-ghost use Rattle.index_laws.specs.Indexes.{index_of};
+ghost use Rattle.fitting_laws.specs.Indexes.{index_of};
 ghost use Rattle.agg_search.specs.Paging.{IsBehind};
 
 use crate::paging::{Found, last_key, search_behind};

@@ -6,7 +6,7 @@ ghost use Rattle.agg_model.specs.declared.limits.TheConstants.{MAX_BATCH, MAX_LI
 ghost use Rattle.agg_spec.specs.Requests.{request_of};
 ghost use Rattle.breaker_words.specs.Views.{hold_of};
 ghost use Rattle.solo_charges.specs.Alone.{IsAlone};
-ghost use Rattle.index_laws.specs.Indexes.{index_of};
+ghost use Rattle.fitting_laws.specs.Indexes.{index_of};
 ghost use Rattle.agg_search.specs.Paging.{AnswersPages};
 
 use crate::solo::answer_page;

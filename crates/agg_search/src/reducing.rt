@@ -9,7 +9,7 @@ ghost use Rattle.breaker_words.specs.Views.{hold_of};
 ghost use Rattle.solo_charges.specs.Alone.{IsAlone};
 ghost use Rattle.agg_spec.specs.Outcome.{whole_unless_none};
 ghost use Rattle.agg_search.specs.Defined.{CanRun};
-ghost use Rattle.index_laws.specs.Indexes.{index_of};
+ghost use Rattle.fitting_laws.specs.Indexes.{index_of};
 ghost use Rattle.agg_search.specs.Progressing.{Follows, StopsIn};
 ghost use Rattle.agg_search.specs.Reached.{HasReached, HoldsCosts};
 ghost use Rattle.agg_search.specs.Reducing.{Reduces, StopsReducing};

@@ -10,7 +10,7 @@ ghost use Rattle.breaker_words.specs.Views.{hold_of};
 ghost use Rattle.solo_charges.specs.Alone.{IsAlone};
 ghost use Rattle.agg_search.specs.Answering.{AnswersAlone, Searches, Solves, StopsSearching, StopsSolving};
 ghost use Rattle.agg_search.specs.Telling.{IsTold, next_as, told_as};
-ghost use Rattle.index_laws.specs.Indexes.{index_of};
+ghost use Rattle.fitting_laws.specs.Indexes.{index_of};
 ghost use Rattle.agg_search.specs.Paging.{IsBehind, request_at};
 ghost use Rattle.agg_search.specs.Stops.{IfRefused};
 

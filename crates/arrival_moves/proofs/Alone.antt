@@ -19,7 +19,7 @@ use Rattle.arrival_moves.specs.Items.{is_arrived, is_batch, is_due, in_item, arr
 use Rattle.arrival_moves.specs.Hands.{find_item, in_hand, in_hands, HasItem}
 use Rattle.arrival_moves.specs.Moves.{ArrivalState}
 use Rattle.arrival_moves.specs.Fairness.{everywhere, IsOfSearch}
-use Rattle.place_laws.proofs.Sums.{sum_by_pair}
+use Rattle.list_laws.proofs.PlaceSums.{sum_by_pair}
 use Rattle.arrival_moves.proofs.NumberLists.{contains_times}
 use Rattle.arrival_moves.proofs.OneIf.{one_if_le, one_if_true}
 use Rattle.arrival_moves.proofs.Cases.{found_is, exchanged_sum}

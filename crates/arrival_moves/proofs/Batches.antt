@@ -23,13 +23,13 @@ use Rattle.arrival_moves.specs.Hands.{find_item, exchanged, in_hands}
 use Rattle.arrival_moves.specs.AfterMove.{after_count, after_take_result, after_reach_batch, after_put_merged, after_close, reached_item, batch_due, taken_from}
 use Rattle.arrival_moves.specs.Guards.{may_put_merged}
 use Rattle.arrival_moves.specs.Moves.{ArrivalState, Move, claim, take_task, arrive, put, count, take_result, put_merged, split, join, close, stop, stopped, move, opened}
-use Rattle.place_laws.proofs.Places.{at_set}
+use Rattle.list_laws.proofs.Places.{at_set}
 use Rattle.arrival_moves.proofs.OneIf.{one_if_le, one_if_never, one_if_always, one_if_fewer}
 use Rattle.arrival_moves.proofs.SlotStates.{is_reached, was_emptied, not_emptied, none_but, put_or_reached, has_slot, first_slot}
 use Rattle.arrival_moves.proofs.NumberLists.{times_without}
 use Rattle.arrival_moves.proofs.BatchRanges.{batch_times, batch_some}
 use Rattle.arrival_moves.proofs.Cases.{desk_keeps, item_keeps, by_label, hands_exchanged}
-use Rattle.place_laws.proofs.Tests.{by_test}
+use Rattle.list_laws.proofs.PlaceTests.{by_test}
 use Rattle.arrival_moves.proofs.CloseGuards.{close_guard}
 use Rattle.arrival_moves.proofs.Items.{hands_more, put_gives}
 use Rattle.arrival_moves.specs.Fairness.{HasShape}

@@ -10,7 +10,7 @@ use Rattle.arrival_moves.specs.Slots.{Slot, fresh, reached, holds, emptied}
 use Rattle.arrival_moves.specs.declared.item.Item.{Item}
 use Rattle.arrival_moves.specs.declared.label.Label.{Label}
 use Rattle.arrival_moves.specs.declared.view.View.{View}
-use Rattle.place_laws.proofs.Sums.{sum_by_set}
+use Rattle.list_laws.proofs.PlaceSums.{sum_by_set}
 
 -- a state by a guard
 by_bool : (P : ArrivalState → Type 0) (s t : ArrivalState) (b : Bool) → P s → (b ≡ true → P t) → P (cond b t s)

@@ -6,7 +6,7 @@ use mathlib.Core.Option.{some, some-injective, some-ne-none}
 use lib.ListN.{get_elem?}
 use Rattle.std.specs.List.{sum_by}
 use Rattle.std.proofs.lemmas.List.Sums.{sum_by_push}
-use Rattle.place_laws.proofs.Places.{set_else}
+use Rattle.list_laws.proofs.Places.{set_else}
 use Rattle.arrival_moves.specs.AfterMove.{first_view, spent_view, after_claim, after_split, split_off, after_join}
 use Rattle.arrival_moves.specs.Fairness.{ClaimsFit}
 use Rattle.arrival_moves.specs.Guards.{may_close}
@@ -17,10 +17,10 @@ use Rattle.arrival_moves.specs.Plans.{task_count}
 use Rattle.arrival_moves.specs.declared.item.Item.{Item}
 use Rattle.arrival_moves.specs.declared.plan.Plan.{Plan}
 use Rattle.arrival_moves.specs.declared.view.View.{View}
-use Rattle.place_laws.proofs.Sums.{sum_by_set, each_set, each_snoc}
+use Rattle.list_laws.proofs.PlaceSums.{sum_by_set, each_set, each_snoc}
 use Rattle.arrival_moves.proofs.CloseGuards.{close_guard}
 use Rattle.arrival_moves.proofs.Cases.{desk_keeps, item_keeps, by_label, not_idle}
-use Rattle.place_laws.proofs.Tests.{by_test}
+use Rattle.list_laws.proofs.PlaceTests.{by_test}
 use Rattle.arrival_moves.proofs.Quiet.{apart_from, bare}
 
 module _ (p : Plan) where

@@ -22,8 +22,8 @@ use Rattle.arrival_moves.specs.Hands.{in_hand, in_hands}
 use Rattle.arrival_moves.specs.Moves.{ArrivalState}
 use Rattle.arrival_moves.specs.Fairness.{everywhere, IsOfSearch, of_search, failed_tasks, skipped_tasks}
 use Rattle.arrival_moves.specs.Closing.{IsAtEnd, IsMergedAt}
-use Rattle.place_laws.proofs.Sums.{Each, sum_by_has, sum_by_pair}
-use Rattle.place_laws.proofs.Places.{there_below}
+use Rattle.list_laws.proofs.PlaceSums.{Each, sum_by_has, sum_by_pair}
+use Rattle.list_laws.proofs.Places.{there_below}
 use Rattle.arrival_moves.proofs.Each.{each_tail}
 use Rattle.arrival_moves.proofs.BatchRanges.{batch_some}
 use Rattle.arrival_moves.proofs.Places.{place_within, place_at}

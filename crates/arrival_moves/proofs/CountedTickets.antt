@@ -17,7 +17,7 @@ use Rattle.arrival_moves.specs.Items.{arrived_at, put_at, uncounted_in}
 use Rattle.arrival_moves.specs.Hands.{in_hand, in_hands}
 use Rattle.arrival_moves.specs.Moves.{ArrivalState}
 use Rattle.arrival_moves.specs.Fairness.{is_counted}
-use Rattle.place_laws.proofs.Sums.{sum_by_has}
+use Rattle.list_laws.proofs.PlaceSums.{sum_by_has}
 use Rattle.arrival_moves.proofs.OneIf.{one_if_true}
 use Rattle.arrival_moves.proofs.BatchRanges.{batch_times}
 use Rattle.arrival_moves.proofs.Quiet.{lt_one, lt_none, eq_one, eq_none}

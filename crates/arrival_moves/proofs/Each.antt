@@ -4,7 +4,7 @@ use Rattle.std.proofs.lemmas.Bool.{cond_both}
 use mathlib.Core.Option.{Option, some, some-injective, some-ne-none}
 use Rattle.arrival_moves.specs.declared.item.Item.{Item}
 use Rattle.arrival_moves.specs.Hands.{find_item, exchanged}
-use Rattle.place_laws.proofs.Sums.{Each}
+use Rattle.list_laws.proofs.PlaceSums.{Each}
 
 module _ {X : Type 0} (F : X → Type 0) where
   -- of no element

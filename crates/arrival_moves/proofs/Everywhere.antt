@@ -22,7 +22,7 @@ use Rattle.arrival_moves.specs.Hands.{find_item}
 use Rattle.arrival_moves.specs.AfterMove.{after_claim, after_take_task, after_arrive, after_reach_result, after_put, after_count, after_take_result, after_reach_batch, after_put_merged, after_close, after_stop, after_stopped, reached_item, batch_due, taken_from}
 use Rattle.arrival_moves.specs.Moves.{ArrivalState, take_task, arrive, count, split, join, close, stopped, move}
 use Rattle.arrival_moves.specs.Fairness.{everywhere}
-use Rattle.place_laws.proofs.Sums.{sum_by_set}
+use Rattle.list_laws.proofs.PlaceSums.{sum_by_set}
 use Rattle.arrival_moves.proofs.Cases.{desk_keeps, item_keeps, by_label, hands_exchanged}
 use Rattle.arrival_moves.proofs.Items.{hands_more, hands_same, claimed_gives, loaded_gives, put_gives}
 use Rattle.arrival_moves.proofs.Quiet.{hands_split, hands_join, apart_from, bare}

@@ -16,7 +16,7 @@ use Rattle.arrival_moves.proofs.Quiet.{lt_one}
 use Rattle.arrival_moves.proofs.Words.{drawn_le}
 use Rattle.arrival_moves.proofs.Places.{place_within, place_at}
 use Rattle.arrival_moves.proofs.Batches.{le_none}
-use Rattle.place_laws.proofs.Places.{there_below}
+use Rattle.list_laws.proofs.Places.{there_below}
 use Rattle.arrival_moves.proofs.SlotStates.{was_emptied, full_slot, has_slot}
 use Rattle.arrival_moves.proofs.CountedTickets.{counted_all}
 use Rattle.std.proofs.lemmas.Bool.{ltb-true}

@@ -9,7 +9,7 @@ use Rattle.arrival_moves.specs.AfterMove.{after_claim}
 use Rattle.arrival_moves.specs.Moves.{ArrivalState, Move, claim, take_task, arrive, put, count, take_result, put_merged, split, join, close, stop, stopped, move, run, opened}
 use Rattle.arrival_moves.specs.Growth.{HasGrown, RaisesClaims}
 use Rattle.arrival_moves.proofs.Cases.{desk_keeps, item_keeps, by_label}
-use Rattle.place_laws.proofs.Tests.{by_test}
+use Rattle.list_laws.proofs.PlaceTests.{by_test}
 use Rattle.arrival_moves.proofs.Runs.{IsKept, kept_move, kept_run, move_desk_is}
 
 -- a word that is set to no smaller a number

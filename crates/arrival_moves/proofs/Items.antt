@@ -14,7 +14,7 @@ use Rattle.arrival_moves.specs.declared.item.Item.TheVariants.{Claimed, Loaded, 
 use Rattle.arrival_moves.specs.declared.item.LoadedTask.{LoadedTask}
 use Rattle.arrival_moves.specs.declared.item.Ticket.{Ticket}
 use Rattle.arrival_moves.specs.declared.view.View.{View}
-use Rattle.place_laws.proofs.Sums.{sum_by_set}
+use Rattle.list_laws.proofs.PlaceSums.{sum_by_set}
 use Rattle.arrival_moves.proofs.Cases.{found_is, hands_exchanged}
 
 -- an item that is meant is one of its kind, with these numbers

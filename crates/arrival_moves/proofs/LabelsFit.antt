@@ -22,13 +22,13 @@ use Rattle.arrival_moves.specs.AfterMove.{first_view, spent_view, after_close, a
 use Rattle.arrival_moves.specs.Guards.{may_put, may_put_merged, implies}
 use Rattle.arrival_moves.specs.Moves.{ArrivalState, Move, claim, take_task, arrive, put, count, take_result, put_merged, split, join, close, stop, stopped, move, opened}
 use Rattle.arrival_moves.specs.Fairness.{IsOfSearch, HoldsMerged}
-use Rattle.place_laws.proofs.Places.{at_set}
-use Rattle.place_laws.proofs.Sums.{Each, each_set, each_snoc}
+use Rattle.list_laws.proofs.Places.{at_set}
+use Rattle.list_laws.proofs.PlaceSums.{Each, each_set, each_snoc}
 use Rattle.arrival_moves.proofs.Each.{each_none, each_one, each_append, each_exchanged, each_found}
 use Rattle.arrival_moves.proofs.NumberLists.{times_append, times_one, contains_times, times_without, length_without, numbers_length, same_is}
 use Rattle.arrival_moves.proofs.BatchRanges.{batch_within}
 use Rattle.arrival_moves.proofs.Cases.{desk_keeps, item_keeps, by_label, found_is}
-use Rattle.place_laws.proofs.Tests.{by_test}
+use Rattle.list_laws.proofs.PlaceTests.{by_test}
 use Rattle.arrival_moves.proofs.CloseGuards.{close_guard}
 use Rattle.arrival_moves.proofs.Items.{as_claimed, as_loaded, as_arrived, as_batch}
 use Rattle.arrival_moves.specs.Fairness.{HasShape}

@@ -5,7 +5,7 @@ use mathlib.Core.Option.{some}
 use mathlib.Core.Logic.{dite}
 use native.Mathlib.Decide.{ℕ_discrete, dec_lt}
 use lib.ListN.{get_elem?}
-use Rattle.place_laws.proofs.Places.{set_else}
+use Rattle.list_laws.proofs.Places.{set_else}
 use Rattle.arrival_moves.specs.AfterMove.{after_claim, after_take_task, after_arrive, after_put, after_count, after_stop, batch_due}
 use Rattle.arrival_moves.specs.Hands.{in_hands, find_item}
 use Rattle.arrival_moves.specs.Items.{claimed_at, is_claimed, is_at_slot, is_marked}
@@ -19,7 +19,7 @@ use Rattle.arrival_moves.specs.declared.item.Item.TheVariants.{Claimed, Loaded, 
 use Rattle.arrival_moves.specs.declared.plan.Plan.{Plan}
 use Rattle.arrival_moves.specs.declared.view.View.{View}
 use Rattle.arrival_moves.proofs.Cases.{desk_keeps, item_keeps}
-use Rattle.place_laws.proofs.Tests.{by_test}
+use Rattle.list_laws.proofs.PlaceTests.{by_test}
 use Rattle.arrival_moves.proofs.Items.{hands_more, hands_same, claimed_gives, loaded_gives, arrived_gives, put_gives}
 use Rattle.arrival_moves.proofs.Quiet.{lt_one, lt_none, eq_one, eq_none, IsQuiet, Quietly, batch_due_none, quiet_open, quiet_take, quiet_merged, quiet_split, quiet_join, quiet_close, quiet_stopped}
 

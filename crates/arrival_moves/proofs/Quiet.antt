@@ -5,7 +5,7 @@ use mathlib.Core.Option.{some}
 use lib.ListN.{get_elem?}
 use Rattle.std.specs.List.{sum_by}
 use Rattle.std.proofs.lemmas.List.Sums.{sum_by_push}
-use Rattle.place_laws.proofs.Places.{set_else}
+use Rattle.list_laws.proofs.Places.{set_else}
 use Rattle.arrival_moves.specs.AfterMove.{spent_view, reached_item, taken_from, batch_due, after_split, split_off, after_join, after_reach_result, after_take_result, after_put_merged, after_reach_batch, after_close}
 use Rattle.arrival_moves.specs.Hands.{find_item, in_hand, in_hands, is_empty}
 use Rattle.arrival_moves.specs.Items.{is_arrived, is_batch, is_at_slot}
@@ -23,7 +23,7 @@ use Rattle.arrival_moves.specs.declared.plan.Plan.{Plan}
 use Rattle.arrival_moves.specs.declared.view.View.{View}
 use Rattle.std.specs.Prelude.{◌==◌, if◌then◌else◌}
 use Rattle.arrival_moves.proofs.Cases.{desk_keeps, item_keeps, by_label, hands_exchanged}
-use Rattle.place_laws.proofs.Tests.{by_test}
+use Rattle.list_laws.proofs.PlaceTests.{by_test}
 use Rattle.arrival_moves.proofs.Items.{hands_more, hands_same, batch_gives}
 
 -- a number below another counts 1

@@ -4,7 +4,7 @@ use Rattle.std.specs.Prelude.{◌==◌, if◌then◌else◌}
 use mathlib.Core.Option.{some}
 use lib.ListN.{get_elem?}
 use Rattle.std.specs.List.{sum_by}
-use Rattle.place_laws.proofs.Places.{at_set}
+use Rattle.list_laws.proofs.Places.{at_set}
 use Rattle.arrival_moves.specs.AfterMove.{spent_view, reached_item, after_claim, after_take_task, after_arrive, after_put, after_reach_result, after_count, after_stop, after_take_result, taken_from, batch_due, after_put_merged, after_reach_batch, after_split, split_off, after_join, after_close, after_stopped}
 use Rattle.arrival_moves.specs.Hands.{in_hand, in_hands, exchanged, find_item}
 use Rattle.arrival_moves.specs.Items.{arrived_at, reached_at, is_arrived, is_at_slot}
@@ -18,9 +18,9 @@ use Rattle.arrival_moves.specs.declared.item.Item.TheVariants.{Claimed, Loaded, 
 use Rattle.arrival_moves.specs.declared.label.Label.{Label}
 use Rattle.arrival_moves.specs.declared.plan.Plan.{Plan}
 use Rattle.arrival_moves.specs.declared.view.View.{View}
-use Rattle.place_laws.proofs.Sums.{sum_by_rest}
+use Rattle.list_laws.proofs.PlaceSums.{sum_by_rest}
 use Rattle.arrival_moves.proofs.Cases.{desk_keeps, item_keeps, by_label, hands_exchanged, exchanged_sum, found_is}
-use Rattle.place_laws.proofs.Tests.{by_test}
+use Rattle.list_laws.proofs.PlaceTests.{by_test}
 use Rattle.arrival_moves.proofs.Items.{hands_more, hands_same, claimed_gives, loaded_gives, put_gives, batch_gives, as_arrived}
 use Rattle.arrival_moves.specs.Fairness.{HasShape}
 use Rattle.arrival_moves.proofs.Quiet.{hands_split, hands_join, apart_from, bare}

@@ -5,7 +5,7 @@ use mathlib.Core.Option.{some}
 use mathlib.Core.Logic.{dite}
 use native.Mathlib.Decide.{ℕ_discrete, dec_lt}
 use lib.ListN.{get_elem?}
-use Rattle.place_laws.proofs.Places.{at_set}
+use Rattle.list_laws.proofs.Places.{at_set}
 use Rattle.arrival_moves.specs.AfterMove.{spent_view, reached_item, after_claim, after_take_task, after_arrive, after_put, after_reach_result, after_count, after_stop, after_take_result, taken_from, batch_due, after_put_merged, after_reach_batch, after_split, split_off, after_join, after_close, after_stopped}
 use Rattle.arrival_moves.specs.Hands.{in_hands, find_item}
 use Rattle.arrival_moves.specs.Items.{arrived_at, is_loaded, is_arrived, is_batch, is_at_slot}
@@ -19,7 +19,7 @@ use Rattle.arrival_moves.specs.declared.label.Label.{Label}
 use Rattle.arrival_moves.specs.declared.plan.Plan.{Plan}
 use Rattle.arrival_moves.specs.declared.view.View.{View}
 use Rattle.arrival_moves.proofs.Cases.{desk_keeps, item_keeps, by_label, hands_exchanged}
-use Rattle.place_laws.proofs.Tests.{by_test}
+use Rattle.list_laws.proofs.PlaceTests.{by_test}
 use Rattle.arrival_moves.proofs.Items.{hands_more, hands_same, claimed_gives, loaded_gives, arrived_gives, put_gives, batch_gives}
 use Rattle.arrival_moves.specs.Fairness.{HasShape}
 use Rattle.arrival_moves.proofs.Quiet.{quiet_reached, lt_one, lt_none, IsQuiet, batch_due_none, taken_none, hands_split, hands_join, apart_from, bare}

@@ -6,7 +6,7 @@ use Rattle.arrival_moves.specs.Moves.{ArrivalState, Move, claim, take_task, arri
 use Rattle.arrival_moves.specs.declared.plan.Plan.{Plan}
 use Rattle.arrival_moves.specs.Fairness.{HasShape}
 use Rattle.arrival_moves.proofs.Cases.{desk_keeps, item_keeps, by_label}
-use Rattle.place_laws.proofs.Tests.{by_test}
+use Rattle.list_laws.proofs.PlaceTests.{by_test}
 
 module _ (p : Plan) where
   abbrev H : ArrivalState → Type 0

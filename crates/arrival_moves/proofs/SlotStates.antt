@@ -4,7 +4,7 @@ use mathlib.Core.Option.{some, some-injective, some-ne-none}
 use lib.ListN.{get_elem?}
 use Rattle.arrival_moves.specs.declared.label.Label.{Label}
 use Rattle.arrival_moves.specs.Slots.{Slot, fresh, reached, holds, emptied, in_slot, was_put}
-use Rattle.place_laws.proofs.Places.{at_set}
+use Rattle.list_laws.proofs.Places.{at_set}
 
 -- 1 where a desk is at the slot to put something
 abbrev pub is_reached : Slot → ℕ

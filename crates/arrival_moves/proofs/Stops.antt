@@ -22,12 +22,12 @@ use Rattle.arrival_moves.specs.AfterMove.{first_view, spent_view, after_claim, a
 use Rattle.arrival_moves.specs.Guards.{may_put, may_put_merged, implies}
 use Rattle.arrival_moves.specs.Moves.{ArrivalState, Move, claim, take_task, arrive, put, count, take_result, put_merged, split, join, close, stop, stopped, move, opened}
 use Rattle.arrival_moves.specs.Fairness.{everywhere, of_search, failed_tasks, skipped_tasks}
-use Rattle.place_laws.proofs.Sums.{Each, each_set, each_snoc, sum_by_has}
+use Rattle.list_laws.proofs.PlaceSums.{Each, each_set, each_snoc, sum_by_has}
 use Rattle.arrival_moves.proofs.Each.{each_one}
 use Rattle.arrival_moves.proofs.NumberLists.{times_cons}
 use Rattle.arrival_moves.proofs.OneIf.{one_if_true}
 use Rattle.arrival_moves.proofs.Cases.{desk_keeps, item_keeps, by_label}
-use Rattle.place_laws.proofs.Tests.{by_test}
+use Rattle.list_laws.proofs.PlaceTests.{by_test}
 use Rattle.arrival_moves.specs.Fairness.{HasShape}
 use Rattle.arrival_moves.proofs.Quiet.{eq_one}
 use Rattle.arrival_moves.proofs.Words.{WordsFit, zeros}

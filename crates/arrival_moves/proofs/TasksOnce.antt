@@ -18,11 +18,11 @@ use Rattle.arrival_moves.specs.AfterMove.{after_claim}
 use Rattle.arrival_moves.specs.Guards.{may_put, may_put_merged}
 use Rattle.arrival_moves.specs.Moves.{ArrivalState, Move, claim, take_task, arrive, put, count, take_result, put_merged, split, join, close, stop, stopped, move, opened}
 use Rattle.arrival_moves.specs.Fairness.{everywhere}
-use Rattle.place_laws.proofs.Sums.{Each, each_set}
+use Rattle.list_laws.proofs.PlaceSums.{Each, each_set}
 use Rattle.arrival_moves.proofs.NumberLists.{times_append, times_cons}
 use Rattle.arrival_moves.proofs.BatchRanges.{batch_some}
 use Rattle.arrival_moves.proofs.Cases.{desk_keeps, item_keeps, by_label}
-use Rattle.place_laws.proofs.Tests.{by_test}
+use Rattle.list_laws.proofs.PlaceTests.{by_test}
 use Rattle.arrival_moves.specs.Fairness.{HasShape}
 use Rattle.arrival_moves.proofs.Quiet.{eq_one, eq_none}
 use Rattle.arrival_moves.proofs.Words.{WordsFit}

@@ -18,7 +18,7 @@ use Rattle.arrival_moves.specs.Hands.{in_hands}
 use Rattle.arrival_moves.specs.AfterMove.{after_claim, after_take_task, after_arrive, after_reach_result, after_put, after_stop, after_stopped, reached_item}
 use Rattle.arrival_moves.specs.Moves.{ArrivalState, claim, take_task, arrive, put, split, join, stop, stopped, move}
 use Rattle.arrival_moves.proofs.Cases.{desk_keeps, item_keeps}
-use Rattle.place_laws.proofs.Tests.{by_test}
+use Rattle.list_laws.proofs.PlaceTests.{by_test}
 use Rattle.arrival_moves.proofs.Items.{hands_more, hands_same, claimed_gives, loaded_gives, arrived_gives}
 use Rattle.arrival_moves.specs.Fairness.{HasShape}
 use Rattle.arrival_moves.proofs.Quiet.{hands_split, hands_join, apart_from, bare}

@@ -18,7 +18,7 @@ use Rattle.arrival_moves.specs.declared.item.Item.TheVariants.{Claimed, Loaded, 
 use Rattle.arrival_moves.specs.declared.plan.Plan.{Plan}
 use Rattle.arrival_moves.specs.declared.view.View.{View}
 use Rattle.arrival_moves.proofs.Cases.{desk_keeps, item_keeps}
-use Rattle.place_laws.proofs.Tests.{by_test}
+use Rattle.list_laws.proofs.PlaceTests.{by_test}
 use Rattle.arrival_moves.proofs.Items.{hands_more, hands_same, claimed_gives, loaded_gives, arrived_gives, put_gives}
 use Rattle.arrival_moves.specs.Fairness.{HasShape}
 use Rattle.arrival_moves.proofs.Quiet.{eq_one, eq_none, IsQuiet, Quietly, batch_due_none, quiet_open, quiet_take, quiet_merged, quiet_split, quiet_join, quiet_close, quiet_stopped}

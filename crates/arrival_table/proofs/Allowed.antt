@@ -24,10 +24,10 @@ use Rattle.arrival_table.specs.Outs.{OutOnce, is_away, knows, now_knows, now_has
 use Rattle.arrival_table.specs.Steps.{IsStateOf, IsReached, IsLoadAt, IsOutcomeAt, Claims, TakesTask, Arrives, GivesBack}
 use Rattle.arrival_moves.proofs.Cases.{exchanged_sum, found_is}
 use Rattle.arrival_moves.proofs.Items.{as_claimed}
-use Rattle.place_laws.proofs.Places.{at_set, set_else}
+use Rattle.list_laws.proofs.Places.{at_set, set_else}
 use Rattle.arrival_moves.proofs.Quiet.{eq_one}
 use Rattle.arrival_moves.proofs.Runs.{kept_run, move_desk_is, move_item_is}
-use Rattle.place_laws.proofs.Sums.{sum_by_rest, sum_by_has}
+use Rattle.list_laws.proofs.PlaceSums.{sum_by_rest, sum_by_has}
 use Rattle.arrival_moves.proofs.Words.{arrived, of_search_le}
 use Rattle.arrival_table.proofs.Lists.{set_word, get_left, set_left}
 use Rattle.arrival_table.proofs.Outs.{views_set, views_get, out_stays, out_taken, out_given, out_away}

@@ -28,15 +28,15 @@ use Rattle.arrival_moves.proofs.Alone.{due_there}
 use Rattle.arrival_moves.proofs.Batches.{held_real, fresh_batch, hands_has}
 use Rattle.arrival_moves.proofs.Cases.{found_is, find_again, exchanged_again}
 use Rattle.arrival_moves.proofs.LabelsFit.{batch_found, due_range, due_now, batch_first}
-use Rattle.place_laws.proofs.Places.{at_set, set_else, set_here}
+use Rattle.list_laws.proofs.Places.{at_set, set_else, set_here}
 use Rattle.arrival_moves.proofs.Places.{place_within}
 use Rattle.arrival_moves.proofs.OneIf.{one_if_le}
 use Rattle.arrival_moves.proofs.Runs.{IsKept, kept_run, move_item_is}
-use Rattle.place_laws.proofs.Sums.{sum_by_has}
+use Rattle.list_laws.proofs.PlaceSums.{sum_by_has}
 use Rattle.arrival_table.proofs.Allowed.{again, desk_there, desks_now, load_stays, outcome_stays}
 use Rattle.arrival_table.proofs.Lists.{set_word}
 use Rattle.arrival_table.proofs.Outs.{out_taken, out_given}
-use Rattle.place_laws.proofs.Places.{there_below}
+use Rattle.list_laws.proofs.Places.{there_below}
 
 -- at the slot it is the same batch
 still_batch : (q b : ℕ) (x : Item) → is_batch q b x ≡ true → is_batch q b (reached_item x) ≡ true

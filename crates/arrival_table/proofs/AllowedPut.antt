@@ -22,7 +22,7 @@ use Rattle.arrival_moves.specs.Slots.{fresh, reached, holds}
 use Rattle.arrival_table.specs.Outs.{knows, now_has_out}
 use Rattle.arrival_table.specs.Steps.{IsReached, IsOutcomeAt, ReachesResult, PutsResult, result_slot}
 use Rattle.arrival_moves.proofs.Cases.{found_is, find_again, exchanged_again}
-use Rattle.place_laws.proofs.Places.{at_set, set_else, set_here}
+use Rattle.list_laws.proofs.Places.{at_set, set_else, set_here}
 use Rattle.arrival_moves.proofs.Places.{place_within}
 use Rattle.arrival_moves.proofs.Reached.{fresh_there}
 use Rattle.arrival_moves.proofs.Results.{in_range}
@@ -30,7 +30,7 @@ use Rattle.arrival_moves.proofs.Runs.{kept_run, move_item_is}
 use Rattle.arrival_table.proofs.Allowed.{again, desk_there, desks_now, load_stays, outcome_stays}
 use Rattle.arrival_table.proofs.Lists.{set_word}
 use Rattle.arrival_table.proofs.Outs.{out_taken, out_given}
-use Rattle.place_laws.proofs.Places.{there_below}
+use Rattle.list_laws.proofs.Places.{there_below}
 
 -- a desk that is not yet at the slot may come to it
 pub away_may : (q t : ℕ) (v : View) (l : Label) (x : Item) → is_arrived q t x ≡ true → is_at_slot x ≡ false → may_put v q l x ≡ true

@@ -18,7 +18,7 @@ use Rattle.arrival_moves.specs.Plans.{search_of, task_count, IsPlan}
 use Rattle.arrival_table.specs.Outs.{now_knows}
 use Rattle.arrival_table.specs.Steps.{IsReached, Stops, ReadsStop, Looks}
 use Rattle.arrival_moves.proofs.Runs.{kept_run, move_item_is, move_desk_is}
-use Rattle.place_laws.proofs.Sums.{sum_by_has}
+use Rattle.list_laws.proofs.PlaceSums.{sum_by_has}
 use Rattle.arrival_table.proofs.Allowed.{again, desk_there, desks_now}
 use Rattle.arrival_table.proofs.Lists.{set_word, get_right, set_right}
 use Rattle.arrival_table.proofs.Outs.{out_stays}

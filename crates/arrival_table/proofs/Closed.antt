@@ -34,8 +34,8 @@ use Rattle.arrival_moves.proofs.Quiet.{lt_none}
 use Rattle.arrival_moves.proofs.Closing.{merged_there, merged_once, merged_failed}
 use Rattle.arrival_moves.proofs.Runs.{IsKept, kept_run}
 use Rattle.arrival_moves.proofs.SlotStates.{has_slot}
-use Rattle.place_laws.proofs.Places.{there_below}
-use Rattle.place_laws.proofs.Sums.{Each, each_snoc}
+use Rattle.list_laws.proofs.Places.{there_below}
+use Rattle.list_laws.proofs.PlaceSums.{Each, each_snoc}
 use Rattle.arrival_table.proofs.Allowed.{desk_there}
 use Rattle.arrival_table.proofs.Filled.{take_more, something, at_or}
 use Rattle.arrival_table.proofs.Starts.{next_start, first_start, search_valid}

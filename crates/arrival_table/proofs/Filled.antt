@@ -9,8 +9,8 @@ use Rattle.arrival_table.specs.declared.cell.Cell.{Cell}
 use Rattle.arrival_table.specs.declared.cell.Cell.TheVariants.{Vacant, Load}
 use Rattle.arrival_table.specs.declared.opening.Task.{Task}
 use Rattle.arrival_table.specs.Opening.{IsFilled}
-use Rattle.place_laws.proofs.Places.{set_here, set_else}
-use Rattle.place_laws.proofs.Places.{there_below}
+use Rattle.list_laws.proofs.Places.{set_here, set_else}
+use Rattle.list_laws.proofs.Places.{there_below}
 
 pub at_replicate : {X : Type 0} (n j : ℕ) (x : X) → j < n → get_elem? (replicate n x) j ≡ some x
 at_replicate zero j x h = absurd (omega arith)

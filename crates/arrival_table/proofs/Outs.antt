@@ -6,9 +6,9 @@ use Rattle.std.proofs.lemmas.List.Sums.{sum_by-cons, sum_by-append}
 use Rattle.arrival_table.specs.declared.known.Known.{Known}
 use Rattle.arrival_moves.specs.Lists.{one_if, times}
 use Rattle.arrival_table.specs.Outs.{outs, is_away, OutOnce}
-use Rattle.place_laws.proofs.Places.{at_set}
+use Rattle.list_laws.proofs.Places.{at_set}
 use Rattle.arrival_moves.proofs.Quiet.{eq_one, eq_none}
-use Rattle.place_laws.proofs.Sums.{sum_by_set}
+use Rattle.list_laws.proofs.PlaceSums.{sum_by_set}
 
 -- the views of desks, one of which changed
 pub views_set : (ds : List Known) (i : ℕ) (d : Known) → map (λ (e : Known). e.view) (set ds i d) ≡ set (map (λ (e : Known). e.view) ds) i d.view

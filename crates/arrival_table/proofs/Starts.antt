@@ -15,7 +15,7 @@ use Rattle.arrival_moves.proofs.Counts.{within_batch}
 use Rattle.arrival_moves.proofs.Quiet.{lt_one, lt_none, eq_one, eq_none}
 use Rattle.arrival_moves.proofs.Places.{none_before}
 use Rattle.arrival_moves.proofs.Words.{drawn_valid, drawn_le, of_search_le}
-use Rattle.place_laws.proofs.Places.{set_here, set_else}
+use Rattle.list_laws.proofs.Places.{set_here, set_else}
 use Rattle.arrival_table.proofs.Filled.{at_replicate}
 
 pub or_some : (xs : List ℕ) (i x d : ℕ) → get_elem? xs i ≡ some x → get_or xs i d ≡ x

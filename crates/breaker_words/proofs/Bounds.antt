@@ -18,8 +18,8 @@ use Rattle.breaker_words.specs.Moves.{may_set_ceiling, may_split, may_join, may_
 use Rattle.breaker_words.specs.Soundness.{IsBounded}
 use Rattle.breaker_words.specs.Trials.{is_child_refused, is_child_granted, is_returning, is_parent_refused, is_given}
 use Rattle.breaker_words.specs.Views.{hold_of, first_view, spent_view}
-use Rattle.place_laws.proofs.Sums.{Each, each_set, each_snoc, sum_by_has}
-use Rattle.place_laws.proofs.Tests.{by_test}
+use Rattle.list_laws.proofs.PlaceSums.{Each, each_set, each_snoc, sum_by_has}
+use Rattle.list_laws.proofs.PlaceTests.{by_test}
 use Rattle.breaker_words.proofs.Moves.{account_cases, move_pass_keeps}
 use Rattle.breaker_words.proofs.Runs.{first_of, sound_run}
 use Rattle.breaker_words.proofs.WholeCap.{holds_within}

@@ -25,10 +25,10 @@ use Rattle.breaker_words.specs.Soundness.{IsSound}
 use Rattle.breaker_words.specs.Breakers.{counter_value}
 use Rattle.breaker_words.specs.Counts.{amount_granted, refusals, sum_over_moves, untaken_refusals, untaken_refusals_in, value_where}
 use Rattle.atomic_table.proofs.Lists.{set_else}
-use Rattle.place_laws.proofs.Sums.{sum_by_set, sum_by_has}
+use Rattle.list_laws.proofs.PlaceSums.{sum_by_set, sum_by_has}
 use Rattle.std.proofs.lemmas.List.Sums.{sum_by_push}
 use Rattle.breaker_words.proofs.Moves.{account_cases, move_pass_keeps}
-use Rattle.place_laws.proofs.Tests.{by_test}
+use Rattle.list_laws.proofs.PlaceTests.{by_test}
 use Rattle.breaker_words.proofs.OnePass.{both_cases, returns, rests}
 use Rattle.breaker_words.proofs.Runs.{sound_run, sound_move}
 
@@ -105,7 +105,7 @@ module _ (l : Limits) (x : Which) where
   joined_sum : (s : BreakerState) (i j : ℕ) (v w : View) (m : ℕ) → get_elem? s.passes i ≡ some v → get_elem? s.passes j ≡ some w → j ≢ i → counter_value (sum_of s) ≡ counter_value m
       → counter_value (sum_by (λ z. granted_of z x) (set (set s.passes i (after_join v w)) j spent_view)) ≡ counter_value (m + 0)
   joined_sum s i j v w m here there apart e = let u = after_join v w in let a = sum_by_set (λ z. granted_of z x) s.passes i v u here in let b = sum_by_set (λ z. granted_of z x) (set s.passes i u) j w spent_view (set_else s.passes i j u apart ∙ there) in let z = no_grants x in
-      let g = joined_grants v w x in let two = Rattle.place_laws.proofs.Sums.sum_by_pair (λ z. granted_of z x) s.passes i j v w apart here there in
+      let g = joined_grants v w x in let two = Rattle.list_laws.proofs.PlaceSums.sum_by_pair (λ z. granted_of z x) s.passes i j v w apart here there in
       let is : sum_by (λ z. granted_of z x) (set (set s.passes i u) j spent_view) ≡ sum_of s - granted_of v x - granted_of w x + counter_value (granted_of v x + granted_of w x) = omega arith in
       ap counter_value is ∙ join_sum (sum_of s) (granted_of v x) (granted_of w x) 0 m two e refl
 
@@ -271,7 +271,7 @@ module _ (l : Limits) (x : Which) where
       → counter_value (trips_in (set (set s.passes i (after_join v w)) j spent_view)) ≡ counter_value (m + 0)
   trips_joined s i j v w m here there apart rest rest' e = let u = after_join v w in let there' = set_else s.passes i j u apart ∙ there in let n : ℕ = sum_by (λ z. trips_of z x) s.passes in let p : ℕ = sum_by (λ z. untaken_refusals z x) s.passes in
       let a = sum_by_set (λ z. trips_of z x) s.passes i v u here in let b = sum_by_set (λ z. trips_of z x) (set s.passes i u) j w spent_view there' in let z = no_trips x in let g = joined_trips v w x in
-      let a' = sum_by_set (λ z. untaken_refusals z x) s.passes i v u here in let b' = sum_by_set (λ z. untaken_refusals z x) (set s.passes i u) j w spent_view there' in let two = Rattle.place_laws.proofs.Sums.sum_by_pair (λ z. trips_of z x) s.passes i j v w apart here there in
+      let a' = sum_by_set (λ z. untaken_refusals z x) s.passes i v u here in let b' = sum_by_set (λ z. untaken_refusals z x) (set s.passes i u) j w spent_view there' in let two = Rattle.list_laws.proofs.PlaceSums.sum_by_pair (λ z. trips_of z x) s.passes i j v w apart here there in
       let is : trips_in (set (set s.passes i u) j spent_view) ≡ (n - trips_of v x - trips_of w x + counter_value (trips_of v x + trips_of w x)) + p = omega arith in ap counter_value is ∙ join_trip n p (trips_of v x) (trips_of w x) m two e
 
   trips_move : (s : BreakerState) (t : Move) (m : ℕ) → counter_value (trips_in s.passes) ≡ counter_value m → counter_value (trips_in (move l s t).passes) ≡ counter_value (m + refusals l s t x)

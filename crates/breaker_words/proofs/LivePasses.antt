@@ -14,7 +14,7 @@ use Rattle.breaker_words.specs.Soundness.{IsConsistent}
 use Rattle.atomic_table.specs.Table.{Me}
 use Rattle.breaker_words.specs.Passes.{IsLive}
 use Rattle.breaker_words.proofs.Moves.{hold_child}
-use Rattle.place_laws.proofs.Tests.{by_test}
+use Rattle.list_laws.proofs.PlaceTests.{by_test}
 use Rattle.breaker_words.proofs.OnePass
 use Rattle.breaker_words.proofs.Runs.{own_ceiled, own_cut, own_joined, own_empty}
 

@@ -20,7 +20,7 @@ use Rattle.breaker_words.specs.Views.{hold_of, most_of, seen_of}
 use Rattle.breaker_words.specs.Trials.{standing_of, in_force_of, child_in_force, child_standing, parent_standing}
 use Rattle.breaker_words.specs.Moves.{BreakerState, with_word_raised, with_word_lowered, move_pass, move_some}
 use Rattle.breaker_words.specs.Soundness.{FitsCeiling, IsConsistent, IsSound}
-use Rattle.place_laws.proofs.Sums.{sum_by_set, sum_by_has, sum_by_below, each_set}
+use Rattle.list_laws.proofs.PlaceSums.{sum_by_set, sum_by_has, sum_by_below, each_set}
 
 pub amount_at_zero : (w x : Which) → amount_at w 0 x ≡ 0
 amount_at_zero Request Request = refl

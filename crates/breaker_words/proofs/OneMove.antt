@@ -20,7 +20,7 @@ use Rattle.breaker_words.specs.Soundness.{IsConsistent, IsSound, IsNear}
 use Rattle.atomic_table.specs.Table.{keeps, stepped}
 use Rattle.atomic_table.proofs.Lists.{set_again, set_else}
 use Rattle.breaker_words.specs.Atomic.{Running, IsStateOf}
-use Rattle.place_laws.proofs.Sums.{sum_by_has, sum_by_rest, sum_by_below}
+use Rattle.list_laws.proofs.PlaceSums.{sum_by_has, sum_by_rest, sum_by_below}
 use Rattle.breaker_words.proofs.Moves.{amount_at_zero, amount_at_same, hold_child, move_pass_is, standing_as}
 use Rattle.breaker_words.proofs.OnePass.{own_at, returns}
 use Rattle.breaker_words.proofs.Steps.{may_try_child_is}

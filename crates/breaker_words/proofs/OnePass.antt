@@ -18,7 +18,7 @@ use Rattle.breaker_words.specs.Trials.{child_standing, parent_standing, child_on
 use Rattle.breaker_words.specs.AfterStep.{noted_parent, raised_both, after_try_child, after_take_back_child, after_try_parent, after_take_back_parent, after_give_parent, after_give_child}
 use Rattle.breaker_words.specs.Soundness.{IsConsistent}
 use Rattle.breaker_words.proofs.Moves.{amount_at_zero, account_cases, hold_put, children_put, parent_put, hold_child}
-use Rattle.place_laws.proofs.Tests.{by_test}
+use Rattle.list_laws.proofs.PlaceTests.{by_test}
 
 -- a fact at the breaker w with its new account and a, and at each other with its account and nothing
 pub both_cases : (P : Which → Account → ℕ → Type 0) (w : Which) (k : Accounts) (b : Account) (a : ℕ) → P w b a → ((x : Which) → P x (account k x) 0) → (x : Which) → P x (account (put k w b) x) (amount_at w a x)

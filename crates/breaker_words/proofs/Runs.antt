@@ -19,10 +19,10 @@ use Rattle.breaker_words.specs.AfterStep.{after_set_ceiling, after_split, split_
 use Rattle.breaker_words.specs.Moves.{BreakerState, Move, look, set_ceiling, split, join, try_child, take_back_child, try_parent, take_back_parent, give_parent, give_child, move, run, opened, may_set_ceiling, may_split, may_join, has_room}
 use Rattle.breaker_words.specs.Soundness.{FitsCeiling, IsConsistent, IsSound}
 use Rattle.atomic_table.proofs.Lists.{at_set, set_else}
-use Rattle.place_laws.proofs.Sums.{sum_by_pair, sum_by_set, sum_by_has, each_set, each_snoc}
+use Rattle.list_laws.proofs.PlaceSums.{sum_by_pair, sum_by_set, sum_by_has, each_set, each_snoc}
 use Rattle.std.proofs.lemmas.List.Sums.{sum_by_push}
 use Rattle.breaker_words.proofs.Moves.{amount_at_zero, standing_as, inforce_as, move_pass_keeps}
-use Rattle.place_laws.proofs.Tests.{by_test}
+use Rattle.list_laws.proofs.PlaceTests.{by_test}
 use Rattle.breaker_words.proofs.OnePass.{At, own_at, rests}
 use Rattle.breaker_words.proofs.Steps.{sound_tried_child, sound_taken_child, sound_tried_parent, sound_taken_parent, sound_given_parent, sound_given_child}
 

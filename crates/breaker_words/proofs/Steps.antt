@@ -19,7 +19,7 @@ use Rattle.breaker_words.specs.AfterStep.{noted_parent, raised_both, after_try_c
 use Rattle.breaker_words.specs.Moves.{BreakerState, with_word_raised, with_word_lowered, may_try_child, may_give_parent}
 use Rattle.breaker_words.specs.Soundness.{IsConsistent, IsSound}
 use Rattle.breaker_words.proofs.Moves.{amount_at_zero, amount_at_add, amount_at_cases, account_cases, hold_put, standing_as, inforce_as, rises, falls}
-use Rattle.place_laws.proofs.Tests.{by_test}
+use Rattle.list_laws.proofs.PlaceTests.{by_test}
 use Rattle.breaker_words.proofs.OnePass
 
 pub may_try_tells : (a : ℕ) (v : View) → may_try_child a v ≡ true → (v.trial ≡ Rest) × (1 ≤ a) × (v.accounts.parent.hold + a ≤ v.cap)

@@ -14,7 +14,7 @@ use Rattle.breaker_words.specs.Views.{hold_of, most_of, seen_of}
 use Rattle.breaker_words.specs.Trials.{standing_of, in_force_of}
 use Rattle.breaker_words.specs.Moves.{BreakerState}
 use Rattle.breaker_words.specs.Soundness.{IsSound}
-use Rattle.place_laws.proofs.Sums.{sum_by_pair, sum_by_rest, sum_by_has, sum_by_below}
+use Rattle.list_laws.proofs.PlaceSums.{sum_by_pair, sum_by_rest, sum_by_has, sum_by_below}
 use Rattle.breaker_words.proofs.Moves.{standing_as, amount_at_zero}
 use Rattle.breaker_words.proofs.OnePass.{At, own_at}
 

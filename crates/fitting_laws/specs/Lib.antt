@@ -2,3 +2,4 @@
 pub mod Stores
 pub mod Wholes
 pub mod Pages
+pub mod Indexes

@@ -8,3 +8,6 @@ pub mod Permutations
 pub mod StableSort
 pub mod Each
 pub mod Among
+pub mod Places
+pub mod PlaceSums
+pub mod PlaceTests

@@ -4,3 +4,6 @@ pub mod Runs
 pub mod Passes
 pub mod Carried
 pub mod Sets
+pub mod Gathered
+pub mod Pooled
+pub mod Ended

@@ -21,9 +21,9 @@ use Rattle.arrival_table.proofs.OneItem.{batch_due_is, batch_has, batch_taken_is
 use Rattle.arrival_table.specs.Calls.{IsDue, IsMergedOf}
 use Rattle.arrival_table.specs.Holding.{AreNew, HasBatch, due_tickets, found_item, taken_label}
 use Rattle.arrival_table.specs.Models.{ArrivalsModel, DeskModel, IsOf}
-use Rattle.pool_batch.proofs.Joining.{shards-append}
-use Rattle.pool_batch.specs.Gathered.{IsAdded, IsKept, first_of, has_failed, taken_of, with_work}
-use Rattle.pool_batch.specs.declared.taken.Taken.{Taken}
+use Rattle.pool_results.proofs.Joining.{shards-append}
+use Rattle.pool_results.specs.Gathered.{IsAdded, IsKept, first_of, has_failed, taken_of, with_work}
+use Rattle.pool_results.specs.declared.taken.Taken.{Taken}
 use Rattle.pool_results.specs.Carried.{has_failed as has_failed_work, label_of}
 use Rattle.pool_results.specs.Pools.{Pool, shard_count, task_number}
 use Rattle.pool_results.specs.Runs.{shards_in}

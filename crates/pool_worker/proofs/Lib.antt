@@ -1,3 +1,6 @@
 pub mod Tasks
 pub mod Hands
 pub mod Gathering
+pub mod SentParts
+pub mod SharedParts
+pub mod Tables

@@ -5,7 +5,9 @@
 mod delivering;
 mod merging;
 mod running;
+mod threads;
 mod working;
 
+pub use threads::work_all;
 pub use worker_gate::{Gate, OpenGate, Point};
 pub use working::work;

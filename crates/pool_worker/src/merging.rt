@@ -11,8 +11,7 @@ ghost use Rattle.pool_worker.specs.Steps.{SameClaims};
 
 use arrival_table::{Arrivals, Desk};
 use breaker_words::Words;
-use pool_batch::{add, begin, finish};
-use pool_results::{Load, Outcome, PoolCall};
+use pool_results::{Load, Outcome, PoolCall, add, begin, finish};
 use std::alloc::Global;
 
 /// Takes the `count` results of a batch, from the ticket `first` on, and puts the merged one into its slot.

@@ -7,15 +7,14 @@ ghost use Rattle.arrival_table.specs.Models.{IsOf};
 ghost use Rattle.pool_results.specs.Carried.{has_failed, label_of};
 ghost use Rattle.pool_results.specs.Pools.{IsPool, task_number};
 ghost use Rattle.pool_results.specs.Runs.{shards_in};
-ghost use Rattle.pool_task.specs.Pooled.{IsPoolOf};
+ghost use Rattle.pool_results.specs.Pooled.{IsPoolOf};
 ghost use Rattle.pool_worker.specs.Plans.{plan_of};
 ghost use Rattle.pool_worker.specs.Steps.{SameClaims};
 
 use agg_model::{List, Search};
 use arrival_table::{Arrivals, Desk};
 use breaker_words::Words;
-use pool_results::{Load, Outcome, PoolCall, Work};
-use pool_task::{run, skip};
+use pool_results::{Load, Outcome, PoolCall, Work, run, skip};
 use shard_columns::Index;
 use std::alloc::Global;
 

@@ -5,7 +5,7 @@ ghost use Rattle.arrival_moves.specs.declared.limits.TheConstants.{MAX_TASKS};
 ghost use Rattle.arrival_moves.specs.Plans.{task_count};
 ghost use Rattle.arrival_table.specs.Models.{IsOf};
 ghost use Rattle.pool_results.specs.Pools.{IsPool};
-ghost use Rattle.pool_task.specs.Pooled.{IsPoolOf};
+ghost use Rattle.pool_results.specs.Pooled.{IsPoolOf};
 ghost use Rattle.pool_worker.specs.Plans.{plan_of};
 ghost use Rattle.pool_worker.specs.Steps.{SameClaims};
 

@@ -1,9 +1,20 @@
 //! Tests of whole runs over memory. What is wanted was computed by another program.
 #![tactic(auto)]
 
-#[cfg(test)]
+mod batches;
+mod ends;
 mod faults;
-#[cfg(test)]
+mod finals;
+mod gaps;
 mod gated;
-#[cfg(test)]
+mod lines;
+mod listeners;
+mod meetings;
+mod memory;
+mod merges;
+mod partials;
+mod parts;
+mod pools;
+mod refusals;
 mod runs;
+mod scripts;

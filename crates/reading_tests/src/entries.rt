@@ -2,8 +2,7 @@
 use agg_base::{Block, Lines, MemorySource};
 use agg_model::script_refusal::{BAD_HEADER, MISSING_BODY};
 use agg_model::{Bytes, List as Numbers, Text};
-use script_entries::{Entry, next_entry};
-use script_lines::{ScriptFault, ScriptRefusal};
+use script_lines::{Entry, ScriptFault, ScriptRefusal, next_entry};
 use std::alloc::Global;
 use std::test::Fail;
 

@@ -2,13 +2,18 @@
 //! their own, since a crate that has tests is proved once more for them.
 #![tactic(auto)]
 
-#[cfg(test)]
+mod actions;
+mod bodies;
+mod copies;
 mod entries;
-#[cfg(test)]
+mod fields;
 mod headers;
-#[cfg(test)]
 mod inputs;
-#[cfg(test)]
+mod lent;
+mod mappings;
 mod parts;
-#[cfg(test)]
+mod queries;
+mod routings;
+mod rows;
 mod settings;
+mod stores;

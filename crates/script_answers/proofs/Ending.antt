@@ -17,7 +17,7 @@ use Rattle.agg_spec.specs.Statistics.{AreTotals}
 use Rattle.agg_spec.specs.Answers.{Recent, IsAllowed, AreRounds, with_rounds, changed_by, after_line}
 use Rattle.agg_spec.specs.Written.{Line, settings, statistics, round_lines}
 use Rattle.agg_spec.specs.Output.{refusal_line}
-use Rattle.script_entries.specs.Reading.{behind}
+use Rattle.script_lines.specs.Reading.{behind}
 use Rattle.script_answers.specs.Outputs.{Output}
 use Rattle.script_answers.specs.Puts.{Stops}
 use Rattle.script_answers.specs.Rest.{IsRest, EndsWell, EndsEarly}

@@ -16,7 +16,7 @@ use Rattle.agg_spec.specs.Requests.{Segment, segments, request_of, to_full_waves
 use Rattle.agg_spec.specs.Rounds.{Round}
 use Rattle.agg_spec.specs.Answers.{Change, Recent, IsAllowed, AreRounds, AreAnswered, after_line, with_rounds, changed_by, latest}
 use Rattle.agg_spec.specs.Written.{Line, answer, settings, statistics, round_lines, change_lines, answer_lines}
-use Rattle.script_entries.specs.Reading.{behind}
+use Rattle.script_lines.specs.Reading.{behind}
 use Rattle.script_answers.specs.Rest.{Answers, EndsWell, EndsEarly}
 use Rattle.script_answers.specs.Steps.{Leads}
 use Rattle.script_answers.proofs.Batches.{none-full}

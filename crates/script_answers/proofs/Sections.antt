@@ -10,8 +10,8 @@ use Rattle.agg_spec.specs.Index.{Index}
 use Rattle.agg_spec.specs.Answers.{Recent}
 use Rattle.agg_spec.specs.Written.{Line}
 use Rattle.agg_spec.specs.Output.{refusal_line, whole_lines}
-use Rattle.script_entries.specs.Reading.{behind, GoesOnAt, Ends, then_entries}
-use Rattle.script_entries.proofs.EntryLemmas.{all}
+use Rattle.script_lines.specs.Reading.{behind, GoesOnAt, Ends, then_entries}
+use Rattle.script_lines.proofs.EntryLemmas.{all}
 use Rattle.script_lines.specs.Faults.{refusal_of}
 use Rattle.script_lines.specs.declared.fault.ScriptFault.{ScriptFault}
 use Rattle.script_lines.specs.declared.fault.ScriptFault.TheVariants as fault

@@ -8,7 +8,7 @@ use Rattle.agg_spec.specs.Index.{Index}
 use Rattle.agg_spec.specs.Answers.{Change, Recent}
 use Rattle.agg_spec.specs.Written.{Line}
 use Rattle.agg_spec.specs.Output.{refusal_line}
-use Rattle.script_entries.specs.Reading.{behind}
+use Rattle.script_lines.specs.Reading.{behind}
 use Rattle.script_answers.specs.Rest.{EndsWell, EndsEarly, EndsRefused, IsRest, IsCut}
 use Rattle.script_answers.specs.Steps.{Leads}
 use Rattle.script_answers.proofs.Completing.{some-rest}

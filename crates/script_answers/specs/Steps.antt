@@ -6,7 +6,7 @@ use Rattle.agg_reading.specs.Entries.{Entry, Entries}
 use Rattle.agg_spec.specs.Index.{Index}
 use Rattle.agg_spec.specs.Answers.{Change, Recent}
 use Rattle.agg_spec.specs.Written.{Line, line_text, ended_line, is_printed, all_printed, text_of}
-use Rattle.script_entries.specs.Reading.{behind}
+use Rattle.script_lines.specs.Reading.{behind}
 use Rattle.script_answers.specs.Outputs.{Output, after_all}
 use Rattle.script_answers.specs.Rest.{EndsWell, EndsEarly, EndsRefused, IsCut}
 use Rattle.script_answers.specs.declared.end.ScriptEnd.{ScriptEnd}

@@ -8,7 +8,7 @@ ghost use Rattle.agg_reading.specs.SettingsLines.{is_settings_line};
 ghost use Rattle.agg_spec.specs.Answers.{Recent};
 ghost use Rattle.script_answers.specs.Answering.{MayBe, fresh_with};
 ghost use Rattle.agg_settings.specs.Ranges.{AreInRange};
-ghost use Rattle.script_entries.specs.Reading.{IsFormed, behind, entry_of};
+ghost use Rattle.script_lines.specs.Reading.{IsFormed, behind, entry_of};
 ghost use Rattle.script_answers.specs.Outputs.{so_far};
 ghost use Rattle.script_answers.specs.Stepping.{bodies_of, IsReady, TakesEntry, StopsAt, Finishes};
 
@@ -19,7 +19,7 @@ use crate::wave::{answer_wave, close};
 use agg_base::Sink;
 use agg_listen::{Audience, Listener};
 use agg_model::{Bytes, List, Settings};
-use script_entries::Entry;
+use script_lines::Entry;
 use serde_json::Value;
 use std::alloc::Global;
 use std::thread::Threads;

@@ -1,3 +1,4 @@
 pub mod HandedLemmas
 mod HeaderLemmas
 pub mod LineLemmas
+pub mod EntryLemmas

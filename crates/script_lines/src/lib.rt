@@ -6,7 +6,9 @@
 mod fault;
 mod header;
 mod line;
+mod reader;
 
 pub use fault::{ScriptFault, ScriptRefusal};
 pub use header::{Header, header_of};
 pub use line::{is_empty_line, next_line, refused, refused_here, take_line};
+pub use reader::{Entry, next_entry};

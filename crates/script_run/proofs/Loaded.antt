@@ -2,7 +2,7 @@
 use Rattle.std.specs.Prelude.{◌≡◌, ◌≤◌, ℕ, Bool, List, [], ◌∷◌, ◌++◌, take, Option, Some, None, is_some, option_map, Ok, Err}
 use Rattle.std.proofs.Common.{inl, inr, refl, ◌∙◌, sym, ap, subst}
 use Rattle.agg_bulk.specs.Indexing.{IsLoaded}
-use Rattle.index_laws.specs.Indexes.{index_of}
+use Rattle.fitting_laws.specs.Indexes.{index_of}
 use Rattle.agg_bulk.specs.declared.index.LoadedIndex.{LoadedIndex}
 use Rattle.agg_listen.specs.Hearing.{Hearing}
 use Rattle.agg_model.specs.Lines.{Line as InputLine, lines}
@@ -27,7 +27,7 @@ use Rattle.script_answers.specs.declared.end.ScriptEnd.TheVariants as ended
 use Rattle.script_answers.specs.declared.stop.Stop.{Stop}
 use Rattle.script_answers.specs.declared.stop.Stop.TheVariants.{Write, Memory}
 use Rattle.script_answers.proofs.Putting.{wrote-append, front-append}
-use Rattle.script_entries.specs.Reading.{GoesOnAt, then_entries}
+use Rattle.script_lines.specs.Reading.{GoesOnAt, then_entries}
 use Rattle.script_run.specs.Ends.{status_of, ended_by}
 use Rattle.script_run.specs.Runs.{WroteBy, WroteOf, script_of, IsCutOf}
 use Rattle.script_run.specs.declared.status.Status.{Status}

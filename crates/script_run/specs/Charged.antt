@@ -1,7 +1,7 @@
 -- An index whose columns are charged ('Circuit breaker settings' of Elasticsearch Reference 8, fielddata).
 use Rattle.std.specs.Prelude.{◌≡◌, None}
 use Rattle.breaker_tree.specs.Reopening.{HoldsColumns}
-use Rattle.index_laws.specs.Indexes.{index_of}
+use Rattle.fitting_laws.specs.Indexes.{index_of}
 use Rattle.agg_model.specs.declared.settings.Settings.{Settings}
 use Rattle.agg_spec.specs.Columns.{columns_charge, columns_refusal}
 use Rattle.breaker_words.specs.Passes.{WordsModel, PassModel}

@@ -1,6 +1,6 @@
 //! Who answers, made of what was loaded.
 ghost use Rattle.std.specs.Prelude.{◌≡◌, []};
-ghost use Rattle.index_laws.specs.Indexes.{index_of};
+ghost use Rattle.fitting_laws.specs.Indexes.{index_of};
 ghost use Rattle.agg_model.specs.declared.settings.Settings.{Settings as AnySettings};
 ghost use Rattle.agg_settings.specs.Ranges.{AreInRange};
 ghost use Rattle.agg_spec.specs.Columns.{columns_charge};

@@ -16,17 +16,17 @@ use Rattle.batch_reduce.specs.Reduced.{at_both}
 use Rattle.breaker_words.specs.Passes.{PassModel, WordsModel}
 use Rattle.breaker_words.specs.Views.{hold_of}
 use Rattle.breaker_words.specs.declared.view.View.{View}
-use Rattle.index_laws.specs.Indexes.{index_of}
-use Rattle.pool_closing.specs.Ends.{cost_of_ends, over_tasks}
-use Rattle.pool_closing.specs.declared.search_end.SearchEnd.{SearchEnd}
+use Rattle.fitting_laws.specs.Indexes.{index_of}
+use Rattle.shard_pool.specs.Ends.{cost_of_ends, over_tasks}
+use Rattle.shard_pool.specs.declared.search_end.SearchEnd.{SearchEnd}
 use Rattle.pool_results.specs.Pools.{peak_at}
 use Rattle.shard_columns.specs.declared.index.Index.{Index as ShardIndex}
 use Rattle.shard_pool.specs.PoolOf.{pool_of}
 use Rattle.wave_answers.specs.Ended.{AreAnswers}
 use Rattle.wave_bodies.specs.Charged.{charged_for}
-use Rattle.wave_reading.specs.Asking.{AreAsked}
-use Rattle.wave_reading.specs.declared.asked.Asked.{Asked}
-use Rattle.wave_reading.specs.declared.asked.Asked.TheVariants as asks
+use Rattle.wave_bodies.specs.Asking.{AreAsked}
+use Rattle.wave_bodies.specs.declared.asked.Asked.{Asked}
+use Rattle.wave_bodies.specs.declared.asked.Asked.TheVariants as asks
 use Rattle.search_wave.specs.Ran.{HasAnswered}
 use Rattle.search_wave.proofs.AllowedAnswers.{run-allowed}
 use Rattle.search_wave.proofs.AllowedEnds.{HaveEnded, ends-cost, ends-known}

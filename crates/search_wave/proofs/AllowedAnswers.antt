@@ -18,11 +18,11 @@ use Rattle.agg_spec.specs.Outcome.{Request as AnyRequest, outcome, outcome_of_sh
 use Rattle.agg_spec.specs.Rounds.{response_bytes}
 use Rattle.agg_spec.specs.Wave.{AreAllowed, IsEnded, IsSeen, MayAnswer, MayEnd, PeaksFit, ResponseFits, allows_partial, result_cost, search_in, task_peaks}
 use Rattle.breaker_words.specs.declared.view.View.{View}
-use Rattle.closing_laws.proofs.Each.{each-image, each-step}
-use Rattle.pool_closing.specs.Ends.{IsTold, is_stopped}
-use Rattle.pool_closing.specs.declared.search_end.SearchEnd.{SearchEnd}
+use Rattle.shard_pool.proofs.Each.{each-image, each-step}
+use Rattle.shard_pool.specs.Ends.{IsTold, is_stopped}
+use Rattle.shard_pool.specs.declared.search_end.SearchEnd.{SearchEnd}
 use Rattle.wave_answers.specs.Ended.{HasRoom, IsAnswer, IsReduced, IsRefused, IsStopped, outcome_at}
-use Rattle.wave_reading.specs.Asking.{IsRunAs}
+use Rattle.wave_bodies.specs.Asking.{IsRunAs}
 use Rattle.search_wave.proofs.AllowedEnds.{HadRoom, HasEnded}
 use Rattle.search_wave.proofs.AllowedLists.{each-behind, some-left}
 use Rattle.search_wave.proofs.AllowedSeen.{IsWithin, charge-seen, told-seen}

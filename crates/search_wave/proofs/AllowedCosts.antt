@@ -17,9 +17,9 @@ use Rattle.agg_spec.specs.Index.{Index, rows_in, shard_numbers}
 use Rattle.agg_spec.specs.Outcome.{shard_answers, whole_of}
 use Rattle.breaker_words.specs.declared.view.View.{View}
 use Rattle.evaluation_laws.proofs.SearchCosts.{whole-saves}
-use Rattle.pool_batch.proofs.Parts.{costs-peaks}
-use Rattle.pool_closing.specs.Ends.{HasParts, MayEnd, is_stopped}
-use Rattle.pool_closing.specs.declared.search_end.SearchEnd.{SearchEnd}
+use Rattle.pool_results.proofs.Parts.{costs-peaks}
+use Rattle.shard_pool.specs.Ends.{HasParts, MayEnd, is_stopped}
+use Rattle.shard_pool.specs.declared.search_end.SearchEnd.{SearchEnd}
 use Rattle.pool_results.specs.Pools.{Pool, cost_at, peak_at, search_at}
 
 module _ (index : Index) (search : Search) where

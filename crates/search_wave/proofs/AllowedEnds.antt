@@ -9,10 +9,10 @@ use Rattle.agg_spec.specs.Failures.{AreFailures, unfailed}
 use Rattle.agg_spec.specs.Index.{Index}
 use Rattle.breaker_words.specs.Passes.{WordsModel}
 use Rattle.breaker_words.specs.declared.view.View.{View}
-use Rattle.closing_laws.proofs.Each.{each-step}
-use Rattle.index_laws.specs.Indexes.{index_of}
-use Rattle.pool_closing.specs.Ends.{IsTold, MayEnd, cost_of_ends, is_stopped, told_in}
-use Rattle.pool_closing.specs.declared.search_end.SearchEnd.{SearchEnd}
+use Rattle.shard_pool.proofs.Each.{each-step}
+use Rattle.fitting_laws.specs.Indexes.{index_of}
+use Rattle.shard_pool.specs.Ends.{IsTold, MayEnd, cost_of_ends, is_stopped, told_in}
+use Rattle.shard_pool.specs.declared.search_end.SearchEnd.{SearchEnd}
 use Rattle.pool_results.specs.Carried.{PeakFits}
 use Rattle.pool_results.specs.Pools.{no_search}
 use Rattle.shard_columns.specs.declared.index.Index.{Index as ShardIndex}

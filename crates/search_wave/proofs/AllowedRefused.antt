@@ -10,7 +10,7 @@ use Rattle.agg_model.specs.declared.settings.Settings.{Settings}
 use Rattle.agg_spec.specs.Index.{Index}
 use Rattle.agg_spec.specs.Outcome.{Request as AnyRequest}
 use Rattle.agg_spec.specs.Wave.{MayAnswer, PeaksFit, task_peaks}
-use Rattle.wave_reading.specs.Asking.{IsRefusedAs}
+use Rattle.wave_bodies.specs.Asking.{IsRefusedAs}
 
 module _ (settings : Settings) (index : Index) (columns ceiling : ℕ) (r : AnyRequest) where
   abbrev tripped_answer : Tripped → Answered

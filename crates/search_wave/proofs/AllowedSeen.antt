@@ -10,7 +10,7 @@ use Rattle.agg_spec.specs.Index.{Index}
 use Rattle.agg_spec.specs.Wave.{IsSeen}
 use Rattle.breaker_words.specs.Views.{hold_of, most_of}
 use Rattle.breaker_words.specs.declared.view.View.{View}
-use Rattle.pool_closing.specs.Ends.{IsTold}
+use Rattle.shard_pool.specs.Ends.{IsTold}
 use Rattle.pool_results.specs.Passes.{is_charged}
 
 -- what the pass had standing once the tasks had ended, by the parts of the ceiling

@@ -12,15 +12,15 @@ use Rattle.agg_spec.specs.Outcome.{Request as AnyRequest}
 use Rattle.agg_spec.specs.Rounds.{response_bytes}
 use Rattle.agg_spec.specs.Wave.{body_charge, search_in, task_peaks}
 use Rattle.breaker_words.specs.Passes.{WordsModel}
-use Rattle.index_laws.specs.Indexes.{index_of}
-use Rattle.pool_closing.specs.Ends.{over_tasks}
+use Rattle.fitting_laws.specs.Indexes.{index_of}
+use Rattle.shard_pool.specs.Ends.{over_tasks}
 use Rattle.pool_results.specs.Pools.{no_search, peak_at}
 use Rattle.shard_columns.specs.declared.index.Index.{Index as ShardIndex}
 use Rattle.shard_pool.specs.PoolOf.{pool_of}
 use Rattle.wave_bodies.specs.Charged.{charged_for}
-use Rattle.wave_reading.specs.Asking.{AreAsked, IsRunAs}
-use Rattle.wave_reading.specs.declared.asked.Asked.{Asked}
-use Rattle.wave_reading.specs.declared.asked.Asked.TheVariants as asks
+use Rattle.wave_bodies.specs.Asking.{AreAsked, IsRunAs}
+use Rattle.wave_bodies.specs.declared.asked.Asked.{Asked}
+use Rattle.wave_bodies.specs.declared.asked.Asked.TheVariants as asks
 use Rattle.search_wave.proofs.AllowedLists.{sum-listed, sum-places}
 
 -- what the task of the shard holds at most, and all tasks of a search

@@ -6,9 +6,9 @@ use Rattle.agg_model.specs.declared.breaker.Tripped.{Tripped}
 use Rattle.agg_spec.specs.Index.{Index}
 use Rattle.agg_spec.specs.Outcome.{Request}
 use Rattle.wave_answers.specs.Ended.{runs_asked}
-use Rattle.wave_reading.specs.Asking.{AreAsked}
-use Rattle.wave_reading.specs.declared.asked.Asked.{Asked}
-use Rattle.wave_reading.specs.declared.asked.Asked.TheVariants as asks
+use Rattle.wave_bodies.specs.Asking.{AreAsked}
+use Rattle.wave_bodies.specs.declared.asked.Asked.{Asked}
+use Rattle.wave_bodies.specs.declared.asked.Asked.TheVariants as asks
 
 pub runs-are : (index : Index) (requests : List Request) (refusals : List (Option Tripped)) (asked : List Asked) (searches : List Search)
     → AreAsked index requests refusals asked searches → runs_asked asked ≡ length searches

@@ -5,7 +5,7 @@ use Rattle.agg_model.specs.declared.aggregation.Search.{Search}
 use Rattle.agg_spec.specs.Index.{Index}
 use Rattle.agg_spec.specs.Outcome.{Request}
 use Rattle.agg_spec.specs.Requests.{request_of}
-use Rattle.wave_reading.specs.Asking.{requests_from}
+use Rattle.wave_bodies.specs.Asking.{requests_from}
 
 pub none-read : (index : Index) (bodies : List (List ℕ)) → requests_from index None bodies ≡ map (request_of index) bodies
 none-read index [] = refl

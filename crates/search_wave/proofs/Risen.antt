@@ -20,15 +20,15 @@ use Rattle.breaker_words.specs.Breakers.{counter_value}
 use Rattle.breaker_words.specs.Passes.{PassModel, WordsModel}
 use Rattle.breaker_words.specs.Views.{granted_of, hold_of, trips_of}
 use Rattle.breaker_words.specs.declared.view.View.{View}
-use Rattle.index_laws.specs.Indexes.{index_of}
-use Rattle.pool_closing.specs.Ends.{HasGranted, MayEnd, all_told, least_granted}
-use Rattle.pool_closing.specs.declared.search_end.SearchEnd.{SearchEnd}
+use Rattle.fitting_laws.specs.Indexes.{index_of}
+use Rattle.shard_pool.specs.Ends.{HasGranted, MayEnd, all_told, least_granted}
+use Rattle.shard_pool.specs.declared.search_end.SearchEnd.{SearchEnd}
 use Rattle.pool_results.specs.Pools.{Pool, no_search, search_at}
 use Rattle.pool_results.specs.Runs.{times_at}
 use Rattle.shard_columns.specs.declared.index.Index.{Index as ShardIndex}
 use Rattle.shard_pool.specs.PoolOf.{pool_of}
 use Rattle.wave_bodies.specs.Charged.{charged_for, trips_in}
-use Rattle.wave_reading.specs.declared.asked.Asked.{Asked}
+use Rattle.wave_bodies.specs.declared.asked.Asked.{Asked}
 use Rattle.search_wave.specs.Ran.{HasAnswered}
 use Rattle.search_wave.specs.Waves.{HasRisenBy, round_of}
 use Rattle.search_wave.proofs.RisenQuiet.{AreQuiet, HasEnded, all-left, goes-quiet, least_in}

@@ -23,11 +23,11 @@ use Rattle.agg_spec.specs.Index.{Index, rows_in, shard_numbers}
 use Rattle.agg_spec.specs.Outcome.{shard_answers, whole_of}
 use Rattle.agg_spec.specs.Rises.{least_merge_charge, merge_charge, task_costs}
 use Rattle.agg_spec.specs.Wave.{result_cost}
-use Rattle.closing_laws.proofs.Batches.{has-batch, has-no-batch}
-use Rattle.closing_laws.proofs.Charges.{merge-long, merge-short}
-use Rattle.closing_laws.specs.Batches.{batch_count}
+use Rattle.shard_pool.proofs.Batches.{has-batch, has-no-batch}
+use Rattle.shard_pool.proofs.Charges.{merge-long, merge-short}
+use Rattle.shard_pool.specs.Batches.{batch_count}
 use Rattle.evaluation_laws.proofs.SearchCosts.{whole-saves}
-use Rattle.pool_closing.specs.Ends.{least_for_batches}
+use Rattle.shard_pool.specs.Ends.{least_for_batches}
 
 module _ (index : Index) (search : Search) where
   all-results : (groups : List (List ℕ)) → T (list_all (is_result_of search) (map (whole_of index search) groups))

@@ -24,12 +24,12 @@ use Rattle.agg_spec.specs.Rises.{least_for_tasks, least_merge_charge, gross_sum,
 use Rattle.agg_spec.specs.Rounds.{all_quiet, is_quiet, response_bytes}
 use Rattle.agg_spec.specs.Wave.{result_cost}
 use Rattle.breaker_words.specs.declared.view.View.{View}
-use Rattle.closing_laws.specs.Batches.{batch_count}
-use Rattle.pool_closing.specs.Ends.{IsTold, all_quiet as all_ends_quiet, is_empty, is_quiet as is_quiet_end, is_stopped, told_in}
-use Rattle.pool_closing.specs.declared.search_end.SearchEnd.{SearchEnd}
+use Rattle.shard_pool.specs.Batches.{batch_count}
+use Rattle.shard_pool.specs.Ends.{IsTold, all_quiet as all_ends_quiet, is_empty, is_quiet as is_quiet_end, is_stopped, told_in}
+use Rattle.shard_pool.specs.declared.search_end.SearchEnd.{SearchEnd}
 use Rattle.wave_answers.specs.Ended.{IsAnswer, IsReduced, IsRefused, IsStopped}
 use Rattle.wave_bodies.specs.Charged.{trips_in}
-use Rattle.wave_reading.specs.Asking.{IsRefusedAs, IsRunAs}
+use Rattle.wave_bodies.specs.Asking.{IsRefusedAs, IsRunAs}
 use Rattle.search_wave.proofs.RisenMerges.{IsLeastMerge, least-merge}
 use Rattle.search_wave.proofs.RisenSums.{least_of}
 use Rattle.search_wave.proofs.RisenTold.{at-none, at-sum}

@@ -7,9 +7,9 @@ use Rattle.list_laws.proofs.Sums.{sum_by-plus}
 use Rattle.agg_model.specs.declared.aggregation.Search.{Search}
 use Rattle.agg_spec.specs.Index.{Index}
 use Rattle.agg_spec.specs.Rises.{gross_sum, task_costs}
-use Rattle.closing_laws.proofs.WorkCharges.{costs-are, gross-are}
+use Rattle.shard_pool.proofs.WorkCharges.{costs-are, gross-are}
 use Rattle.pool_results.specs.Pools.{Pool, gross_at, no_search, search_at, shard_count}
-use Rattle.pool_closing.specs.Ends.{least_for_batches, least_granted, task_costs as pool_costs}
+use Rattle.shard_pool.specs.Ends.{least_for_batches, least_granted, task_costs as pool_costs}
 
 -- the same number of each
 pub sum-same : {A : Type 0} (f g : A → ℕ) → ((x : A) → f x ≡ g x) → (xs : List A) → sum_by f xs ≡ sum_by g xs

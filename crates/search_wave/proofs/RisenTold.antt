@@ -22,8 +22,8 @@ use Rattle.agg_spec.specs.RangeCheck.{out_of_range}
 use Rattle.agg_spec.specs.Response.{response_line}
 use Rattle.agg_spec.specs.Rises.{exception_trips, sum_of_amounts, told_trips}
 use Rattle.breaker_words.specs.declared.view.View.{View}
-use Rattle.pool_closing.specs.Ends.{told_in}
-use Rattle.pool_closing.specs.declared.search_end.SearchEnd.{SearchEnd}
+use Rattle.shard_pool.specs.Ends.{told_in}
+use Rattle.shard_pool.specs.declared.search_end.SearchEnd.{SearchEnd}
 use Rattle.pool_results.specs.Runs.{times_at}
 use Rattle.wave_answers.specs.Ended.{IsAnswer, IsReduced, IsRefused, IsStopped}
 

@@ -11,11 +11,11 @@ use Rattle.agg_spec.specs.Charges.{Amounts, amounts_sum, no_amounts}
 use Rattle.agg_spec.specs.Index.{Index}
 use Rattle.agg_spec.specs.Outcome.{Request as AnyRequest}
 use Rattle.breaker_words.specs.declared.view.View.{View}
-use Rattle.pool_closing.specs.declared.search_end.SearchEnd.{SearchEnd}
+use Rattle.shard_pool.specs.declared.search_end.SearchEnd.{SearchEnd}
 use Rattle.wave_answers.specs.Ended.{AreAnswers, IsAnswer}
-use Rattle.wave_reading.specs.Asking.{AreAsked, IsRefusedAs, IsRunAs}
-use Rattle.wave_reading.specs.declared.asked.Asked.{Asked}
-use Rattle.wave_reading.specs.declared.asked.Asked.TheVariants as asks
+use Rattle.wave_bodies.specs.Asking.{AreAsked, IsRefusedAs, IsRunAs}
+use Rattle.wave_bodies.specs.declared.asked.Asked.{Asked}
+use Rattle.wave_bodies.specs.declared.asked.Asked.TheVariants as asks
 
 -- of two lists, what stands at one place belongs together
 abbrev pub Each : {A B : Type 0} → (A → B → Type 0) → List A → List B → Type 0

@@ -11,7 +11,7 @@ use Rattle.agg_spec.specs.Outcome.{Request}
 use Rattle.agg_spec.specs.Rounds.{Round}
 use Rattle.breaker_words.specs.Views.{hold_of}
 use Rattle.breaker_words.specs.declared.view.View.{View}
-use Rattle.index_laws.specs.Indexes.{index_of}
+use Rattle.fitting_laws.specs.Indexes.{index_of}
 use Rattle.shard_columns.specs.declared.index.Index.{Index as ShardIndex}
 use Rattle.search_wave.specs.Waves.{IsWave}
 

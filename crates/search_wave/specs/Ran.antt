@@ -13,16 +13,16 @@ use Rattle.breaker_words.specs.Passes.{PassModel, WordsModel}
 use Rattle.breaker_words.specs.Soundness.{IsBounded}
 use Rattle.breaker_words.specs.Views.{granted_of, hold_of, most_of, trips_of}
 use Rattle.breaker_words.specs.declared.view.View.{View}
-use Rattle.index_laws.specs.Indexes.{index_of}
-use Rattle.pool_closing.specs.Ends.{HasRun, MayEnd}
-use Rattle.pool_closing.specs.declared.search_end.SearchEnd.{SearchEnd}
+use Rattle.fitting_laws.specs.Indexes.{index_of}
+use Rattle.shard_pool.specs.Ends.{HasRun, MayEnd}
+use Rattle.shard_pool.specs.declared.search_end.SearchEnd.{SearchEnd}
 use Rattle.shard_columns.specs.declared.index.Index.{Index as ShardIndex}
 use Rattle.shard_pool.specs.PoolOf.{pool_of}
 use Rattle.wave_answers.specs.Ended.{AreAnswers}
 use Rattle.wave_answers.specs.Rising.{HasRisen}
 use Rattle.wave_bodies.specs.Charged.{AreCharged}
-use Rattle.wave_reading.specs.Asking.{AreAsked}
-use Rattle.wave_reading.specs.declared.asked.Asked.{Asked}
+use Rattle.wave_bodies.specs.Asking.{AreAsked}
+use Rattle.wave_bodies.specs.declared.asked.Asked.{Asked}
 
 -- The pass was `old` before the wave, `charged` when the bodies were charged, `opened` when its ceiling was set anew for the tasks,
 -- `closed` when they had ended, and `answered` when all was answered.

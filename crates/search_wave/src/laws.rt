@@ -7,10 +7,10 @@ ghost use Rattle.agg_model.specs.declared.settings.Settings.{Settings};
 ghost use Rattle.agg_spec.specs.Outcome.{Request as AnyRequest};
 ghost use Rattle.breaker_words.specs.Passes.{PassModel, WordsModel};
 ghost use Rattle.breaker_words.specs.declared.view.View.{View};
-ghost use Rattle.index_laws.specs.Indexes.{index_of};
-ghost use Rattle.pool_closing.specs.declared.search_end.SearchEnd.{SearchEnd};
+ghost use Rattle.fitting_laws.specs.Indexes.{index_of};
+ghost use Rattle.shard_pool.specs.declared.search_end.SearchEnd.{SearchEnd};
 ghost use Rattle.shard_columns.specs.declared.index.Index.{Index as ShardIndex};
-ghost use Rattle.wave_reading.specs.declared.asked.Asked.{Asked};
+ghost use Rattle.wave_bodies.specs.declared.asked.Asked.{Asked};
 ghost use Rattle.search_wave.specs.Ran.{HasAnswered};
 ghost use Rattle.search_wave.specs.Waves.{IsWave};
 

@@ -7,7 +7,7 @@ ghost use Rattle.agg_model.specs.declared.limits.TheConstants.{MAX_AT_ONCE, MAX_
 ghost use Rattle.agg_search.specs.Paging.{request_at};
 ghost use Rattle.agg_spec.specs.Requests.{request_of};
 ghost use Rattle.breaker_words.specs.Views.{hold_of};
-ghost use Rattle.index_laws.specs.Indexes.{index_of};
+ghost use Rattle.fitting_laws.specs.Indexes.{index_of};
 ghost use Rattle.search_wave.specs.Pages.{ArePageAnswers, IsPage};
 ghost use Rattle.solo_charges.specs.Alone.{IsAlone};
 

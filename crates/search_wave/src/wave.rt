@@ -6,11 +6,11 @@ ghost use Rattle.agg_model.specs.declared.breaker.Which.TheVariants as which;
 ghost use Rattle.agg_model.specs.declared.limits.TheConstants.{MAX_AT_ONCE, MAX_LINE};
 ghost use Rattle.agg_spec.specs.Requests.{request_of};
 ghost use Rattle.breaker_words.specs.Views.{hold_of};
-ghost use Rattle.index_laws.specs.Indexes.{index_of};
+ghost use Rattle.fitting_laws.specs.Indexes.{index_of};
 ghost use Rattle.solo_charges.specs.Alone.{IsAlone};
 ghost use Rattle.wave_answers.specs.Ended.{AreBehind};
 ghost use Rattle.search_wave.specs.Waves.{IsWave};
-ghost use Rattle.wave_reading.specs.Asking.{requests_from};
+ghost use Rattle.wave_bodies.specs.Asking.{requests_from};
 
 use agg_model::{Answered, Bytes, List, Search, Settings, Which};
 use breaker_words::{Pass, Words, look};
@@ -21,8 +21,7 @@ use solo_charges::{give_all_back, make_room};
 use std::alloc::{AllocError, Global};
 use std::thread::Threads;
 use wave_answers::{Page, answer_all};
-use wave_bodies::charge_bodies;
-use wave_reading::{Reading, read_bodies};
+use wave_bodies::{Reading, charge_bodies, read_bodies};
 
 // The answers of a wave for whose bodies the pass still holds what they were charged.
 fn answer_held<R: Threads + Sync, G: Gate>(

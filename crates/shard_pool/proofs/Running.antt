@@ -14,14 +14,14 @@ use Rattle.agg_model.specs.declared.aggregation.Search.{Search}
 use Rattle.arrival_table.specs.Models.{ArrivalsModel, DeskModel}
 use Rattle.breaker_words.specs.AfterStep.{after_split}
 use Rattle.breaker_words.specs.Passes.{PassModel, WordsModel, with_view}
-use Rattle.closing_laws.proofs.Sums.{all-numbers}
-use Rattle.pool_closing.specs.Desks.{HasEnded, claims_of}
-use Rattle.pool_closing.specs.Ends.{HasRun, over_tasks}
-use Rattle.pool_closing.specs.declared.search_end.SearchEnd.{SearchEnd}
+use Rattle.shard_pool.proofs.Sums.{all-numbers}
+use Rattle.shard_pool.specs.Desks.{HasEnded, claims_of}
+use Rattle.shard_pool.specs.Ends.{HasRun, over_tasks}
+use Rattle.shard_pool.specs.declared.search_end.SearchEnd.{SearchEnd}
 use Rattle.pool_results.specs.Pools.{Pool, ceiling_at, shard_count}
-use Rattle.pool_task.proofs.Pooling.{shards-are}
-use Rattle.pool_task.specs.Pooled.{IsPoolOf}
-use Rattle.pool_threads.specs.Workers.{HasWorked}
+use Rattle.pool_results.proofs.Pooling.{shards-are}
+use Rattle.pool_results.specs.Pooled.{IsPoolOf}
+use Rattle.pool_worker.specs.Workers.{HasWorked}
 use Rattle.shard_columns.specs.Columns.{Columns}
 use Rattle.shard_columns.specs.Index.{rows_by_shard}
 use Rattle.shard_columns.specs.declared.index.Index.{Index as ShardIndex}

@@ -2,7 +2,7 @@
 use Rattle.std.specs.Prelude.{ℕ, List}
 use Rattle.agg_model.specs.declared.aggregation.Search.{Search}
 use Rattle.breaker_words.specs.Passes.{WordsModel}
-use Rattle.index_laws.specs.Indexes.{index_of}
+use Rattle.fitting_laws.specs.Indexes.{index_of}
 use Rattle.pool_results.specs.Pools.{Pool}
 use Rattle.shard_columns.specs.declared.index.Index.{Index as ShardIndex}
 

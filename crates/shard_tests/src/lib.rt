@@ -2,21 +2,20 @@
 //! since a crate that has tests is proved once more for them.
 #![tactic(auto)]
 
-#[cfg(test)]
+mod charges;
 mod columns;
-#[cfg(test)]
 mod counts;
-#[cfg(test)]
+mod desks;
 mod filters;
-#[cfg(test)]
+mod generating;
 mod matching;
-#[cfg(test)]
 mod nesting;
-#[cfg(test)]
+mod passes;
 mod places;
-#[cfg(test)]
+mod plans;
 mod sample;
-#[cfg(test)]
+mod sections;
+mod slots;
+mod tasks;
 mod terms;
-#[cfg(test)]
 mod trees;

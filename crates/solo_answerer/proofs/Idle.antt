@@ -1,7 +1,7 @@
 -- Breakers that hold the columns alone are idle.
 use Rattle.std.specs.Prelude.{◌≡◌, ◌≤◌, ℕ}
 use Rattle.std.proofs.Common.{◌∙◌, sym, subst}
-use Rattle.index_laws.specs.Indexes.{index_of}
+use Rattle.fitting_laws.specs.Indexes.{index_of}
 use Rattle.agg_model.specs.declared.breaker.Limits.{Limits}
 use Rattle.agg_model.specs.declared.breaker.Which.TheVariants.{Request, Fielddata, Inflight}
 use Rattle.agg_model.specs.declared.limits.TheConstants.{MAX_BYTE_SIZE}

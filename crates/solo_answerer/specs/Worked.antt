@@ -1,6 +1,6 @@
 -- What the pass of one worker tells of the rounds that it answered (Elasticsearch Reference 8, 'Nodes stats API', breakers).
 use Rattle.std.specs.Prelude.{◌≡◌, ℕ, List, flat_map}
-use Rattle.index_laws.specs.Indexes.{index_of}
+use Rattle.fitting_laws.specs.Indexes.{index_of}
 use Rattle.agg_model.specs.declared.breaker.Which.TheVariants.{Request, Fielddata, Inflight}
 use Rattle.agg_model.specs.declared.settings.Settings.{Settings}
 use Rattle.agg_spec.specs.Charges.{no_amounts}

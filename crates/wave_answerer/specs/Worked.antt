@@ -11,7 +11,7 @@ use Rattle.agg_spec.specs.Solo.{columns_held}
 use Rattle.breaker_words.specs.Breakers.{counter_value}
 use Rattle.breaker_words.specs.Views.{granted_of, hold_of, trips_of}
 use Rattle.breaker_words.specs.declared.view.View.{View}
-use Rattle.index_laws.specs.Indexes.{index_of}
+use Rattle.fitting_laws.specs.Indexes.{index_of}
 use Rattle.shard_columns.specs.declared.index.Index.{Index as Built}
 
 -- The columns were granted, and beside them what these rounds were. Of the parent's granted total it says nothing, which is that of the

@@ -1,7 +1,7 @@
 //! Many workers, who answer the searches of a wave side by side.
 ghost use Rattle.std.specs.Prelude.{◌≡◌, [], false, length, nat_le};
 ghost use Rattle.std.specs.List.{list_all};
-ghost use Rattle.index_laws.specs.Indexes.{index_of};
+ghost use Rattle.fitting_laws.specs.Indexes.{index_of};
 ghost use Rattle.agg_model.specs.declared.limits.TheConstants.{MAX_LINE};
 ghost use Rattle.agg_settings.specs.Ranges.{AreInRange};
 ghost use Rattle.agg_spec.specs.Answers.{Recent};

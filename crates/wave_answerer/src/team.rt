@@ -2,7 +2,7 @@
 ghost use Rattle.std.specs.Prelude.{◌≡◌, ⊤};
 ghost use Rattle.agg_spec.specs.Columns.{columns_charge};
 ghost use Rattle.agg_spec.specs.Statistics.{is_solo};
-ghost use Rattle.index_laws.specs.Indexes.{index_of};
+ghost use Rattle.fitting_laws.specs.Indexes.{index_of};
 ghost use Rattle.solo_answerer.specs.Worked.{WorkerAnswered};
 ghost use Rattle.wave_answerer.specs.Worked.{CrewAnswered};
 

@@ -21,7 +21,7 @@ use Rattle.batch_reduce.specs.Parts.{cost_of_parts}
 use Rattle.batch_reduce.specs.Reduced.{at_both}
 use Rattle.breaker_words.specs.Views.{hold_of}
 use Rattle.breaker_words.specs.declared.view.View.{View}
-use Rattle.pool_closing.specs.declared.search_end.SearchEnd.{SearchEnd}
+use Rattle.shard_pool.specs.declared.search_end.SearchEnd.{SearchEnd}
 use Rattle.wave_answers.specs.Charging.{HasPlace, IsRefusedCharge}
 use Rattle.wave_answers.specs.Ended.{IsAnswer, IsEnd, outcome_at}
 use Rattle.wave_answers.specs.Merged.{AreWholes, HasPlaceBeside}

@@ -24,17 +24,17 @@ use Rattle.batch_reduce.specs.Parts.{cost_of_parts}
 use Rattle.breaker_words.specs.Soundness.{IsBounded}
 use Rattle.breaker_words.specs.Views.{hold_of}
 use Rattle.breaker_words.specs.declared.view.View.{View}
-use Rattle.index_laws.specs.Indexes.{index_of}
-use Rattle.pool_closing.specs.Ends.{cost_of_ends}
-use Rattle.pool_closing.specs.declared.search_end.SearchEnd.{SearchEnd}
+use Rattle.fitting_laws.specs.Indexes.{index_of}
+use Rattle.shard_pool.specs.Ends.{cost_of_ends}
+use Rattle.shard_pool.specs.declared.search_end.SearchEnd.{SearchEnd}
 use Rattle.shard_columns.specs.declared.index.Index.{Index as ShardIndex}
 use Rattle.wave_answers.specs.Ended.{AreAnswers, AreBehind, AreEndsOf, HasRoom, IsAnswer, IsReduced, IsRefused, IsStopped, runs_asked}
 use Rattle.wave_answers.specs.Next.{IsAnsweredBy, IsNext, IsNextOf}
 use Rattle.wave_answers.specs.Rising.{HasRisen}
 use Rattle.wave_answers.proofs.Rises.{rises-join, unchanged}
-use Rattle.wave_reading.specs.Asking.{AreAsked}
-use Rattle.wave_reading.specs.declared.asked.Asked.{Asked}
-use Rattle.wave_reading.specs.declared.asked.Asked.TheVariants as asks
+use Rattle.wave_bodies.specs.Asking.{AreAsked}
+use Rattle.wave_bodies.specs.declared.asked.Asked.{Asked}
+use Rattle.wave_bodies.specs.declared.asked.Asked.TheVariants as asks
 
 -- An answer of a pass that held less is one of a pass that held more.
 module _ (limits : Limits) (index : Index) (max : ℕ) (v w : View) (search : Search) (e : SearchEnd)

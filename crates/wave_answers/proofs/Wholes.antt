@@ -18,7 +18,7 @@ use Rattle.agg_spec.specs.Failures.{AreFailures, unfailed}
 use Rattle.agg_spec.specs.Index.{Index, rows_in}
 use Rattle.agg_spec.specs.Outcome.{outcome_of_shards, response_length, shard_answers, whole_of, whole_unless_none}
 use Rattle.batch_reduce.specs.Parts.{AreParts}
-use Rattle.index_laws.specs.Indexes.{index_of}
+use Rattle.fitting_laws.specs.Indexes.{index_of}
 use Rattle.list_laws.specs.Among.{AreAmong}
 use Rattle.shard_columns.specs.declared.index.Index.{Index as ShardIndex}
 use Rattle.wave_answers.specs.Merged.{AreWholes, whole_of_parts}

@@ -20,11 +20,11 @@ use Rattle.agg_spec.specs.Rises.{merge_charge}
 use Rattle.batch_reduce.specs.Parts.{cost_of_parts}
 use Rattle.breaker_words.specs.Views.{hold_of}
 use Rattle.breaker_words.specs.declared.view.View.{View}
-use Rattle.pool_closing.specs.Ends.{is_stopped}
-use Rattle.pool_closing.specs.declared.search_end.SearchEnd.{SearchEnd}
+use Rattle.shard_pool.specs.Ends.{is_stopped}
+use Rattle.shard_pool.specs.declared.search_end.SearchEnd.{SearchEnd}
 use Rattle.shard_columns.specs.declared.index.Index.{Index as ShardIndex}
-use Rattle.wave_reading.specs.declared.asked.Asked.{Asked}
-use Rattle.wave_reading.specs.declared.asked.Asked.TheVariants as asks
+use Rattle.wave_bodies.specs.declared.asked.Asked.{Asked}
+use Rattle.wave_bodies.specs.declared.asked.Asked.TheVariants as asks
 
 -- the parts are the wholes of some groups of the shards that are left, none of them empty
 pub record ArePartsOf (index : Index) (search : Search) (e : SearchEnd) : Type 0 where

@@ -11,13 +11,13 @@ use Rattle.agg_spec.specs.Outcome.{Request as AnyRequest}
 use Rattle.batch_reduce.specs.Parts.{cost_of_parts}
 use Rattle.breaker_words.specs.Views.{hold_of}
 use Rattle.breaker_words.specs.declared.view.View.{View}
-use Rattle.index_laws.specs.Indexes.{index_of}
-use Rattle.pool_closing.specs.declared.search_end.SearchEnd.{SearchEnd}
+use Rattle.fitting_laws.specs.Indexes.{index_of}
+use Rattle.shard_pool.specs.declared.search_end.SearchEnd.{SearchEnd}
 use Rattle.shard_columns.specs.declared.index.Index.{Index as ShardIndex}
 use Rattle.wave_answers.specs.Ended.{IsAnswer}
 use Rattle.wave_answers.specs.Rising.{HasRisen}
-use Rattle.wave_reading.specs.declared.asked.Asked.{Asked}
-use Rattle.wave_reading.specs.declared.asked.Asked.TheVariants as asks
+use Rattle.wave_bodies.specs.declared.asked.Asked.{Asked}
+use Rattle.wave_bodies.specs.declared.asked.Asked.TheVariants as asks
 
 -- the search behind the page of a search
 abbrev pub IsNextOf : ShardIndex → Search → Page → Type 0

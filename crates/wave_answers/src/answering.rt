@@ -7,23 +7,23 @@ ghost use Rattle.agg_search.specs.Defined.{CanRun};
 ghost use Rattle.agg_spec.specs.Charges.{Amounts};
 ghost use Rattle.agg_spec.specs.Outcome.{Request};
 ghost use Rattle.breaker_words.specs.Views.{hold_of};
-ghost use Rattle.index_laws.specs.Indexes.{index_of};
-ghost use Rattle.pool_closing.specs.Ends.{cost_of_ends};
+ghost use Rattle.fitting_laws.specs.Indexes.{index_of};
+ghost use Rattle.shard_pool.specs.Ends.{cost_of_ends};
 ghost use Rattle.solo_charges.specs.Alone.{IsAlone};
 ghost use Rattle.wave_answers.specs.Ended.{AreAnswers, AreBehind, AreEndsOf, runs_asked};
 ghost use Rattle.wave_answers.specs.Next.{IsNext};
 ghost use Rattle.wave_answers.specs.Rising.{HasRisen};
-ghost use Rattle.wave_reading.specs.Asking.{AreAsked};
+ghost use Rattle.wave_bodies.specs.Asking.{AreAsked};
 
 use crate::ending::{answer_end, last_page};
 use agg_model::{List, Outcome, Search, Which};
 use agg_search::Page;
 use breaker_words::{Pass, Words, look};
-use pool_closing::SearchEnd;
 use shard_columns::Index;
+use shard_pool::SearchEnd;
 use std::alloc::{AllocError, Global};
 use std::collections::VecDeque;
-use wave_reading::Asked;
+use wave_bodies::Asked;
 
 /// Answers what the next body asks for. Where it asks for a search that runs, that is the first of the searches that are left, and its end
 /// the first of the ends; both are taken.

@@ -13,7 +13,7 @@ ghost use Rattle.agg_spec.specs.Rises.{merge_charge};
 ghost use Rattle.batch_reduce.specs.Parts.{cost_of_parts};
 ghost use Rattle.breaker_tree.specs.Charge.{IsGivenBack};
 ghost use Rattle.breaker_words.specs.Views.{hold_of};
-ghost use Rattle.index_laws.specs.Indexes.{index_of};
+ghost use Rattle.fitting_laws.specs.Indexes.{index_of};
 ghost use Rattle.solo_charges.specs.Alone.{IsAlone};
 ghost use Rattle.wave_answers.specs.Charging.{IsRefusedCharge};
 ghost use Rattle.wave_answers.specs.Ended.{IsAnswer, IsEnd};
@@ -27,8 +27,8 @@ use agg_search::{Found, Page, outcome_of};
 use breaker_tree::give_back;
 use breaker_words::{Pass, Words, look};
 use partial_result::cost;
-use pool_closing::SearchEnd;
 use shard_columns::Index;
+use shard_pool::SearchEnd;
 use std::alloc::{AllocError, Global};
 
 /// What the parts cost together, in bytes.

@@ -1,2 +1,4 @@
 pub mod Totals
 pub mod EachBody
+pub mod OneMore
+pub mod Pages

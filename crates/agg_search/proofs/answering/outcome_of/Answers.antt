@@ -10,7 +10,7 @@ use Rattle.agg_spec.specs.Final.{final}
 use Rattle.agg_spec.specs.Outcome.{answer_of}
 use Rattle.agg_spec.specs.RangeCheck.{out_of_range}
 use Rattle.agg_spec.specs.Response.{response_line}
-use Rattle.index_laws.specs.Indexes.{index_of}
+use Rattle.fitting_laws.specs.Indexes.{index_of}
 use Rattle.agg_search.proofs.AnswerParts.{left-finish}
 use Rattle.agg_search.proofs.Batching.{rows-count}
 use Rattle.agg_search.proofs.NextPages.{response-behind}

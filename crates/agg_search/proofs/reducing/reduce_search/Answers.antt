@@ -3,7 +3,7 @@ use Rattle.agg_spec.specs.Failures.{unfailed}
 use Rattle.agg_spec.specs.Reduction.{tasks_of}
 use Rattle.batch_reduce.specs.Parts.{AreParts}
 use Rattle.agg_spec.specs.Outcome.{whole_unless_none}
-use Rattle.index_laws.specs.Indexes.{index_of}
+use Rattle.fitting_laws.specs.Indexes.{index_of}
 use Rattle.agg_search.specs.Reducing.{Reduces, StopsReducing}
 use Rattle.agg_search.proofs.Batching.{is-empty, last-parts, last-whole, reduces, reduces-if, stops-if, stops-last, whole-if}
 use Rattle.agg_search.proofs.reducing.reduce_search.Goals as goal

@@ -5,7 +5,7 @@ use Rattle.std.proofs.lemmas.Result.{err_from_is_err_and}
 use Rattle.agg_model.specs.declared.partial.Partial.{Partial}
 use Rattle.agg_spec.specs.Reduction.{after_batch, after_tasks, merged, task_of}
 use Rattle.batch_reduce.specs.Parts.{AreParts}
-use Rattle.index_laws.specs.Indexes.{index_of}
+use Rattle.fitting_laws.specs.Indexes.{index_of}
 use Rattle.agg_search.specs.Progressing.{Follows}
 use Rattle.agg_search.specs.Reached.{HasReached}
 use Rattle.agg_search.proofs.Batching.{batch-follows, batch-stops-if, reached-merged, stands-at, stops-at, waiting-parts}

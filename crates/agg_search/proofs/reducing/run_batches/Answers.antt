@@ -1,7 +1,7 @@
 use Rattle.std.proofs.Common.{◌≡◌, ◌+◌, ◌-◌, ◌*◌, ◌/◌, ◌<◌, ◌≤◌, ℕ, ap, subst, sym, ◌∙◌, arith}
 use Rattle.std.specs.Prelude.{length, min}
 use Rattle.std.proofs.lemmas.Result.{err_from_is_err_and}
-use Rattle.index_laws.specs.Indexes.{index_of}
+use Rattle.fitting_laws.specs.Indexes.{index_of}
 use Rattle.agg_search.specs.Reached.{HasReached}
 use Rattle.agg_search.proofs.Batching.{all-follow, as-chunk, as-chunk-stops, batch-stopped, end-covers, one-batch-more, rows-count, start-within}
 use Rattle.agg_search.proofs.reducing.run_batches.Goals as goal

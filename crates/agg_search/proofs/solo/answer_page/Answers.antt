@@ -1,4 +1,4 @@
-use Rattle.index_laws.specs.Indexes.{index_of}
+use Rattle.fitting_laws.specs.Indexes.{index_of}
 use Rattle.agg_search.specs.Paging.{request_at}
 use Rattle.agg_search.proofs.NextPages.{told-behind}
 use Rattle.agg_search.proofs.solo.answer_page.Goals as goal

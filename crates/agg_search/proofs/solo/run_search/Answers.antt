@@ -1,5 +1,5 @@
 use Rattle.std.proofs.lemmas.Result.{err_from_is_err_and}
-use Rattle.index_laws.specs.Indexes.{index_of}
+use Rattle.fitting_laws.specs.Indexes.{index_of}
 use Rattle.agg_search.proofs.AnswerParts.{shards-apart}
 use Rattle.agg_search.proofs.Outcomes.{from-some, search-ends, stops-search-if}
 use Rattle.agg_search.proofs.solo.run_search.Goals as goal

@@ -5,7 +5,7 @@ use Rattle.agg_reading.specs.Request.{search_of}
 use Rattle.agg_spec.specs.Requests.{or_refused, refusal_of_fault, request_of}
 use Rattle.fitting_laws.proofs.Searches.{search_fits_of}
 use Rattle.agg_search.specs.Answering.{Searches}
-use Rattle.index_laws.specs.Indexes.{index_of}
+use Rattle.fitting_laws.specs.Indexes.{index_of}
 use Rattle.agg_search.specs.Paging.{IsBehind}
 use Rattle.agg_search.proofs.Outcomes.{refused-ends, told-fault}
 use Rattle.agg_search.proofs.Ends.{found-at, stops-at}

@@ -3,7 +3,7 @@ use Rattle.std.specs.Prelude.{IfErr, IfOk, IfSome, IsTrue, Option}
 use Rattle.agg_evaluation.specs.SearchFits.{search_fits}
 use Rattle.agg_model.specs.declared.aggregation.Search.{Search}
 use Rattle.agg_search.specs.Answering.{Searches, StopsSearching}
-use Rattle.index_laws.specs.Indexes.{index_of}
+use Rattle.fitting_laws.specs.Indexes.{index_of}
 use Rattle.agg_search.specs.Paging.{IsBehind, request_at, search_at}
 use Rattle.agg_search.specs.Stops.{IfRefused}
 use Rattle.agg_search.proofs.Ends.{found-at, stops-at}

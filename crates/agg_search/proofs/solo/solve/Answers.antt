@@ -4,7 +4,7 @@ use Rattle.std.specs.Prelude.{ℕ}
 use Rattle.agg_model.specs.declared.breaker.Child.TheVariants as child
 use Rattle.agg_model.specs.declared.breaker.Which.TheVariants as which
 use Rattle.agg_spec.specs.Charges.{charge_of}
-use Rattle.index_laws.specs.Indexes.{index_of}
+use Rattle.fitting_laws.specs.Indexes.{index_of}
 use Rattle.agg_search.specs.Paging.{request_at}
 use Rattle.agg_search.specs.Stepping.{StopsRunning}
 use Rattle.agg_search.specs.Stops.{IfRefused}

@@ -10,7 +10,7 @@ use Rattle.collect_tree.specs.Ends.{IfDone, IfMemory, IfRefused}
 use Rattle.growth_laws.specs.Amounts.{amounts}
 use Rattle.shard_columns.specs.Columns.{Columns}
 use Rattle.task_charges.specs.Ended.{IsDone, IsGivenUp, IsRefused}
-use Rattle.index_laws.specs.Indexes.{index_of}
+use Rattle.fitting_laws.specs.Indexes.{index_of}
 use Rattle.agg_search.proofs.OneTask.{after-task, follows-after, held-after, reached-after, stops-after}
 use Rattle.agg_search.proofs.ShardLists.{has-room, rows-here}
 use Rattle.agg_search.proofs.tasks.run_one.Goals as goal

@@ -2,7 +2,7 @@ use Rattle.std.proofs.Common.{◌≡◌, ◌-◌}
 use Rattle.agg_model.specs.declared.breaker.Which.TheVariants as which
 use Rattle.breaker_words.specs.Views.{hold_of}
 use Rattle.solo_charges.specs.Alone.{IsAlone}
-use Rattle.index_laws.specs.Indexes.{index_of}
+use Rattle.fitting_laws.specs.Indexes.{index_of}
 use Rattle.agg_search.specs.Progressing.{Follows}
 use Rattle.agg_search.specs.Reached.{HasReached, HoldsCosts}
 use Rattle.agg_search.proofs.TaskRange.{tasks_to}

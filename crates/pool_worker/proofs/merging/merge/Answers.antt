@@ -6,7 +6,7 @@ use Rattle.arrival_moves.specs.Fairness.{IsOfSearch}
 use Rattle.arrival_moves.specs.Labels.{no_label}
 use Rattle.arrival_moves.specs.Plans.{search_of}
 use Rattle.arrival_table.specs.Models.{DeskModel}
-use Rattle.pool_batch.specs.declared.taken.Taken.{Taken}
+use Rattle.pool_results.specs.declared.taken.Taken.{Taken}
 use Rattle.pool_results.specs.Carried.{AreRuns, label_of}
 use Rattle.pool_results.specs.Pools.{Pool, task_number}
 use Rattle.pool_results.specs.declared.work.Work.{Work}

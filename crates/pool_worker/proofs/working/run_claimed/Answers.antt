@@ -6,7 +6,7 @@ use Rattle.arrival_moves.specs.Lists.{numbers_from}
 use Rattle.arrival_moves.specs.Plans.{batch_size, tasks_of}
 use Rattle.arrival_moves.proofs.Words.{of_search_le}
 use Rattle.arrival_table.proofs.OneItem.{claimed_has}
-use Rattle.pool_task.proofs.Pooling.{shards-are}
+use Rattle.pool_results.proofs.Pooling.{shards-are}
 use Rattle.pool_worker.proofs.Tasks.{task-count, task-search}
 use Rattle.pool_worker.proofs.working.run_claimed.Goals as goal
 

@@ -3,7 +3,7 @@ use Rattle.agg_base.specs.Lines.{source_of, source_name, kept, unread, position,
 use Rattle.agg_model.specs.Lines.{Line}
 use Rattle.agg_model.specs.declared.limits.TheConstants.{MAX_INPUT}
 use Rattle.agg_reading.specs.Entries.{Entries}
-use Rattle.script_entries.specs.Reading.{HasRead}
+use Rattle.script_lines.specs.Reading.{HasRead}
 use Rattle.script_lines.specs.Steps.{place_of}
 use Rattle.agg_spec.specs.Answers.{Recent}
 use Rattle.script_answers.specs.Answering.{MayBe, fresh_with}

@@ -2,10 +2,10 @@ use Rattle.std.specs.Prelude.{ℕ, List, [], ◌∷◌, map}
 use Rattle.std.proofs.Common.{subst, sym, ◌∙◌}
 use Rattle.agg_search.specs.Paging.{request_at}
 use Rattle.agg_search.specs.declared.solo.Page.{Page}
-use Rattle.index_laws.specs.Indexes.{index_of}
+use Rattle.fitting_laws.specs.Indexes.{index_of}
 use Rattle.wave_answers.specs.Ended.{AreBehind}
 use Rattle.search_wave.specs.Waves.{IsWave}
-use Rattle.wave_reading.specs.Asking.{requests_from}
+use Rattle.wave_bodies.specs.Asking.{requests_from}
 use Rattle.search_wave.proofs.Whole.{one-page}
 use Rattle.search_wave.proofs.pages.answer_page.Goals as goal
 

@@ -6,14 +6,14 @@ use Rattle.agg_search.specs.declared.solo.Page.{Page}
 use Rattle.breaker_words.specs.Passes.{PassModel}
 use Rattle.breaker_words.specs.Soundness.{IsBounded}
 use Rattle.breaker_words.specs.Views.{granted_of, hold_of, most_of, trips_of}
-use Rattle.index_laws.specs.Indexes.{index_of}
-use Rattle.pool_closing.specs.Ends.{cost_of_ends}
+use Rattle.fitting_laws.specs.Indexes.{index_of}
+use Rattle.shard_pool.specs.Ends.{cost_of_ends}
 use Rattle.wave_answers.specs.Ended.{AreAnswers}
 use Rattle.wave_answers.specs.Rising.{HasRisen}
 use Rattle.search_wave.proofs.AllowedWave.{is-wave}
 use Rattle.search_wave.specs.Waves.{IsWave}
-use Rattle.wave_reading.proofs.Pages.{as-many-requests}
-use Rattle.wave_reading.specs.Asking.{requests_from}
+use Rattle.wave_bodies.proofs.Pages.{as-many-requests}
+use Rattle.wave_bodies.specs.Asking.{requests_from}
 use Rattle.search_wave.proofs.Asked.{runs-are}
 use Rattle.search_wave.proofs.Ends.{ends-of}
 use Rattle.search_wave.proofs.Requests.{bytes-from}

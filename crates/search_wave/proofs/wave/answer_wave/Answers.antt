@@ -1,8 +1,8 @@
 use Rattle.std.specs.Prelude.{List, map}
 use Rattle.agg_search.specs.declared.solo.Page.{Page}
-use Rattle.index_laws.specs.Indexes.{index_of}
+use Rattle.fitting_laws.specs.Indexes.{index_of}
 use Rattle.search_wave.specs.Waves.{IsWave}
-use Rattle.wave_reading.specs.Asking.{requests_from}
+use Rattle.wave_bodies.specs.Asking.{requests_from}
 use Rattle.search_wave.proofs.Whole.{if-ok-map, wave-after}
 use Rattle.search_wave.proofs.wave.answer_wave.Goals as goal
 

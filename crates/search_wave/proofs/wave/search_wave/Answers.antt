@@ -3,7 +3,7 @@ use Rattle.std.proofs.Common.{subst, sym}
 use Rattle.agg_model.specs.declared.outcome.Answered.{Answered}
 use Rattle.agg_search.specs.declared.solo.Page.{Page}
 use Rattle.agg_spec.specs.Outcome.{Request}
-use Rattle.index_laws.specs.Indexes.{index_of}
+use Rattle.fitting_laws.specs.Indexes.{index_of}
 use Rattle.search_wave.specs.Waves.{IsWave}
 use Rattle.agg_spec.specs.Requests.{request_of}
 use Rattle.search_wave.proofs.Requests.{none-read}

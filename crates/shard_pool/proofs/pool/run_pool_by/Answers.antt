@@ -1,10 +1,10 @@
 use Rattle.std.specs.Prelude.{◌≡◌, refl, ◌*◌, length, sum, sum_by}
 use Rattle.std.proofs.Common.{sym, ap, subst, ◌∙◌, arith}
-use Rattle.closing_laws.proofs.Plans.{plan-known}
-use Rattle.closing_laws.specs.Closed.{IsPlanOf}
-use Rattle.pool_closing.specs.Desks.{claims_of}
-use Rattle.pool_closing.specs.Ends.{HasRun, over_tasks}
-use Rattle.pool_laws.proofs.Knowing.{pool-known}
+use Rattle.shard_pool.proofs.Plans.{plan-known}
+use Rattle.shard_pool.specs.Closed.{IsPlanOf}
+use Rattle.shard_pool.specs.Desks.{claims_of}
+use Rattle.shard_pool.specs.Ends.{HasRun, over_tasks}
+use Rattle.shard_pool.proofs.Knowing.{pool-known}
 use Rattle.pool_results.specs.Pools.{ceiling_at}
 use Rattle.shard_pool.proofs.Running.{ceiling-count, ceilings-over-tasks, desks-back, pool-over, run-from, same-claims}
 use Rattle.shard_pool.specs.PoolOf.{pool_of}

@@ -3,10 +3,10 @@ use Rattle.std.specs.Vec.Iter.{into_iter_items}
 use Rattle.agg_search.specs.declared.solo.Page.{Page}
 use Rattle.agg_spec.specs.Charges.{Amounts}
 use Rattle.breaker_words.specs.Passes.{PassModel}
-use Rattle.index_laws.specs.Indexes.{index_of}
+use Rattle.fitting_laws.specs.Indexes.{index_of}
 use Rattle.wave_answers.specs.Ended.{AreAnswers}
 use Rattle.wave_answers.specs.Rising.{HasRisen}
-use Rattle.wave_reading.specs.declared.asked.Asked.{Asked}
+use Rattle.wave_bodies.specs.declared.asked.Asked.{Asked}
 use Rattle.wave_answers.proofs.Going.{IsGoing, answers_in, following-last, going-last, going-next}
 use Rattle.wave_answers.proofs.Left.{empty-is}
 use Rattle.wave_answers.proofs.answering.answer_all.Goals as goal

@@ -5,7 +5,7 @@ use Rattle.agg_search.specs.declared.solo.Page.{Page}
 use Rattle.agg_spec.specs.Charges.{Amounts, no_amounts}
 use Rattle.breaker_words.specs.Passes.{PassModel}
 use Rattle.breaker_words.specs.Views.{granted_of, trips_of}
-use Rattle.index_laws.specs.Indexes.{index_of}
+use Rattle.fitting_laws.specs.Indexes.{index_of}
 use Rattle.wave_answers.specs.Ended.{IsAnswer}
 use Rattle.wave_answers.specs.Rising.{HasRisen}
 use Rattle.wave_answers.proofs.Ends.{left-answer, left-refused, stopped-answer, wholes-of-end}

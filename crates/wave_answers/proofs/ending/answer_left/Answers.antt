@@ -12,7 +12,7 @@ use Rattle.agg_spec.specs.Rises.{merge_charge}
 use Rattle.batch_reduce.specs.Parts.{cost_of_parts}
 use Rattle.batch_reduce.specs.Reduced.{at_both}
 use Rattle.breaker_words.specs.Views.{hold_of}
-use Rattle.index_laws.specs.Indexes.{index_of}
+use Rattle.fitting_laws.specs.Indexes.{index_of}
 use Rattle.wave_answers.specs.Charging.{HasPlace, IsRefusedCharge}
 use Rattle.wave_answers.specs.Merged.{HasPlaceBeside}
 use Rattle.wave_answers.specs.Rising.{HasRisen}

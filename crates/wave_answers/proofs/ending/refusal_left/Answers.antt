@@ -3,7 +3,7 @@ use Rattle.std.proofs.Common.{arith, subst, sym}
 use Rattle.agg_model.specs.declared.breaker.Tripped.{Tripped}
 use Rattle.agg_search.proofs.Batching.{rows-count}
 use Rattle.agg_spec.specs.Failures.{AreFailures}
-use Rattle.index_laws.specs.Indexes.{index_of}
+use Rattle.fitting_laws.specs.Indexes.{index_of}
 use Rattle.wave_answers.proofs.Left.{none-left, some-left}
 use Rattle.wave_answers.proofs.ending.refusal_left.Goals as goal
 

@@ -1,5 +1,5 @@
 use Rattle.std.proofs.Common.{sym, subst}
-use Rattle.index_laws.specs.Indexes.{index_of}
+use Rattle.fitting_laws.specs.Indexes.{index_of}
 use Rattle.agg_model.specs.declared.breaker.Totals.{Totals}
 use Rattle.agg_spec.specs.Columns.{columns_charge}
 use Rattle.agg_spec.specs.Statistics.{AreTotals}

@@ -1,5 +1,5 @@
 use Rattle.std.proofs.Common.{refl}
-use Rattle.index_laws.specs.Indexes.{index_of}
+use Rattle.fitting_laws.specs.Indexes.{index_of}
 use Rattle.agg_spec.specs.Columns.{columns_charge}
 use Rattle.solo_answerer.proofs.Idle.{opened-idle}
 use Rattle.solo_answerer.proofs.worker.WorkerOpens.open.Goals as goal

@@ -5,7 +5,7 @@ use Rattle.std.proofs.lemmas.Result.{IfOk-weaker}
 use Rattle.agg_spec.specs.Columns.{columns_charge}
 use Rattle.agg_spec.specs.Outcome.{Request}
 use Rattle.agg_spec.specs.Requests.{request_of}
-use Rattle.index_laws.specs.Indexes.{index_of}
+use Rattle.fitting_laws.specs.Indexes.{index_of}
 use Rattle.script_answers.specs.Answering.{AnswersRound}
 use Rattle.solo_answerer.proofs.Bodies.{one-body}
 use Rattle.wave_answerer.specs.Worked.{HasAnswered}

@@ -2,7 +2,7 @@ use Rattle.std.proofs.Common.{sym, subst}
 use Rattle.agg_model.specs.declared.breaker.Totals.{Totals}
 use Rattle.agg_spec.specs.Columns.{columns_charge}
 use Rattle.agg_spec.specs.Statistics.{AreTotals}
-use Rattle.index_laws.specs.Indexes.{index_of}
+use Rattle.fitting_laws.specs.Indexes.{index_of}
 use Rattle.wave_answerer.proofs.Totals.{crew-totals}
 use Rattle.wave_answerer.proofs.crew.CrewAnswerer.close.Goals as goal
 

@@ -6,7 +6,7 @@ use Rattle.agg_spec.specs.Columns.{columns_charge, columns_refusal}
 use Rattle.agg_spec.specs.Statistics.{is_solo}
 use Rattle.breaker_tree.specs.Reopening.{HoldsColumns, refusal_of_columns}
 use Rattle.breaker_words.specs.Views.{hold_of}
-use Rattle.index_laws.specs.Indexes.{index_of}
+use Rattle.fitting_laws.specs.Indexes.{index_of}
 use Rattle.solo_answerer.proofs.Idle.{opened-idle}
 use Rattle.solo_answerer.proofs.Refusals.{few-columns, same-refusal}
 use Rattle.wave_answerer.proofs.Opened.{nothing-answered}

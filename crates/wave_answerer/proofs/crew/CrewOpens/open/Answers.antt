@@ -1,6 +1,6 @@
 use Rattle.std.proofs.Common.{refl}
 use Rattle.agg_spec.specs.Columns.{columns_charge}
-use Rattle.index_laws.specs.Indexes.{index_of}
+use Rattle.fitting_laws.specs.Indexes.{index_of}
 use Rattle.solo_answerer.proofs.Idle.{opened-idle}
 use Rattle.solo_answerer.proofs.Refusals.{few-columns}
 use Rattle.wave_answerer.proofs.Opened.{nothing-answered}

@@ -1,4 +1,0 @@
-use Rattle.arrival_tests.proofs.passes.carry.Given as goal
-
-abbrev pub ghosts-carry_by : goal.ghosts-carry_by
-ghosts-carry_by a = record { pass = a.pass }

@@ -1,5 +1,0 @@
-use Rattle.closing_laws.proofs.Works.{have-each-task}
-use Rattle.closing_laws.proofs.laws.closed_tables_have_all_tasks.Goals as goal
-
-pub returns : goal.returns
-returns c = λ p size plan ms of closed. have-each-task p (λ w. w) size plan of ms closed

@@ -1,2 +1,0 @@
--- An index of shards, as the definitions see it.
-pub mod Indexes

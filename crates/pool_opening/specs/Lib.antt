@@ -1,2 +1,0 @@
--- The tasks of a pool that is opened.
-pub mod Tasks

@@ -1,2 +1,0 @@
-pub mod Pooling
-pub mod Ending

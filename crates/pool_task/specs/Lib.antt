@@ -1,3 +1,0 @@
--- A task of a pool, and what becomes of it.
-pub mod Pooled
-pub mod Ended

@@ -1,3 +1,0 @@
--- Proofs of what the tests call.
-pub mod Indexes
-pub mod Rooms

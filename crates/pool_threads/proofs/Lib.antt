@@ -1,3 +1,0 @@
-pub mod SentParts
-pub mod SharedParts
-pub mod Tables

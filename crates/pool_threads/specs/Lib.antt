@@ -1,2 +1,0 @@
--- Workers on threads.
-pub mod Workers

@@ -1,0 +1,5 @@
+pub mod SampleLaws
+pub mod GapSamples
+pub mod BatchSamples
+pub mod Indexes
+pub mod Rooms

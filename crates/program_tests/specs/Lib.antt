@@ -1,0 +1,3 @@
+pub mod SampleGaps
+pub mod SampleMapping
+pub mod SampleTerms

@@ -1,8 +1,0 @@
-//! Tests of queries and of search bodies. They stand in a crate of their own, since a crate that has tests is proved once more
-//! for them.
-#![tactic(auto)]
-
-#[cfg(test)]
-mod bodies;
-#[cfg(test)]
-mod queries;

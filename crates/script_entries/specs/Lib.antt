@@ -1,2 +1,0 @@
--- The third section of a script, entry by entry.
-pub mod Reading

@@ -1,0 +1,11 @@
+use Rattle.std.proofs.Common.{◌≡◌, ◌+◌, ◌≤◌, []}
+use Rattle.arrival_moves.specs.Plans.{task_count}
+use Rattle.arrival_table.specs.Models.{IsOf}
+use Rattle.shard_tests.proofs.desks.work.Given as goal
+
+-- between two tasks nothing is in hand, and no claim was lost
+abbrev pub invariant-loop-task : goal.invariant-loop-task
+invariant-loop-task l = IsOf l.table l.desk × (l.desk.view.drawn ≤ task_count l.table.plan) × (l.desk.view.left + l.desk.view.drawn ≡ l.initial.desk.view.left + l.initial.desk.view.drawn) × (l.desk.view.hand ≡ [])
+
+abbrev pub decreases-loop-task : goal.decreases-loop-task
+decreases-loop-task l = l.desk.view.left
