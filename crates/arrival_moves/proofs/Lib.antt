@@ -29,3 +29,4 @@ pub mod Alone
 pub mod Growth
 mod MergeExamples
 mod StopExamples
+pub mod Starts

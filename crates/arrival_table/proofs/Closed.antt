@@ -38,7 +38,7 @@ use Rattle.list_laws.proofs.Places.{there_below}
 use Rattle.list_laws.proofs.PlaceSums.{Each, each_snoc}
 use Rattle.arrival_table.proofs.Allowed.{desk_there}
 use Rattle.arrival_table.proofs.Filled.{take_more, something, at_or}
-use Rattle.arrival_table.proofs.Starts.{next_start, first_start, search_valid}
+use Rattle.arrival_moves.proofs.Starts.{next_start, first_start, search_valid}
 
 -- of n slots, those below i were taken and the others not
 pub record IsTakenBelow (i n : ℕ) (flags : List Bool) : Type 0 where
