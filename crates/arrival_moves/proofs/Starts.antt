@@ -13,7 +13,7 @@ use Rattle.arrival_moves.specs.Plans.{IsPlan, task_count, search_of, tasks_of, f
 use Rattle.arrival_moves.specs.Counts.{AreCounts}
 use Rattle.arrival_moves.proofs.Counts.{within_batch}
 use Rattle.arrival_moves.proofs.Quiet.{lt_one, lt_none, eq_one, eq_none}
-use Rattle.arrival_moves.proofs.Places.{none_before}
+use Rattle.arrival_moves.proofs.TaskPlaces.{none_before}
 use Rattle.arrival_moves.proofs.Words.{drawn_valid, drawn_le, of_search_le}
 use Rattle.list_laws.proofs.Places.{set_here, set_else}
 

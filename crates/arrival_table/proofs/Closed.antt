@@ -29,7 +29,7 @@ use Rattle.arrival_table.specs.Outs.{knows}
 use Rattle.arrival_table.specs.Steps.{IsReached}
 use Rattle.arrival_table.specs.Closing.{batch_numbers, batches_of, all_batches, batch_of, IsWholeBatch, IsBesideFailed}
 use Rattle.arrival_moves.proofs.LabelsFit.{IsBatch, batch_first, holds_same}
-use Rattle.arrival_moves.proofs.Places.{all_below, place_within}
+use Rattle.arrival_moves.proofs.TaskPlaces.{all_below, place_within}
 use Rattle.arrival_moves.proofs.Quiet.{lt_none}
 use Rattle.arrival_moves.proofs.Closing.{merged_there, merged_once, merged_failed}
 use Rattle.arrival_moves.proofs.Runs.{IsKept, kept_run}

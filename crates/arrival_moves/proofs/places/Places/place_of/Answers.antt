@@ -2,7 +2,7 @@ use Rattle.std.proofs.Common.{rules, arith, ◌+◌, ◌<◌, ◌≤◌, ◌≡�
 use Rattle.arrival_moves.specs.declared.limits.TheConstants.{MAX_TASKS}
 use Rattle.arrival_moves.specs.declared.plan.Plan.{Plan}
 use Rattle.arrival_moves.specs.Plans.{task_count, place_of, tasks_of, first_of}
-use Rattle.arrival_moves.proofs.Places.{place_within}
+use Rattle.arrival_moves.proofs.TaskPlaces.{place_within}
 use Rattle.arrival_moves.proofs.Starts.{search_valid, or_some}
 use Rattle.arrival_moves.proofs.places.Places.place_of.Goals as goal
 
