@@ -27,7 +27,7 @@ use Rattle.arrival_moves.proofs.BatchRanges.{in_batch}
 use Rattle.arrival_moves.proofs.Quiet.{lt_one}
 use Rattle.arrival_moves.proofs.Words.{drawn_le}
 use Rattle.arrival_moves.proofs.Results.{both_none}
-use Rattle.arrival_moves.proofs.Places.{place_within}
+use Rattle.arrival_moves.proofs.TaskPlaces.{place_within}
 use Rattle.arrival_moves.proofs.LabelsFit.{batch_first, ticket_batch, batch_found, due_now, due_range}
 use Rattle.arrival_moves.proofs.Batches.{is_complete, hands_has, held_real}
 use Rattle.arrival_moves.proofs.SlotStates.{full_slot, has_slot}

@@ -35,7 +35,7 @@ use Rattle.arrival_moves.proofs.Items.{hands_more, put_gives}
 use Rattle.arrival_moves.specs.Fairness.{HasShape}
 use Rattle.arrival_moves.proofs.Quiet.{eq_one, eq_none}
 use Rattle.arrival_moves.proofs.Words.{WordsFit, drawn_le, zeros}
-use Rattle.arrival_moves.proofs.Places.{places_apart, place_within}
+use Rattle.arrival_moves.proofs.TaskPlaces.{places_apart, place_within}
 use Rattle.arrival_moves.proofs.Results.{ResultsFit, both_one, both_none}
 use Rattle.arrival_moves.proofs.Reached.{hands_rest}
 use Rattle.arrival_moves.proofs.Counts.{CountsFit, counted}

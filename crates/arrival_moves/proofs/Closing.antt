@@ -26,7 +26,7 @@ use Rattle.list_laws.proofs.PlaceSums.{Each, sum_by_has, sum_by_pair}
 use Rattle.list_laws.proofs.Places.{there_below}
 use Rattle.arrival_moves.proofs.Each.{each_tail}
 use Rattle.arrival_moves.proofs.BatchRanges.{batch_some}
-use Rattle.arrival_moves.proofs.Places.{place_within, place_at}
+use Rattle.arrival_moves.proofs.TaskPlaces.{place_within, place_at}
 use Rattle.arrival_moves.proofs.LabelsFit.{IsBatch, batch_first, ticket_batch}
 use Rattle.arrival_moves.proofs.SlotStates.{emptied_none, full_slot, full_of, has_slot}
 use Rattle.arrival_moves.proofs.Batches.{is_complete}

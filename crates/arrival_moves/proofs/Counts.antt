@@ -24,7 +24,7 @@ use Rattle.arrival_moves.specs.Fairness.{HasShape}
 use Rattle.arrival_moves.proofs.Quiet.{lt_none, eq_one, eq_none, IsQuiet, Quietly, batch_due_none, quiet_open, quiet_take, quiet_merged, quiet_split, quiet_join, quiet_close, quiet_stopped}
 use Rattle.arrival_moves.proofs.Loads.{arrived_items}
 use Rattle.arrival_moves.proofs.Words.{WordsFit, arrived, drawn_le, zeros}
-use Rattle.arrival_moves.proofs.Places.{places_apart, place_within}
+use Rattle.arrival_moves.proofs.TaskPlaces.{places_apart, place_within}
 use Rattle.arrival_moves.proofs.Results.{arrived_quiet, both_one, both_none, ticket_step}
 
 pub record CountsFit (p : Plan) (s : ArrivalState) : Type 0 where

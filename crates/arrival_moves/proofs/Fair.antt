@@ -14,7 +14,7 @@ use Rattle.arrival_moves.specs.Fairness.{IsFair}
 use Rattle.arrival_moves.proofs.OneIf.{one_if_le, one_if_true}
 use Rattle.arrival_moves.proofs.Quiet.{lt_one}
 use Rattle.arrival_moves.proofs.Words.{drawn_le}
-use Rattle.arrival_moves.proofs.Places.{place_within, place_at}
+use Rattle.arrival_moves.proofs.TaskPlaces.{place_within, place_at}
 use Rattle.arrival_moves.proofs.Batches.{le_none}
 use Rattle.list_laws.proofs.Places.{there_below}
 use Rattle.arrival_moves.proofs.SlotStates.{was_emptied, full_slot, has_slot}

@@ -33,7 +33,7 @@ use Rattle.arrival_moves.proofs.CloseGuards.{close_guard}
 use Rattle.arrival_moves.proofs.Items.{as_claimed, as_loaded, as_arrived, as_batch}
 use Rattle.arrival_moves.specs.Fairness.{HasShape}
 use Rattle.arrival_moves.proofs.Words.{WordsFit}
-use Rattle.arrival_moves.proofs.Places.{places_apart}
+use Rattle.arrival_moves.proofs.TaskPlaces.{places_apart}
 use Rattle.arrival_moves.proofs.Results.{ResultsFit, in_range}
 use Rattle.arrival_moves.proofs.Counts.{CountsFit, counted, within_batch}
 use Rattle.arrival_moves.proofs.OneIf.{one_if_true}

@@ -8,7 +8,7 @@ pub mod Shapes
 pub mod Quiet
 pub mod Loads
 pub mod Words
-pub mod Places
+pub mod TaskPlaces
 pub mod Results
 pub mod Reached
 pub mod Counts
@@ -29,3 +29,4 @@ pub mod Alone
 pub mod Growth
 mod MergeExamples
 mod StopExamples
+pub mod Starts

@@ -26,7 +26,7 @@ use Rattle.arrival_moves.specs.Fairness.{HasShape}
 use Rattle.arrival_moves.proofs.Quiet.{hands_split, hands_join, apart_from, bare}
 use Rattle.arrival_moves.proofs.Loads.{arrived_items}
 use Rattle.arrival_moves.proofs.Words.{WordsFit}
-use Rattle.arrival_moves.proofs.Places.{places_apart}
+use Rattle.arrival_moves.proofs.TaskPlaces.{places_apart}
 use Rattle.arrival_moves.proofs.Results.{ResultsFit, both_one, both_none, in_range, slot_there}
 use Rattle.arrival_moves.proofs.OneIf.{one_if_le, one_if_never, one_if_always, one_if_fewer}
 use Rattle.arrival_moves.proofs.SlotStates.{is_reached, none_but, put_or_reached, alike_here, alike_set, first_slot}

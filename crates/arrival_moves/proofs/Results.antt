@@ -25,7 +25,7 @@ use Rattle.arrival_moves.specs.Fairness.{HasShape}
 use Rattle.arrival_moves.proofs.Quiet.{quiet_reached, lt_one, lt_none, IsQuiet, batch_due_none, taken_none, hands_split, hands_join, apart_from, bare}
 use Rattle.arrival_moves.proofs.Loads.{arrived_items}
 use Rattle.arrival_moves.proofs.Words.{WordsFit, arrived, drawn_le, zeros}
-use Rattle.arrival_moves.proofs.Places.{places_apart, place_within}
+use Rattle.arrival_moves.proofs.TaskPlaces.{places_apart, place_within}
 use Rattle.arrival_moves.proofs.OneIf.{one_if_le}
 use Rattle.arrival_moves.proofs.SlotStates.{alike_here, alike_set, has_slot, first_slot}
 

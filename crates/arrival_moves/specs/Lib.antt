@@ -1,6 +1,7 @@
 -- The machine of arrivals: plans, labels, desks, slots and moves, and what holds after every list of moves.
 pub mod AfterMove
 pub mod Closing
+pub mod Counts
 pub mod Fairness
 pub mod Growth
 pub mod Guards

@@ -9,11 +9,13 @@ mod item;
 mod label;
 pub mod laws;
 mod limits;
+mod places;
 mod plan;
 mod view;
 
 pub use item::{ArrivedTask, ClosedBatch, HeldBatch, Item, LoadedTask, Ticket};
 pub use label::Label;
 pub use limits::{ALL_CLAIMS, MAX_TASKS};
+pub use places::Places;
 pub use plan::Plan;
 pub use view::View;

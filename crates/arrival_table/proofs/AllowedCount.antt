@@ -18,7 +18,7 @@ use Rattle.arrival_table.specs.Outs.{now_knows}
 use Rattle.arrival_table.specs.Steps.{IsReached, Counts}
 use Rattle.arrival_moves.proofs.Counts.{counted, within_batch}
 use Rattle.arrival_moves.proofs.Items.{put_gives}
-use Rattle.arrival_moves.proofs.Places.{place_within}
+use Rattle.arrival_moves.proofs.TaskPlaces.{place_within}
 use Rattle.arrival_moves.proofs.Runs.{kept_run, move_item_is}
 use Rattle.arrival_moves.proofs.Words.{drawn_le, of_search_le}
 use Rattle.arrival_table.proofs.Allowed.{again, desk_there, desks_now}

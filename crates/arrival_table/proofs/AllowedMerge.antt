@@ -29,7 +29,7 @@ use Rattle.arrival_moves.proofs.Batches.{held_real, fresh_batch, hands_has}
 use Rattle.arrival_moves.proofs.Cases.{found_is, find_again, exchanged_again}
 use Rattle.arrival_moves.proofs.LabelsFit.{batch_found, due_range, due_now, batch_first}
 use Rattle.list_laws.proofs.Places.{at_set, set_else, set_here}
-use Rattle.arrival_moves.proofs.Places.{place_within}
+use Rattle.arrival_moves.proofs.TaskPlaces.{place_within}
 use Rattle.arrival_moves.proofs.OneIf.{one_if_le}
 use Rattle.arrival_moves.proofs.Runs.{IsKept, kept_run, move_item_is}
 use Rattle.list_laws.proofs.PlaceSums.{sum_by_has}

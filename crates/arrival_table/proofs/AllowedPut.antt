@@ -23,7 +23,7 @@ use Rattle.arrival_table.specs.Outs.{knows, now_has_out}
 use Rattle.arrival_table.specs.Steps.{IsReached, IsOutcomeAt, ReachesResult, PutsResult, result_slot}
 use Rattle.arrival_moves.proofs.Cases.{found_is, find_again, exchanged_again}
 use Rattle.list_laws.proofs.Places.{at_set, set_else, set_here}
-use Rattle.arrival_moves.proofs.Places.{place_within}
+use Rattle.arrival_moves.proofs.TaskPlaces.{place_within}
 use Rattle.arrival_moves.proofs.Reached.{fresh_there}
 use Rattle.arrival_moves.proofs.Results.{in_range}
 use Rattle.arrival_moves.proofs.Runs.{kept_run, move_item_is}

@@ -29,7 +29,7 @@ use Rattle.arrival_table.specs.Outs.{knows}
 use Rattle.arrival_table.specs.Steps.{IsReached}
 use Rattle.arrival_table.specs.Closing.{batch_numbers, batches_of, all_batches, batch_of, IsWholeBatch, IsBesideFailed}
 use Rattle.arrival_moves.proofs.LabelsFit.{IsBatch, batch_first, holds_same}
-use Rattle.arrival_moves.proofs.Places.{all_below, place_within}
+use Rattle.arrival_moves.proofs.TaskPlaces.{all_below, place_within}
 use Rattle.arrival_moves.proofs.Quiet.{lt_none}
 use Rattle.arrival_moves.proofs.Closing.{merged_there, merged_once, merged_failed}
 use Rattle.arrival_moves.proofs.Runs.{IsKept, kept_run}
@@ -38,7 +38,7 @@ use Rattle.list_laws.proofs.Places.{there_below}
 use Rattle.list_laws.proofs.PlaceSums.{Each, each_snoc}
 use Rattle.arrival_table.proofs.Allowed.{desk_there}
 use Rattle.arrival_table.proofs.Filled.{take_more, something, at_or}
-use Rattle.arrival_table.proofs.Starts.{next_start, first_start, search_valid}
+use Rattle.arrival_moves.proofs.Starts.{next_start, first_start, search_valid}
 
 -- of n slots, those below i were taken and the others not
 pub record IsTakenBelow (i n : ℕ) (flags : List Bool) : Type 0 where

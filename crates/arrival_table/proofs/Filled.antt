@@ -9,13 +9,9 @@ use Rattle.arrival_table.specs.declared.cell.Cell.{Cell}
 use Rattle.arrival_table.specs.declared.cell.Cell.TheVariants.{Vacant, Load}
 use Rattle.arrival_table.specs.declared.opening.Task.{Task}
 use Rattle.arrival_table.specs.Opening.{IsFilled}
+use Rattle.arrival_moves.proofs.Starts.{at_replicate}
 use Rattle.list_laws.proofs.Places.{set_here, set_else}
 use Rattle.list_laws.proofs.Places.{there_below}
-
-pub at_replicate : {X : Type 0} (n j : ℕ) (x : X) → j < n → get_elem? (replicate n x) j ≡ some x
-at_replicate zero j x h = absurd (omega arith)
-at_replicate (suc n) zero x h = refl
-at_replicate (suc n) (suc j) x h = at_replicate n j x (omega arith)
 
 pub of_replicate : {X : Type 0} (n j : ℕ) (x y : X) → get_elem? (replicate n x) j ≡ some y → (j < n) × (x ≡ y)
 of_replicate zero j x y e = absurd (some-ne-none y (sym e))

@@ -2,7 +2,6 @@ pub mod Lists
 pub mod Outs
 pub mod Desks
 pub mod Filled
-pub mod Starts
 pub mod Guards
 pub mod Allowed
 pub mod AllowedPut

@@ -3,7 +3,6 @@ use Rattle.std.specs.Prelude.{◌≡◌, ℕ, ◌+◌, ◌≤◌, ◌<◌, List,
 use mathlib.Core.Option.{some}
 use lib.ListN.{get_elem?}
 use Rattle.arrival_moves.specs.declared.plan.Plan.{Plan}
-use Rattle.arrival_moves.specs.Plans.{tasks_of}
 use Rattle.arrival_table.specs.declared.cell.Cell.{Cell}
 use Rattle.arrival_table.specs.declared.cell.Cell.TheVariants.{Vacant, Load}
 use Rattle.arrival_table.specs.declared.opening.Task.{Task}
@@ -17,8 +16,3 @@ pub record IsFilled {A R : Type 0} (m : ℕ) (ts : List (Task A)) (cells : List 
   pub size : length cells ≡ length ts + length ts + length ts
   pub loads : (k : ℕ) (t : Task A) → m ≤ k → get_elem? ts k ≡ some t → get_elem? cells k ≡ some (Load t.load)
   pub vacant : (k : ℕ) → length ts ≤ k → k < length ts + length ts + length ts → get_elem? cells k ≡ some Vacant
-
--- the number of tasks of each search of the plan
-pub record AreCounts (p : Plan) (counts : List ℕ) : Type 0 where
-  pub size : length counts ≡ p.searches
-  pub each : (q : ℕ) → q < p.searches → get_elem? counts q ≡ some (tasks_of p q)

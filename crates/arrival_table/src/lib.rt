@@ -11,7 +11,6 @@ mod known;
 pub mod laws;
 mod merging;
 mod opening;
-mod places;
 mod results;
 mod rule;
 mod sharing;

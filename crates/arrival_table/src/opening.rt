@@ -14,10 +14,9 @@ ghost use Rattle.arrival_table.specs.Opening.{plan_of, IsFilled};
 
 use crate::cell::{Cell, Labelled};
 use crate::desk::Desk;
-use crate::places::Places;
 use crate::table::Arrivals;
 use agg_model::List;
-use arrival_moves::{ALL_CLAIMS, Plan};
+use arrival_moves::{ALL_CLAIMS, Places, Plan};
 use atomic_table::{Refused, Table};
 use std::alloc::{AllocError, Global};
 use std::mem;
@@ -141,7 +140,7 @@ impl<A: Labelled + Drop, R: Labelled + Drop> Arrivals<A, R> {
         };
         let mut rest = tasks.into_vec();
         fill(&mut slots, &mut rest);
-        match Table::new(alloc, words.as_slice(), slots, &places.plan) {
+        match Table::new(alloc, words.as_slice(), slots, places.plan()) {
             Ok((table, seat)) => Ok((
                 Arrivals {
                     table,
@@ -156,7 +155,7 @@ impl<A: Labelled + Drop, R: Labelled + Drop> Arrivals<A, R> {
                 },
             )),
             Err(Refused { slots }) => Err(OpenRefused {
-                tasks: List::from_vec(take_back(slots, &places.plan, rest)),
+                tasks: List::from_vec(take_back(slots, places.plan(), rest)),
             }),
         }
     }

@@ -6,9 +6,8 @@ ghost use Rattle.arrival_table.specs.Models.{ArrivalsModel};
 
 use crate::cell::{Cell, Labelled};
 use crate::known::Known;
-use crate::places::Places;
 use crate::rule::ArrivalRule;
-use arrival_moves::Plan;
+use arrival_moves::{Places, Plan};
 use atomic_table::Table;
 use std::alloc::Global;
 use std::marker::Model;

@@ -1,4 +1,3 @@
-pub mod PageOrder
 mod RowValues
 mod Rising
 mod Starts

@@ -14,7 +14,7 @@ use Rattle.agg_evaluation.specs.KeyOrder.{key_eq}
 use Rattle.agg_evaluation.specs.Orders.{bucket_key}
 use Rattle.list_laws.proofs.Lists.{append-nil}
 use Rattle.list_laws.proofs.Booleans.{and_left, and_right, both, holds, true_is}
-use Rattle.composite_agg.specs.Pages.{is_beyond_any}
+use Rattle.composite_page.specs.Pages.{is_beyond_any}
 use Rattle.composite_agg.specs.FirstPages.{FirstPage, AreInOrder, IsPage, answer_of, counted, evicted_of, is_full, is_held, is_last, is_outside, new_bucket, page_cmp, page_with, with_bucket, with_buckets}
 use Rattle.composite_agg.specs.declared.offered.Offered.TheVariants.{Counted, Entered, Outside}
 use Rattle.composite_agg.proofs.PageSteps.{insert-at, not_itself}

@@ -13,7 +13,7 @@ use Rattle.agg_evaluation.specs.KeyOrder.{has_key, key_eq}
 use Rattle.agg_evaluation.specs.Orders.{bucket_key}
 use Rattle.agg_evaluation.proofs.KeyLists.{key_eq-exact, key_eq-self}
 use Rattle.list_laws.proofs.Booleans.{and_left, and_right, holds, true_is}
-use Rattle.composite_agg.specs.Pages.{are_composite}
+use Rattle.composite_page.specs.Pages.{are_composite}
 use Rattle.composite_agg.specs.FirstPages.{FirstPage, AreInOrder, IsPage, children_of, page_cmp, page_with_children, with_children}
 use Rattle.composite_agg.proofs.PageSteps.{differs, differs_back}
 use Rattle.composite_agg.proofs.PlaceOrder.{at}

@@ -12,7 +12,7 @@ use Rattle.agg_evaluation.specs.KeyOrder.{has_key, key_eq}
 use Rattle.agg_evaluation.specs.Orders.{bucket_key}
 use Rattle.list_laws.specs.Sorting.{insert_sorted}
 use Rattle.composite_agg.specs.InOrder.{IsInOrder}
-use Rattle.composite_agg.specs.Pages.{are_composite, is_beyond_any}
+use Rattle.composite_page.specs.Pages.{are_composite, is_beyond_any}
 use Rattle.composite_agg.specs.declared.offered.Offered.{Offered}
 use Rattle.composite_agg.specs.declared.offered.Offered.TheVariants.{Counted, Entered, Outside}
 pub use Rattle.composite_agg.specs.InOrder.{page_cmp}

@@ -6,7 +6,7 @@ use Rattle.std.specs.declared.cmp.Ordering.{Ordering}
 use Rattle.agg_model.specs.declared.key.Key.{Key}
 use Rattle.agg_model.specs.declared.aggregation.CompositeSource.{CompositeSource}
 use Rattle.bucket_order.specs.Composites.{any_parts_cmp, key_parts}
-use Rattle.composite_agg.specs.Pages.{is_beyond_any}
+use Rattle.composite_page.specs.Pages.{is_beyond_any}
 
 -- the order of the sources, which agrees with that of composite keys where each has a part for each source
 abbrev pub page_cmp : List CompositeSource → Key → Key → Ordering

@@ -1,7 +1,6 @@
 -- Keys and pages of composites.
 pub mod Sources
 pub mod Parts
-pub mod Pages
 pub mod InOrder
 pub mod FirstPages
 pub mod PageCodes

@@ -1,20 +1,9 @@
 //! Laws of composites.
-ghost use Rattle.std.specs.Prelude.{◌≡◌, ◌∷◌, [], ℕ, List, None, Option, Some, map};
-ghost use Rattle.agg_model.specs.declared.aggregation.CompositeSource.{CompositeSource};
-ghost use Rattle.agg_model.specs.declared.key.Key.{Key};
-ghost use Rattle.agg_model.specs.declared.partial.Bucket.{Bucket};
+ghost use Rattle.std.specs.Prelude.{◌≡◌, ◌∷◌, [], None, Some, map};
 ghost use Rattle.agg_evaluation.specs.Orders.{bucket_key};
-ghost use Rattle.agg_evaluation.specs.Shard.{page};
 ghost use Rattle.composite_agg.specs.FirstPages.{new_bucket};
 ghost use Rattle.composite_agg.specs.PageExample.{answers, key_of, offered, page_of_two};
-ghost use Rattle.composite_agg.specs.Pages.{page_buckets};
 ghost use Rattle.composite_agg.specs.declared.offered.Offered.TheVariants.{Entered, Outside};
-
-/// The keys of a page of buckets are the page of their keys.
-pub fn a_page_has_the_page_of_the_keys()
-    ensures { (sources : List CompositeSource) (size : ℕ) (after : Option Key) (buckets : List Bucket) →
-        map bucket_key (page_buckets sources size after buckets) ≡ page sources size after (map bucket_key buckets) }
-{}
 
 /// A page of two that is offered 5, 3, 4 and 5 lets the first three enter, 4 in the place of 5, and then keeps 3 and 4.
 pub fn a_page_of_two_keeps_the_first_two_keys()

@@ -1,4 +1,4 @@
-//! Composite aggregations over the columns of a shard: the keys of a row, and a page of them (Elasticsearch Reference 8,
+//! Composite aggregations over the columns of a shard: the keys of a row, and a page while its keys come (Elasticsearch Reference 8,
 //! 'Composite aggregation').
 #![tactic(auto)]
 
@@ -10,7 +10,6 @@ pub mod lasts;
 pub mod laws;
 mod offered;
 mod offering;
-mod paging;
 mod parts;
 mod places;
 mod row_keys;
@@ -21,5 +20,4 @@ pub use behind::are_behind;
 pub use first_keys::FirstKeys;
 pub use keyed::HasKey;
 pub use offered::Offered;
-pub use paging::{is_beyond_key, page};
 pub use row_keys::{key_count, keys};

@@ -7,9 +7,9 @@ ghost use Rattle.composite_agg.specs.InOrder.{IsInOrder, all_before, all_behind,
 ghost use Rattle.composite_agg.specs.Runs.{AreFilled, IsGapFor, IsSpotOf, IsWithin, in_runs, place_in};
 
 use crate::keyed::HasKey;
-use crate::paging::is_beyond_key;
 use crate::places::{ends_before, find};
 use agg_model::{CompositeSource, Key, List};
+use composite_page::is_beyond_key;
 use std::alloc::{AllocError, Global};
 
 /// A run of so many items is parted into two.

@@ -3,7 +3,7 @@ ghost use Rattle.std.specs.Prelude.{◌≡◌, IsTrue, false, length, map};
 ghost use Rattle.agg_evaluation.specs.CompositeKeys.{is_composite_of};
 ghost use Rattle.agg_evaluation.specs.KeyOrder.{has_key};
 ghost use Rattle.agg_evaluation.specs.Orders.{bucket_key};
-ghost use Rattle.composite_agg.specs.Pages.{are_composite};
+ghost use Rattle.composite_page.specs.Pages.{are_composite};
 ghost use Rattle.composite_agg.specs.FirstPages.{AreInOrder, children_of, with_children};
 ghost use Rattle.composite_agg.specs.Runs.{AreFilled, in_runs};
 

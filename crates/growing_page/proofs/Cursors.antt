@@ -16,7 +16,7 @@ use Rattle.agg_evaluation.specs.SearchFits.{Made, kind_fits, made_at, source_fit
 use Rattle.agg_evaluation.proofs.AggFolds.{fold_agg-level}
 use Rattle.agg_evaluation.proofs.MadeSearches.{made_parts}
 use Rattle.composite_agg.specs.FirstPages.{empty_page}
-use Rattle.composite_agg.specs.Pages.{is_cursor}
+use Rattle.composite_page.specs.Pages.{is_cursor}
 use Rattle.list_laws.proofs.Booleans.{and_second}
 use Rattle.shard_columns.specs.Columns.{Columns}
 use Rattle.shard_columns.specs.Made.{IsAggFor}

@@ -21,7 +21,7 @@ use Rattle.agg_evaluation.proofs.KeyExact.{exact_keys}
 use Rattle.agg_evaluation.proofs.KeyLists.{is_below, key_eq-exact, key_eq-self}
 use Rattle.agg_evaluation.proofs.SortedLists.{ascending-sorted}
 use Rattle.composite_agg.specs.FirstPages.{page_cmp}
-use Rattle.composite_agg.proofs.PageOrder.{filter-agree, map-sorted}
+use Rattle.composite_page.proofs.PageOrder.{filter-agree, map-sorted}
 use Rattle.composite_agg.proofs.PageSteps.{differs, differs_back}
 use Rattle.growth_laws.specs.Arrived.{AreDistinct}
 use Rattle.growth_laws.specs.Gathering.{kept_buckets}

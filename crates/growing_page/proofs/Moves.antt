@@ -19,7 +19,7 @@ use Rattle.agg_evaluation.specs.Orders.{bucket_key}
 use Rattle.agg_evaluation.specs.Rows.{PlacedRow}
 use Rattle.agg_evaluation.specs.Shard.{sorted_by_key}
 use Rattle.composite_agg.specs.FirstPages.{empty_page, is_composite, page_cmp}
-use Rattle.composite_agg.specs.Pages.{is_beyond_any}
+use Rattle.composite_page.specs.Pages.{is_beyond_any}
 use Rattle.composite_agg.specs.InOrder.{IsInOrder, all_before, all_behind}
 use Rattle.composite_agg.proofs.PageSteps.{differs}
 use Rattle.composite_agg.proofs.Steps.{take-whole}

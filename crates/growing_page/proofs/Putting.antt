@@ -22,8 +22,8 @@ use Rattle.agg_evaluation.proofs.KeyLists.{key_eq-exact, key_eq-self}
 use Rattle.bucket_order.specs.Composites.{any_parts_cmp, key_parts}
 use Rattle.bucket_order.proofs.CompositeLaws.{any_parts_total}
 use Rattle.composite_agg.specs.FirstPages.{FirstPage, empty_page, is_composite, page_cmp}
-use Rattle.composite_agg.specs.Pages.{is_beyond_any, is_cursor}
-use Rattle.composite_agg.proofs.PageOrder.{beyond-any}
+use Rattle.composite_page.specs.Pages.{is_beyond_any, is_cursor}
+use Rattle.composite_page.proofs.PageOrder.{beyond-any}
 use Rattle.composite_agg.proofs.PageSteps.{differs}
 use Rattle.composite_agg.proofs.Steps.{take-whole}
 use Rattle.growth_laws.specs.Arrived.{AreDistinct, IsAt}

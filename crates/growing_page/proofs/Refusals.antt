@@ -14,7 +14,7 @@ use Rattle.agg_evaluation.specs.Rows.{PlacedRow}
 use Rattle.agg_evaluation.specs.Shard.{sorted_by_key}
 use Rattle.composite_agg.specs.FirstPages.{empty_page, is_composite}
 use Rattle.composite_agg.specs.InOrder.{IsInOrder, all_before, is_kept_out, page_cmp}
-use Rattle.composite_agg.specs.Pages.{is_beyond_any}
+use Rattle.composite_page.specs.Pages.{is_beyond_any}
 use Rattle.composite_agg.proofs.InOrder.{last-decides}
 use Rattle.growth_laws.specs.Gathering.{Gatherer, put_groups}
 use Rattle.list_laws.proofs.Booleans.{and_left, and_right, both, holds, true_is}

@@ -11,7 +11,7 @@ use Rattle.agg_evaluation.specs.CompositeKeys.{is_composite_of}
 use Rattle.agg_evaluation.specs.Shard.{sorted_by_key}
 use Rattle.composite_agg.specs.FirstPages.{FirstPage, empty_page}
 use Rattle.composite_agg.specs.InOrder.{IsInOrder, is_kept_out}
-use Rattle.composite_agg.specs.Pages.{is_beyond_any, is_cursor}
+use Rattle.composite_page.specs.Pages.{is_beyond_any, is_cursor}
 use Rattle.composite_agg.specs.Runs.{AreFilled, in_runs}
 use Rattle.growing_tree.specs.Decoded.{decoded_children}
 use Rattle.growth_laws.specs.BucketBytes.{bucket_bytes}

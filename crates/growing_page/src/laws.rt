@@ -2,7 +2,7 @@
 ghost use Rattle.std.specs.Prelude.{IsTrue, length};
 ghost use Rattle.agg_model.specs.declared.aggregation.Agg.{Agg, out-Agg};
 ghost use Rattle.composite_agg.specs.FirstPages.{empty_page};
-ghost use Rattle.composite_agg.specs.Pages.{is_cursor};
+ghost use Rattle.composite_page.specs.Pages.{is_cursor};
 ghost use Rattle.shard_columns.specs.Columns.{Columns};
 ghost use Rattle.shard_columns.specs.Made.{IsAggFor};
 

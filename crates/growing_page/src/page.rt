@@ -4,7 +4,7 @@ ghost use Rattle.agg_evaluation.specs.Whole.{empty_node};
 ghost use Rattle.agg_model.specs.declared.aggregation.Agg.{Agg as AnyAgg, out-Agg};
 ghost use Rattle.agg_model.specs.declared.partial.Node.{Node as AnyNode};
 ghost use Rattle.composite_agg.specs.FirstPages.{empty_page, is_composite};
-ghost use Rattle.composite_agg.specs.Pages.{is_cursor};
+ghost use Rattle.composite_page.specs.Pages.{is_cursor};
 ghost use Rattle.growing_page.specs.GrowingPages.{IsPageOf, page_node};
 
 use agg_model::{Key, Kind};

@@ -1,4 +1,4 @@
-use Rattle.arrival_moves.proofs.Places.{place_within, places_apart, place_at}
+use Rattle.arrival_moves.proofs.TaskPlaces.{place_within, places_apart, place_at}
 use Rattle.arrival_moves.proofs.laws.places.Goals as goal
 
 pub returns : goal.returns

@@ -2,7 +2,7 @@ use Rattle.std.proofs.Common.{rules, arith, suc, ◌+◌, ◌/◌, ◌<◌, ℕ,
 use Rattle.arrival_moves.specs.declared.plan.Plan.{Plan}
 use Rattle.arrival_moves.specs.Plans.{place_of, task_count, tasks_of, batch_size}
 use Rattle.arrival_table.proofs.AllowedCount.{allows_count_at}
-use Rattle.arrival_table.proofs.Starts.{batch_within, search_valid}
+use Rattle.arrival_moves.proofs.Starts.{batch_within, search_valid}
 use Rattle.arrival_table.proofs.table.Arrivals.count_by.Goals.{then-found-batch_size, else-found-batch_size}
 use Rattle.arrival_table.proofs.table.Arrivals.count_by.Goals as goal
 

@@ -5,17 +5,17 @@ ghost use lib.ListN.{get_elem?};
 ghost use Rattle.arrival_moves.specs.declared.limits.TheConstants.{MAX_TASKS};
 ghost use Rattle.arrival_moves.specs.declared.plan.Plan.{Plan as PlanValue};
 ghost use Rattle.arrival_moves.specs.Plans.{task_count, search_of, tasks_of, first_of, place_of, batch_size, IsPlan};
-ghost use Rattle.arrival_table.specs.Opening.{AreCounts};
+ghost use Rattle.arrival_moves.specs.Counts.{AreCounts};
 
-use arrival_moves::Plan;
+use crate::plan::Plan;
 use std::alloc::{AllocError, Global};
 use std::marker::Model;
 
 /// The plan, with the number of tasks of the searches before each search and before none.
 #[derive(Drop)]
-pub(crate) struct Places {
-    pub(crate) plan: Plan,
-    pub(crate) starts: Vec<u64>,
+pub struct Places {
+    plan: Plan,
+    starts: Vec<u64>,
 }
 
 impl Model for Places {
@@ -42,7 +42,7 @@ fn task_counts(alloc: Global, plan: &Plan) -> Result<Vec<u64>, AllocError>
 
 impl Places {
     /// The places of a plan.
-    pub(crate) fn of(alloc: Global, plan: Plan) -> Result<Places, AllocError>
+    pub fn of(alloc: Global, plan: Plan) -> Result<Places, AllocError>
         requires plan { IsPlan plan }
         ensures { IfOk result (λ s. s ≡ plan) }
     {
@@ -57,7 +57,15 @@ impl Places {
         Ok(Places { plan, starts })
     }
 
-    pub(crate) fn task_count(&self) -> usize
+    /// The plan.
+    pub fn plan(&self) -> &Plan
+        ensures { result.now ≡ self.now }
+    {
+        &self.plan
+    }
+
+    /// The number of tasks.
+    pub fn task_count(&self) -> usize
         ensures value { result ≡ task_count self.now }
         ensures few { result ≤ MAX_TASKS }
     {
@@ -65,14 +73,14 @@ impl Places {
     }
 
     /// The number of searches.
-    pub(crate) fn searches(&self) -> u32
+    pub fn searches(&self) -> u32
         ensures { result ≡ self.now.searches }
     {
         self.plan.searches
     }
 
     /// How many results a batch has at most.
-    pub(crate) fn batch(&self) -> u32
+    pub fn batch(&self) -> u32
         ensures value { result ≡ self.now.batch }
         ensures least { 2 ≤ result }
     {
@@ -80,7 +88,7 @@ impl Places {
     }
 
     /// The search of a task.
-    pub(crate) fn search_of(&self, task: u32) -> u32
+    pub fn search_of(&self, task: u32) -> u32
         requires range { task < task_count self.now }
         ensures value { result ≡ search_of self.now task }
         ensures range { result < self.now.searches }
@@ -99,7 +107,7 @@ impl Places {
     }
 
     /// Where the result of a ticket stands among the results, and a batch among the batches.
-    pub(crate) fn place_of(&self, search: u32, number: u32) -> usize
+    pub fn place_of(&self, search: u32, number: u32) -> usize
         requires range { number < tasks_of self.now search }
         ensures value { result ≡ place_of self.now search number }
         ensures range { result < task_count self.now }
@@ -109,7 +117,7 @@ impl Places {
     }
 
     /// The number of tasks of a search.
-    pub(crate) fn tasks_of(&self, search: u32) -> u64
+    pub fn tasks_of(&self, search: u32) -> u64
         requires range { search < self.now.searches }
         ensures value { result ≡ tasks_of self.now search }
         ensures few { result ≤ MAX_TASKS }
@@ -118,7 +126,7 @@ impl Places {
     }
 
     /// The number of tickets of a batch; the last one of a search may be short.
-    pub(crate) fn batch_size(&self, search: u32, batch: u32) -> u64
+    pub fn batch_size(&self, search: u32, batch: u32) -> u64
         requires range { search < self.now.searches }
         ensures { result ≡ batch_size self.now search batch }
     {
@@ -128,7 +136,7 @@ impl Places {
     }
 
     /// Whether the search has this batch.
-    pub(crate) fn has_batch(&self, search: u32, batch: u32) -> bool
+    pub fn has_batch(&self, search: u32, batch: u32) -> bool
         requires range { search < self.now.searches }
         ensures { result ≡ nat_lt (batch * self.now.batch) (tasks_of self.now search) }
     {

@@ -4,9 +4,9 @@ use Rattle.agg_evaluation.specs.Orders.{bucket_key, composite_cmp}
 use Rattle.agg_evaluation.specs.Shard.{sorted_by_key}
 use Rattle.list_laws.specs.Sorting.{sorted}
 use Rattle.list_laws.proofs.Booleans.{holds}
-use Rattle.composite_agg.specs.Pages.{is_beyond_any}
-use Rattle.composite_agg.proofs.PageOrder.{page-any}
-use Rattle.composite_agg.proofs.paging.first_buckets.Goals as goal
+use Rattle.composite_page.specs.Pages.{is_beyond_any}
+use Rattle.composite_page.proofs.PageOrder.{page-any}
+use Rattle.composite_page.proofs.paging.first_buckets.Goals as goal
 
 pub returns : goal.returns
 returns c =

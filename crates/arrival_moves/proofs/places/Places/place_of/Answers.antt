@@ -2,9 +2,9 @@ use Rattle.std.proofs.Common.{rules, arith, ◌+◌, ◌<◌, ◌≤◌, ◌≡�
 use Rattle.arrival_moves.specs.declared.limits.TheConstants.{MAX_TASKS}
 use Rattle.arrival_moves.specs.declared.plan.Plan.{Plan}
 use Rattle.arrival_moves.specs.Plans.{task_count, place_of, tasks_of, first_of}
-use Rattle.arrival_moves.proofs.Places.{place_within}
-use Rattle.arrival_table.proofs.Starts.{search_valid, or_some}
-use Rattle.arrival_table.proofs.places.Places.place_of.Goals as goal
+use Rattle.arrival_moves.proofs.TaskPlaces.{place_within}
+use Rattle.arrival_moves.proofs.Starts.{search_valid, or_some}
+use Rattle.arrival_moves.proofs.places.Places.place_of.Goals as goal
 
 pub index-requires : goal.index-requires
 index-requires c = let p : Plan = c.self.inside.plan in let n : c.args.number < tasks_of p c.args.search = subst (λ (z : Plan). c.args.number < tasks_of z c.args.search) (sym c.self.view_is) c.requires.range in

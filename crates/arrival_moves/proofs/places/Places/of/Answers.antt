@@ -2,9 +2,9 @@ use Rattle.std.proofs.Common.{rules, ◌≡◌, ◌+◌, ◌<◌, ◌≤◌, ℕ
 use Rattle.arrival_moves.specs.declared.limits.TheConstants.{MAX_TASKS}
 use Rattle.arrival_moves.specs.declared.plan.Plan.{Plan}
 use Rattle.arrival_moves.specs.Plans.{first_of}
-use Rattle.arrival_table.specs.Opening.{AreCounts}
-use Rattle.arrival_table.proofs.Starts.{AreStarts, starts_one, starts_more, first_start, start_counted, start_within}
-use Rattle.arrival_table.proofs.places.Places.of.Goals as goal
+use Rattle.arrival_moves.specs.Counts.{AreCounts}
+use Rattle.arrival_moves.proofs.Starts.{AreStarts, starts_one, starts_more, first_start, start_counted, start_within}
+use Rattle.arrival_moves.proofs.places.Places.of.Goals as goal
 
 pub loop-count-init : goal.loop-count-init
 loop-count-init c = let is : c.push.new.self.items ≡ 0 ∷ [] = search rules in (subst (AreStarts c.args.plan 1) (sym is) (starts_one c.args.plan), sym (first_start c.args.plan))

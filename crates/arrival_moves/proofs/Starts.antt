@@ -10,13 +10,17 @@ use Rattle.std.proofs.lemmas.List.Sums.{sum_by-cons, sum_by-append}
 use Rattle.arrival_moves.specs.declared.plan.Plan.{Plan}
 use Rattle.arrival_moves.specs.Lists.{one_if, times}
 use Rattle.arrival_moves.specs.Plans.{IsPlan, task_count, search_of, tasks_of, first_of, drawn_of}
-use Rattle.arrival_table.specs.Opening.{AreCounts}
+use Rattle.arrival_moves.specs.Counts.{AreCounts}
 use Rattle.arrival_moves.proofs.Counts.{within_batch}
 use Rattle.arrival_moves.proofs.Quiet.{lt_one, lt_none, eq_one, eq_none}
-use Rattle.arrival_moves.proofs.Places.{none_before}
+use Rattle.arrival_moves.proofs.TaskPlaces.{none_before}
 use Rattle.arrival_moves.proofs.Words.{drawn_valid, drawn_le, of_search_le}
 use Rattle.list_laws.proofs.Places.{set_here, set_else}
-use Rattle.arrival_table.proofs.Filled.{at_replicate}
+
+pub at_replicate : {X : Type 0} (n j : ℕ) (x : X) → j < n → get_elem? (replicate n x) j ≡ some x
+at_replicate zero j x h = absurd (omega arith)
+at_replicate (suc n) zero x h = refl
+at_replicate (suc n) (suc j) x h = at_replicate n j x (omega arith)
 
 pub or_some : (xs : List ℕ) (i x d : ℕ) → get_elem? xs i ≡ some x → get_or xs i d ≡ x
 or_some [] i x d e = absurd (some-ne-none x (sym e))

@@ -12,7 +12,7 @@ use Rattle.agg_evaluation.specs.KeyOrder.{key_cmp}
 use Rattle.agg_evaluation.specs.Orders.{bucket_key, composite_cmp}
 use Rattle.agg_evaluation.specs.Shard.{page}
 use Rattle.bucket_order.proofs.CompositeLaws.{same_composites}
-use Rattle.composite_agg.specs.Pages.{are_composite, is_beyond, is_beyond_any, is_cursor, page_buckets}
+use Rattle.composite_page.specs.Pages.{are_composite, is_beyond, is_beyond_any, is_cursor, page_buckets}
 use Rattle.list_laws.specs.Sorting.{insert_sorted, sorted}
 use Rattle.list_laws.proofs.Booleans.{and_left, and_right, true_is}
 use Rattle.list_laws.proofs.Lists.{filter-map}

@@ -1,7 +1,7 @@
 //! The page of a composite.
 ghost use Rattle.std.specs.Prelude.{◌≡◌, IfOk, IsTrue, filter, length};
 ghost use Rattle.agg_evaluation.specs.Orders.{bucket_key};
-ghost use Rattle.composite_agg.specs.Pages.{are_composite, can_page, is_beyond_any, is_cursor, page_buckets, paged};
+ghost use Rattle.composite_page.specs.Pages.{are_composite, can_page, is_beyond_any, is_cursor, page_buckets, paged};
 
 use agg_model::{Bucket, CompositeSource, Key, Kind, List, Node};
 use bucket_order::{compare_composites, sort_by_key, sort_composites};

@@ -2,8 +2,8 @@ use Rattle.std.proofs.Common.{arith, ◌≤◌, sym, ap, subst, ◌∙◌}
 use Rattle.arrival_moves.specs.declared.limits.TheConstants.{MAX_TASKS}
 use Rattle.arrival_moves.specs.declared.plan.Plan.{Plan}
 use Rattle.arrival_moves.specs.Plans.{first_of, task_count}
-use Rattle.arrival_table.proofs.Starts.{or_some, start_within}
-use Rattle.arrival_table.proofs.places.Places.start.Goals as goal
+use Rattle.arrival_moves.proofs.Starts.{or_some, start_within}
+use Rattle.arrival_moves.proofs.places.Places.start.Goals as goal
 
 pub returns-clause-value : goal.returns-clause-value
 returns-clause-value c = let p : Plan = c.self.inside.plan in let q = c.args.search in let fits : q ≤ p.searches = subst (λ (z : Plan). q ≤ z.searches) (sym c.self.view_is) c.requires.range in

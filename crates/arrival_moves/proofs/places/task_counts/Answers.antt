@@ -2,8 +2,8 @@ use Rattle.std.proofs.Common.{rules, ◌≡◌, ◌<◌, ◌≤◌, ℕ, get_or,
 use Rattle.arrival_moves.specs.declared.limits.TheConstants.{MAX_TASKS}
 use Rattle.arrival_moves.specs.declared.plan.Plan.{Plan}
 use Rattle.arrival_moves.specs.Plans.{task_count, search_of}
-use Rattle.arrival_table.proofs.Starts.{AreDrawn, drawn_none, drawn_more, drawn_few, drawn_all}
-use Rattle.arrival_table.proofs.places.task_counts.Goals as goal
+use Rattle.arrival_moves.proofs.Starts.{AreDrawn, drawn_none, drawn_more, drawn_few, drawn_all}
+use Rattle.arrival_moves.proofs.places.task_counts.Goals as goal
 
 pub loop-search-init : goal.loop-search-init
 loop-search-init c = subst (AreDrawn c.args.plan.now 0) (search rules) (drawn_none c.args.plan.now)

@@ -1,5 +1,0 @@
-use Rattle.composite_agg.proofs.PageOrder.{page-keys}
-use Rattle.composite_agg.proofs.laws.a_page_has_the_page_of_the_keys.Goals as goal
-
-pub returns : goal.returns
-returns c = page-keys
