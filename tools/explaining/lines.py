@@ -27,7 +27,7 @@ def why_not_json(line):
     if not text.strip():
         return 'it is empty' if not text else 'it has blanks alone, and is not empty'
     if text.strip() in ('{', '['):
-        return 'it is the beginning of JSON that is printed on several lines: write it on one line, as `jq -c` does'
+        return 'it is the beginning of JSON that is printed on several lines: write it on one line, as `python3 -m json.tool --compact` does'
     try:
         exact.read(text)
     except RecursionError:

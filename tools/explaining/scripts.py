@@ -138,7 +138,7 @@ def _header(script, line, _):
     text = script.line(line)
     before = [it for it in script.entries if it.number == line - 2]
     if before and before[0].body is not None and before[0].body.strip() in (b'{', b'['):
-        return 'a header is due here: the body before is printed on several lines. Write each body on one line, as `jq -c` does'
+        return 'a header is due here: the body before is printed on several lines. Write each body on one line, as `python3 -m json.tool --compact` does'
     if not text.strip():
         return 'a header is due, and the line has blanks alone: leave it out'
     return 'a header is due, a JSON object on one line, as {}: ' + (why_not_json(text) if value_of(text) is None else 'this is JSON and no object')
