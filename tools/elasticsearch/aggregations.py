@@ -269,7 +269,7 @@ class Aggregations:
         if 'keyed' in out:
             raise Refused('named filters are an object here', f'{at}/keyed')
         if out.get('other_bucket') is False and 'other_bucket_key' in out:
-            self.search.change(f'{at}/other_bucket_key', 'left out: other_bucket is false, and here the name alone asks for it')
+            self.search.change(f'{at}/other_bucket_key', 'left out: other_bucket is false, and here the name alone asks for it', True)
             del out['other_bucket_key']
         given = out.get('filters')
         if isinstance(given, list):

@@ -46,12 +46,16 @@ class Search:
     def __init__(self, mapping, now=None, documents=None, used=None):
         self.mapping, self.now, self.documents = mapping, now, documents
         self.used = used if used is not None else set()
+        # What the program would take as it stands, with another meaning.
+        self.other = []
         self.changes, self.refusals, self.contexts = [], [], ['']
         self.is_other = False
         self.queries, self.aggregations = Queries(self), Aggregations(self)
 
-    def change(self, at, words):
+    def change(self, at, words, is_other=False):
         self.changes.append((at, words))
+        if is_other:
+            self.other.append((at, words))
 
     def refuse(self, at, reason):
         self.refusals.append((at, reason))
@@ -83,6 +87,7 @@ class Search:
             self.change(at, f'{name} is another name of {path}')
         if found.context in self.mapping.included and self.contexts[-1] != found.context:
             self.is_other = True
+            self.other.append((at, 'it counts here too in Elasticsearch (include_in_parent, include_in_root)'))
             raise Refused(f'{name} counts here too in Elasticsearch (include_in_parent, include_in_root)', at)
         self.used.add(path)
         return found
@@ -131,11 +136,13 @@ def header_of(header, body, index, search):
     out = {name: given for name, given in header.items() if name not in ('routing', 'allow_partial_search_results')}
     if header.get('routing') is not None:
         search.refuse('header /routing', 'a search goes through all shards here')
+        search.other.append(search.refusals[-1])
         body = {**body, MARK: 'routing'}
     names = header.get('index')
     names = names.split(',') if isinstance(names, str) else names or []
     if names and not any(_covers(it, index) for it in names):
         search.refuse('header /index', f'the script has the index {index}')
+        search.other.append(search.refusals[-1])
         body = {**body, MARK: 'index'}
     if header.get('allow_partial_search_results') in (True, 'true') and isinstance(body, dict):
         body = {**body, 'allow_partial_search_results': True}

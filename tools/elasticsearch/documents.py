@@ -67,6 +67,17 @@ def is_value(value, read):
     return read == 'keyword' or value.removeprefix('-').isdigit() and value.isascii()
 
 
+def short(value, most):
+    """The words that are no longer than this, by the units in which Elasticsearch counts them (UTF-16); null in the place of others."""
+    if not isinstance(most, int):
+        return value
+    if isinstance(value, list):
+        return [short(it, most) for it in value]
+    if isinstance(value, str) and len(value) + sum(it > '\uffff' for it in value) > most:
+        return None
+    return value
+
+
 class Converter:
     def __init__(self, mapping):
         self.root = mapping.root
@@ -96,7 +107,10 @@ class Converter:
             self._add(out, name, self._objects(value, below, f'{at}{name}.'))
             return
         found = self._values(value, below, at + name)
-        self._add(out, name, {it: found for it in below.sub} if below.sub else found)
+        if below.sub:
+            self._add(out, name, {it: short(found, below.most.get(it)) for it in below.sub})
+        else:
+            self._add(out, name, short(found, below.most.get(None)))
 
     def _add(self, out, name, value):
         if name in out:

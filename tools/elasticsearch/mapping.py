@@ -43,10 +43,12 @@ class Field:
 
 
 class Leaf:
-    """What becomes of the values of a field in documents: `sub` has the names of the fields below a text."""
+    """What becomes of the values of a field in documents: `sub` has the fields below a text, and `most` the length beyond which a word is
+    no value (`ignore_above`); both by the name of the field below, which is none for the field itself."""
 
-    def __init__(self, read, scale=1, form=None, sub=(), null=None, is_lenient=False):
+    def __init__(self, read, scale=1, form=None, sub=(), null=None, is_lenient=False, most=None):
         self.read, self.scale, self.form, self.sub, self.null, self.is_lenient = read, scale, form, sub, null, is_lenient
+        self.most = most or {}
 
 
 class Node:
@@ -166,7 +168,8 @@ class Mapping:
     def _keep(self, name, field, becomes, scale, path, context, node):
         kind, read = becomes
         form = field.get('format') if read == 'date' else None
-        node.below[name] = Leaf(read, scale, form, null=field.get('null_value'), is_lenient=field.get('ignore_malformed') in (True, 'true'))
+        node.below[name] = Leaf(read, scale, form, null=field.get('null_value'), is_lenient=field.get('ignore_malformed') in (True, 'true'),
+                               most={None: field.get('ignore_above')} if read == 'keyword' else None)
         self.fields[path] = Field(path, kind, read, scale, form, context)
 
     def _text(self, name, field, below, path, context, node):
@@ -180,7 +183,7 @@ class Mapping:
         if not kept:
             return self._leave(path, TYPES['text'])
         self.left[path] = f'text: use {path}.{next(iter(kept))}'
-        node.below[name] = Leaf('keyword', sub=tuple(kept))
+        node.below[name] = Leaf('keyword', sub=tuple(kept), most={sub: it.get('ignore_above') for sub, it in kept.items()})
         return {'properties': kept}
 
     def _sub(self, path, sub, it, field, is_kept):

@@ -184,7 +184,7 @@ class Queries:
         if found == 0 and count and not has_more:
             found = 1  # A bool of should alone wants one of them, whatever stands here.
         if exact.write(found) != exact.write(given):
-            self.search.change(at, f'{exact.write(given)} is written as {found}')
+            self.search.change(at, f'{exact.write(given)} is written as {found}', exact.whole(given) == 0)
         return found
 
     def _range(self, form, at):
