@@ -10,6 +10,7 @@ mod filters;
 mod generating;
 mod matching;
 mod nesting;
+mod pairs;
 mod passes;
 mod places;
 mod plans;
