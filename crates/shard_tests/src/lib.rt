@@ -1,22 +1,30 @@
-//! Tests of shards: columns, the rows that a query matches, the keys of rows, and trees. They stand in a crate of their own,
-//! since a crate that has tests is proved once more for them.
+//! Tests of what stands below a search: shards (columns, matching rows, keys of rows, trees), circuit breakers and what charges
+//! them, arrivals (the tasks that workers share), and loading. They stand in a crate of their own, since a crate that has tests is
+//! proved once more for them.
 #![tactic(auto)]
 
-mod charges;
+// Shards.
 mod columns;
 mod counts;
-mod desks;
 mod filters;
-mod generating;
 mod matching;
 mod nesting;
-mod pairs;
-mod passes;
 mod places;
-mod plans;
 mod sample;
-mod sections;
-mod slots;
-mod tasks;
 mod terms;
 mod trees;
+
+// Circuit breakers.
+mod charges;
+mod held_tasks;
+mod pairs;
+mod passes;
+
+// Arrivals.
+mod carried_passes;
+mod desks;
+mod plans;
+
+// Loading.
+mod generating;
+mod loaded_sections;

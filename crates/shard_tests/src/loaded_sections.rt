@@ -144,11 +144,8 @@ fn loads() -> [Load; 5] {
     ]
 }
 
-fn expect_load(
-    rt: &impl Abort,
-    alloc: Global,
-    (bulk, fielddata, wanted, charge): Load,
-) -> Result<(), Fail> {
+fn expect_load(rt: &impl Abort, alloc: Global, load: Load) -> Result<(), Fail> {
+    let (bulk, fielddata, wanted, charge) = load;
     let (ends, held) = loaded(alloc, bulk, fielddata)?;
     assert_eq!(rt; ends.as_slice(), wanted);
     assert_eq!(rt; held, charge);

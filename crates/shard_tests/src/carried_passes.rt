@@ -4,7 +4,7 @@ ghost use Rattle.arrival_moves.specs.declared.item.Item.TheVariants as item;
 ghost use Rattle.arrival_moves.specs.Labels.{task_label, no_label};
 ghost use Rattle.arrival_moves.specs.Plans.{task_count};
 ghost use Rattle.arrival_table.specs.Models.{IsOf};
-ghost use Rattle.breaker_words.specs.Passes.{PassModel, IsOf as BreakersIsOf};
+ghost use Rattle.breaker_words.specs.Passes.{PassModel, IsOf as IsOfWords};
 
 use crate::pairs::pair_of;
 use crate::passes::expect_granted;
@@ -127,8 +127,8 @@ fn carry(alloc: Global, pass: Pass) -> Result<Pass, AllocError>
 
 // The two passes as one, after the second came back.
 fn expect_joined(rt: &impl Abort, words: &Words, mut a: Pass, b: Pass)
-    requires of { BreakersIsOf words.now a }
-    requires other { BreakersIsOf words.now b }
+    requires of { IsOfWords words.now a }
+    requires other { IsOfWords words.now b }
     requires rest { a.view.trial ≡ Trial.Rest }
     requires other_rest { b.view.trial ≡ Trial.Rest }
 {
