@@ -4,27 +4,45 @@
 #![tactic(auto)]
 
 // Shards.
+#[cfg(test)]
 mod columns;
+#[cfg(test)]
 mod counts;
+#[cfg(test)]
 mod filters;
+#[cfg(test)]
 mod matching;
+#[cfg(test)]
 mod nesting;
+#[cfg(test)]
 mod places;
+#[cfg(test)]
 mod sample;
+#[cfg(test)]
 mod terms;
+#[cfg(test)]
 mod trees;
 
 // Circuit breakers.
+#[cfg(test)]
 mod charges;
+#[cfg(test)]
 mod held_tasks;
+#[cfg(test)]
 mod pairs;
+#[cfg(test)]
 mod passes;
 
 // Arrivals.
+#[cfg(test)]
 mod carried_passes;
+#[cfg(test)]
 mod desks;
+#[cfg(test)]
 mod plans;
 
 // Loading.
+#[cfg(test)]
 mod generating;
+#[cfg(test)]
 mod loaded_sections;
