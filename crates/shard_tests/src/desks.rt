@@ -16,6 +16,7 @@ use agg_model::List;
 use arrival_moves::Plan;
 use arrival_table::{Arrivals, Desk, Labelled, Merged, Task};
 use std::alloc::{AllocError, Global};
+use std::process::Abort;
 use std::test::Fail;
 use std::thread;
 
@@ -314,78 +315,113 @@ fn alone(
     Ok((runs, rows))
 }
 
-#[test]
-fn one_desk_merges_every_batch(rt: HostRuntime) -> Result<(), Fail> {
-    let (runs, rows) = alone(rt.alloc(), &[0, 0, 0], 1, NO_TASK)?;
-    assert!(rt; runs.as_slice() == [(0, None), (1, Some(0)), (2, Some(1))].as_slice());
-    let whole = [
+// What one desk makes of the tasks: which batch was complete with each, and what was merged.
+fn expect_alone(
+    rt: &impl Abort,
+    alloc: Global,
+    searches: &[u32],
+    count: u32,
+    failing: u32,
+    runs: &[Run],
+    rows: &[Row],
+) -> Result<(), Fail>
+    requires few { length searches.now ≤ MAX_TASKS }
+    requires searches { All (λ q. q < count) searches.now }
+{
+    let (made, merged) = alone(alloc, searches, count, failing)?;
+    assert!(rt; made.as_slice() == runs);
+    assert!(rt; merged.as_slice() == rows);
+    Ok(())
+}
+
+fn expect_one_search(rt: &impl Abort, alloc: Global) -> Result<(), Fail> {
+    let runs = [(0, None), (1, Some(0)), (2, Some(1))];
+    let rows = [
         (0, 0, 0, Some(1), false, false),
         (0, 1, 2, None, false, false),
     ];
-    assert!(rt; rows.as_slice() == whole.as_slice());
+    expect_alone(
+        rt,
+        alloc,
+        &[0, 0, 0],
+        1,
+        NO_TASK,
+        runs.as_slice(),
+        rows.as_slice(),
+    )
+}
 
-    // Of four searches the last has no task.
-    let (runs, rows) = alone(rt.alloc(), &[1, 0, 1, 2, 1], 4, NO_TASK)?;
-    let complete = [
+// Of four searches the last has no task.
+fn expect_four_searches(rt: &impl Abort, alloc: Global) -> Result<(), Fail> {
+    let runs = [
         (0, None),
         (1, Some(0)),
         (2, Some(0)),
         (3, Some(0)),
         (4, Some(1)),
     ];
-    assert!(rt; runs.as_slice() == complete.as_slice());
-    let whole = [
+    let rows = [
         (0, 0, 1, None, false, false),
         (1, 0, 0, Some(2), false, false),
         (1, 1, 4, None, false, false),
         (2, 0, 3, None, false, false),
     ];
-    assert!(rt; rows.as_slice() == whole.as_slice());
+    expect_alone(
+        rt,
+        alloc,
+        &[1, 0, 1, 2, 1],
+        4,
+        NO_TASK,
+        runs.as_slice(),
+        rows.as_slice(),
+    )
+}
 
-    // The first task fails, so the others of its search are skipped.
-    let (_, rows) = alone(rt.alloc(), &[0, 0, 1, 0], 2, 0)?;
-    let stopped = [
+// The first task fails, so the others of its search are skipped.
+fn expect_stopped(rt: &impl Abort, alloc: Global) -> Result<(), Fail> {
+    let runs = [(0, None), (1, Some(0)), (2, Some(0)), (3, Some(1))];
+    let rows = [
         (0, 0, 0, Some(1), true, true),
         (0, 1, 3, None, false, true),
         (1, 0, 2, None, false, false),
     ];
-    assert!(rt; rows.as_slice() == stopped.as_slice());
-
-    let (runs, rows) = alone(rt.alloc(), &[], 0, NO_TASK)?;
-    assert!(rt; runs.is_empty() && rows.is_empty());
-    Ok(())
+    expect_alone(
+        rt,
+        alloc,
+        &[0, 0, 1, 0],
+        2,
+        0,
+        runs.as_slice(),
+        rows.as_slice(),
+    )
 }
 
 #[test]
-fn two_threads_share_the_tasks(rt: HostRuntime) -> Result<(), Fail> {
-    let searches = [0, 1, 1, 0, 2, 1, 0, 1, 1, 2, 1, 0, 1, 1, 2, 0, 1, 1, 2, 1];
-    let (table, mut a, plan) = opened(rt.alloc(), searches.as_slice(), 3)?;
-    let b = table.split(&mut a, 21);
-    let (one, two) = (rt.alloc(), rt.alloc());
-    let ((mut a, first), (b, second)) = thread::join(
-        &rt,
-        || work_apart(one, &table, &plan, a),
-        || work_apart(two, &table, &plan, b),
-    );
-    let (Ok(first), Ok(second)) = (first, second) else {
-        return Err(Fail::from(AllocError));
-    };
-    table.join(&mut a, b);
-    assert_eq!(rt; a.drawn(), 22);
-    assert_eq!(rt; first.len() + second.len(), 20);
+fn one_desk_merges_every_batch(rt: HostRuntime) -> Result<(), Fail> {
+    let alloc = rt.alloc();
+    expect_one_search(&rt, alloc)?;
+    expect_four_searches(&rt, alloc)?;
+    expect_stopped(&rt, alloc)?;
+    expect_alone(&rt, alloc, &[], 0, NO_TASK, [].as_slice(), [].as_slice())
+}
 
-    let merged = table.close(a);
-    let rows = rows_of(rt.alloc(), merged.as_slice())?;
-    let mut batches = Vec::new(rt.alloc());
-    let mut tasks = Vec::new(rt.alloc());
-    for (search, batch, task, other, failed, skipped) in rows {
-        batches.push((search, batch))?;
-        tasks.push(task)?;
-        if let Some(other) = other {
-            tasks.push(other)?;
-        }
-        assert!(rt; !failed && !skipped);
-    }
+// A table on 20 tasks of three searches.
+fn table_of_twenty(
+    alloc: Global,
+) -> Result<(Arrivals<Numbered, Done>, Desk<Numbered, Done>, Plan), AllocError>
+    ensures of { IfOk result (λ r. IsOf r.0 r.1) }
+    ensures plan { IfOk result (λ r. r.2 ≡ r.0.plan) }
+    ensures whole { IfOk result (λ r. IsPlan r.0.plan) }
+    ensures two { IfOk result (λ r. r.0.plan.batch ≡ 2) }
+    ensures tasks { IfOk result (λ r. task_count r.0.plan ≡ 20) }
+    ensures view { IfOk result (λ r. r.1.view ≡ first_view) }
+{
+    let searches = [0, 1, 1, 0, 2, 1, 0, 1, 1, 2, 1, 0, 1, 1, 2, 0, 1, 1, 2, 1];
+    opened(alloc, searches.as_slice(), 3)
+}
+
+// Each batch of those searches, once and in their order.
+fn expect_batches(rt: &impl Abort, batches: &[(u32, u32)]) {
     let all = [
         (0, 0),
         (0, 1),
@@ -399,11 +435,51 @@ fn two_threads_share_the_tasks(rt: HostRuntime) -> Result<(), Fail> {
         (2, 0),
         (2, 1),
     ];
-    assert!(rt; batches.as_slice() == all.as_slice());
+    assert!(rt; batches == all.as_slice());
+}
+
+// Each of the 20 tasks, once.
+fn expect_tasks(rt: &impl Abort, mut tasks: Vec<u32>) {
     tasks.sort_unstable();
     for (place, task) in tasks.iter().enumerate() {
         assert_eq!(rt; *task as usize, place);
     }
     assert_eq!(rt; tasks.len(), 20);
+}
+
+// What was merged of those tasks, none of which failed.
+fn expect_merged(rt: &impl Abort, alloc: Global, merged: &[Merged<Done>]) -> Result<(), Fail> {
+    let mut batches = Vec::new(alloc);
+    let mut tasks = Vec::new(alloc);
+    for (search, batch, task, other, failed, skipped) in rows_of(alloc, merged)? {
+        batches.push((search, batch))?;
+        tasks.push(task)?;
+        if let Some(other) = other {
+            tasks.push(other)?;
+        }
+        assert!(rt; !failed && !skipped);
+    }
+    expect_batches(rt, batches.as_slice());
+    expect_tasks(rt, tasks);
     Ok(())
+}
+
+#[test]
+fn two_threads_share_the_tasks(rt: HostRuntime) -> Result<(), Fail> {
+    let (table, mut a, plan) = table_of_twenty(rt.alloc())?;
+    let b = table.split(&mut a, 21);
+    let (one, two) = (rt.alloc(), rt.alloc());
+    let ((mut a, first), (b, second)) = thread::join(
+        &rt,
+        || work_apart(one, &table, &plan, a),
+        || work_apart(two, &table, &plan, b),
+    );
+    let (Ok(first), Ok(second)) = (first, second) else {
+        return Err(Fail::from(AllocError));
+    };
+    table.join(&mut a, b);
+    assert_eq!(rt; a.drawn(), 22);
+    assert_eq!(rt; first.len() + second.len(), 20);
+    let merged = table.close(a);
+    expect_merged(&rt, rt.alloc(), merged.as_slice())
 }

@@ -1,14 +1,15 @@
 //! Codes that are found and added, by each form of the index.
 use bucket_places::{Place, Places};
+use std::process::Abort;
 use std::test::Fail;
 
-#[test]
-fn codes_stand_in_the_order_in_which_they_came(rt: HostRuntime) -> Result<(), Fail> {
-    let alloc = rt.alloc();
-    let mut dense = Places::dense(alloc, 4)?;
-    let mut ordered = Places::ordered(alloc);
-    // The 17th code makes a map, and the 20th the table.
-    let mut growing = Places::growing(alloc, 600);
+// Finds the code at its place, or adds it there.
+fn expect_place(rt: &impl Abort, places: &mut Places, code: i64, place: Place) -> Result<(), Fail> {
+    assert_eq!(rt; places.find_or_add(code)?, place);
+    Ok(())
+}
+
+fn expect_early(rt: &impl Abort, places: &mut Places) -> Result<(), Fail> {
     for (code, place) in [
         (3, Place::Added(0)),
         (-7, Place::Added(1)),
@@ -21,23 +22,34 @@ fn codes_stand_in_the_order_in_which_they_came(rt: HostRuntime) -> Result<(), Fa
         (0, Place::Found(2)),
         (64, Place::Found(4)),
     ] {
-        assert_eq!(rt; dense.find_or_add(code)?, place);
-        assert_eq!(rt; ordered.find_or_add(code)?, place);
-        assert_eq!(rt; growing.find_or_add(code)?, place);
+        expect_place(rt, places, code, place)?;
     }
-    assert_eq!(rt; dense.codes(), [3, -7, 0, 4, 64].as_slice());
-    assert_eq!(rt; ordered.codes(), [3, -7, 0, 4, 64].as_slice());
-    assert_eq!(rt; growing.codes(), [3, -7, 0, 4, 64].as_slice());
-    for place in 5..30 {
-        let code = 100 + place as i64;
-        assert_eq!(rt; dense.find_or_add(code)?, Place::Added(place));
-        assert_eq!(rt; ordered.find_or_add(code)?, Place::Added(place));
-        assert_eq!(rt; growing.find_or_add(code)?, Place::Added(place));
-        for (code, place) in [(3, 0), (-7, 1), (0, 2), (4, 3), (64, 4), (code, place)] {
-            assert_eq!(rt; dense.find_or_add(code)?, Place::Found(place));
-            assert_eq!(rt; ordered.find_or_add(code)?, Place::Found(place));
-            assert_eq!(rt; growing.find_or_add(code)?, Place::Found(place));
-        }
+    assert_eq!(rt; places.codes(), [3, -7, 0, 4, 64].as_slice());
+    Ok(())
+}
+
+fn expect_found(rt: &impl Abort, places: &mut Places, last: i64, at: usize) -> Result<(), Fail> {
+    for (code, place) in [(3, 0), (-7, 1), (0, 2), (4, 3), (64, 4), (last, at)] {
+        expect_place(rt, places, code, Place::Found(place))?;
     }
     Ok(())
+}
+
+fn expect_all(rt: &impl Abort, mut places: Places) -> Result<(), Fail> {
+    expect_early(rt, &mut places)?;
+    for place in 5..30usize {
+        let code = 100 + place as i64;
+        expect_place(rt, &mut places, code, Place::Added(place))?;
+        expect_found(rt, &mut places, code, place)?;
+    }
+    Ok(())
+}
+
+#[test]
+fn codes_stand_in_the_order_in_which_they_came(rt: HostRuntime) -> Result<(), Fail> {
+    let alloc = rt.alloc();
+    expect_all(&rt, Places::dense(alloc, 4)?)?;
+    expect_all(&rt, Places::ordered(alloc))?;
+    // The 17th code makes a map, and the 20th the table.
+    expect_all(&rt, Places::growing(alloc, 600))
 }

@@ -5,6 +5,7 @@ use agg_model::{Applied, Bytes, Limits, List as Numbers, Settings, Which};
 use bulk_items::EndView;
 use script_lines::ScriptFault;
 use std::alloc::Global;
+use std::process::Abort;
 use std::test::Fail;
 
 /// The number and the line of the refusal of a script; 0 and the number of items where it is loaded.
@@ -18,41 +19,38 @@ fn end_of(alloc: Global, script: &[u8]) -> Result<(u64, u64), Fail> {
     }
 }
 
+// A script, and the number and the line of its refusal; 0 and the number of items where it is loaded.
+type Script = (&'static [u8], u64, u64);
+
+fn scripts() -> [Script; 11] {
+    [
+        (b"", 38, 0),
+        (b"{\"index\":5}\n\n\n", 31, 1),
+        (b"{\"index\":\"i\"}", 38, 1),
+        (b"{\"index\":\"i\"}\n{}\n", 38, 2),
+        (b"{\"index\":\"i\"}\n\r\n", 38, 2),
+        (b"{\"index\":\"i\"}\n\n{\"index\":[]}\n", 32, 3),
+        (b"{\"index\":\"i\"}\n\n{\"update\":{}}\n", 33, 3),
+        (b"{\"index\":\"i\"}\n\n{\"index\":{}}\n", 34, 3),
+        (b"{\"index\":\"i\"}\n\n{\"index\":{}}\n\n", 34, 3),
+        (b"{\"index\":\"i\"}\n\n{\"index\":{}}\n{}\n", 38, 4),
+        (
+            b"{\"index\":\"i\"}\n\n{\"delete\":{\"_id\":\"7\"}}\n{\"index\":{}}\n5\n\n",
+            0,
+            2,
+        ),
+    ]
+}
+
 #[test]
 fn each_fault_is_refused_at_its_line(rt: HostRuntime) -> Result<(), Fail> {
-    let alloc = rt.alloc();
-    assert_eq!(rt; end_of(alloc, b"")?, (38, 0));
-    assert_eq!(rt; end_of(alloc, b"{\"index\":5}\n\n\n")?, (31, 1));
-    assert_eq!(rt; end_of(alloc, b"{\"index\":\"i\"}")?, (38, 1));
-    assert_eq!(rt; end_of(alloc, b"{\"index\":\"i\"}\n{}\n")?, (38, 2));
-    assert_eq!(rt; end_of(alloc, b"{\"index\":\"i\"}\n\r\n")?, (38, 2));
-    assert_eq!(rt;
-        end_of(alloc, b"{\"index\":\"i\"}\n\n{\"index\":[]}\n")?,
-        (32, 3)
-    );
-    assert_eq!(rt;
-        end_of(alloc, b"{\"index\":\"i\"}\n\n{\"update\":{}}\n")?,
-        (33, 3)
-    );
-    assert_eq!(rt;
-        end_of(alloc, b"{\"index\":\"i\"}\n\n{\"index\":{}}\n")?,
-        (34, 3)
-    );
-    assert_eq!(rt;
-        end_of(alloc, b"{\"index\":\"i\"}\n\n{\"index\":{}}\n\n")?,
-        (34, 3)
-    );
-    assert_eq!(rt;
-        end_of(alloc, b"{\"index\":\"i\"}\n\n{\"index\":{}}\n{}\n")?,
-        (38, 4)
-    );
-    assert_eq!(rt;
-        end_of(
-            alloc,
-            b"{\"index\":\"i\"}\n\n{\"delete\":{\"_id\":\"7\"}}\n{\"index\":{}}\n5\n\n"
-        )?,
-        (0, 2)
-    );
+    for (script, number, line) in scripts() {
+        assert_eq!(rt;
+            end_of(rt.alloc(), script)?,
+            (number, line),
+            "of {script:?}"
+        );
+    }
     Ok(())
 }
 
@@ -114,10 +112,11 @@ fn loaded(alloc: Global, bulk: &[u8], fielddata: u64) -> Result<(Vec<u8>, u64), 
     }
 }
 
-#[test]
-fn actions_and_the_charge_of_what_they_leave(rt: HostRuntime) -> Result<(), Fail> {
-    let alloc = rt.alloc();
-    let rows: [(&[u8], u64, &[u8], u64); 5] = [
+// Bulk lines with the limit at fielddata, and how their items ended with what was charged.
+type Load = (&'static [u8], u64, &'static [u8], u64);
+
+fn loads() -> [Load; 5] {
+    [
         // A create over a live id, and a delete of none: eight bytes and the word, times 1.03, rounded up.
         (
             b"{\"create\":{\"_id\":\"1\"}}\n{\"t\":\"a\"}\n{\"create\":{\"_id\":\"1\"}}\n{\"t\":\"b\"}\n{\"delete\":{\"_id\":\"9\"}}\n\n",
@@ -142,11 +141,21 @@ fn actions_and_the_charge_of_what_they_leave(rt: HostRuntime) -> Result<(), Fail
         // At the limit, and one byte beyond it.
         (b"{\"index\":{}}\n{\"t\":\"a\"}\n\n", 10, b"c", 10),
         (b"{\"index\":{}}\n{\"t\":\"a\"}\n\n", 9, b"!", 10),
-    ];
-    for (bulk, fielddata, wanted, charge) in rows {
-        let (ends, held) = loaded(alloc, bulk, fielddata)?;
-        assert_eq!(rt; ends.as_slice(), wanted);
-        assert_eq!(rt; held, charge);
+    ]
+}
+
+fn expect_load(rt: &impl Abort, alloc: Global, load: Load) -> Result<(), Fail> {
+    let (bulk, fielddata, wanted, charge) = load;
+    let (ends, held) = loaded(alloc, bulk, fielddata)?;
+    assert_eq!(rt; ends.as_slice(), wanted);
+    assert_eq!(rt; held, charge);
+    Ok(())
+}
+
+#[test]
+fn actions_and_the_charge_of_what_they_leave(rt: HostRuntime) -> Result<(), Fail> {
+    for load in loads() {
+        expect_load(&rt, rt.alloc(), load)?;
     }
     Ok(())
 }

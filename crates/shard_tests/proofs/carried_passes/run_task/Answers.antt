@@ -11,7 +11,7 @@ use Rattle.arrival_moves.specs.Plans.{search_of, batch_size}
 use Rattle.arrival_table.specs.Holding.{HasBatch, found_item}
 use Rattle.arrival_table.specs.Models.{DeskModel, with_view}
 use Rattle.arrival_table.proofs.OneItem.{claimed_has, loaded_hand, loaded_has, arrived_hand, arrived_has, put_hand, put_has, counted_last, batch_has, taken_hand}
-use Rattle.shard_tests.proofs.slots.run_task.Goals as goal
+use Rattle.shard_tests.proofs.carried_passes.run_task.Goals as goal
 
 -- the hand after each call, from the desk that the call before it left
 module _ (p : Plan) (one : p ≡ record { tasks = 0 ∷ []; searches = 1; batch = 2 }) (t : ℕ) (a b c d e : DeskModel) (claimed : a.view.hand ≡ Claimed 0 ∷ []) (took : b ≡ with_view a (after_take_task a.view 0)) where

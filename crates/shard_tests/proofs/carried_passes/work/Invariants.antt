@@ -1,6 +1,6 @@
 use Rattle.std.proofs.Common.{◌≡◌, ◌+◌, ◌≤◌, []}
 use Rattle.arrival_table.specs.Models.{IsOf}
-use Rattle.shard_tests.proofs.slots.work.Given as goal
+use Rattle.shard_tests.proofs.carried_passes.work.Given as goal
 
 -- between two tasks nothing is in hand, and no claim was lost
 abbrev pub invariant-loop-task : goal.invariant-loop-task

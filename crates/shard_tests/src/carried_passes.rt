@@ -4,15 +4,16 @@ ghost use Rattle.arrival_moves.specs.declared.item.Item.TheVariants as item;
 ghost use Rattle.arrival_moves.specs.Labels.{task_label, no_label};
 ghost use Rattle.arrival_moves.specs.Plans.{task_count};
 ghost use Rattle.arrival_table.specs.Models.{IsOf};
-ghost use Rattle.breaker_words.specs.Passes.{PassModel};
+ghost use Rattle.breaker_words.specs.Passes.{PassModel, IsOf as IsOfWords};
 
+use crate::pairs::pair_of;
+use crate::passes::expect_granted;
 use agg_model::List;
 use arrival_table::{Arrivals, Desk, Labelled, Task};
-use breaker_words::{
-    Child, Limits, Pass, Step, Which, Words, join, look, set_ceiling, split, try_child, try_parent,
-};
+use breaker_words::{Limits, Pass, Step, Trial, Which, Words, join, look};
 use std::alloc::{AllocError, Global};
 use std::marker::{Brand, PhantomData};
+use std::process::Abort;
 use std::test::Fail;
 
 /// The pass that lies in the table's slots, with all that it knows.
@@ -124,6 +125,22 @@ fn carry(alloc: Global, pass: Pass) -> Result<Pass, AllocError>
     carry_by::<Brand>(alloc, pass)
 }
 
+// The two passes as one, after the second came back.
+fn expect_joined(rt: &impl Abort, words: &Words, mut a: Pass, b: Pass)
+    requires of { IsOfWords words.now a }
+    requires other { IsOfWords words.now b }
+    requires rest { a.view.trial ≡ Trial.Rest }
+    requires other_rest { b.view.trial ≡ Trial.Rest }
+{
+    assert_eq!(rt;
+        (b.cap(), b.hold(Which::Request), b.hold(Which::Parent)),
+        (150, 60, 60)
+    );
+    join(words, &mut a, b);
+    assert_eq!(rt; (a.cap(), a.total()), (200, 200));
+    assert_eq!(rt; look(words, &mut a, Which::Request), 60);
+}
+
 #[test]
 fn a_pass_comes_back_out_of_the_slots(rt: HostRuntime) -> Result<(), Fail> {
     let limits = Limits {
@@ -132,23 +149,13 @@ fn a_pass_comes_back_out_of_the_slots(rt: HostRuntime) -> Result<(), Fail> {
         inflight: 100,
         parent: 100,
     };
-    let (words, mut a) = Words::open(rt.alloc(), limits)?;
-    set_ceiling(&words, &mut a, 200);
-    let mut b = split(&words, &mut a, 150);
+    let (words, a, mut b) = pair_of(rt.alloc(), limits, 200, 150)?;
     let granted = Step {
         total: 60,
         granted: true,
     };
-    assert_eq!(rt; try_child(&words, &mut b, Child::Request, 60), granted);
-    assert_eq!(rt; try_parent(&words, &mut b), granted);
-
+    expect_granted(&rt, &words, &mut b, 60, granted);
     let b = carry(rt.alloc(), b)?;
-    assert_eq!(rt;
-        (b.cap(), b.hold(Which::Request), b.hold(Which::Parent)),
-        (150, 60, 60)
-    );
-    join(&words, &mut a, b);
-    assert_eq!(rt; (a.cap(), a.total()), (200, 200));
-    assert_eq!(rt; look(&words, &mut a, Which::Request), 60);
+    expect_joined(&rt, &words, a, b);
     Ok(())
 }
