@@ -1,5 +1,5 @@
 //! The run of a pool.
-ghost use Rattle.std.specs.Prelude.{◌≡◌, ◌+◌, ◌*◌, ◌≤◌, ◌<◌, ℕ, IfOk, IsTrue, OnErr, length, slice_index_or, sum};
+ghost use Rattle.std.specs.Prelude.{◌≡◌, ◌+◌, ◌*◌, ◌≤◌, ◌<◌, ℕ, IfOk, IsTrue, OnErr, length, max, slice_index_or, sum};
 ghost use Rattle.std.specs.List.{list_all};
 ghost use Rattle.agg_cost.specs.Searches.{AreRoomsFor, kinds_of, task_ceilings};
 ghost use Rattle.agg_evaluation.specs.SearchFits.{search_fits};
@@ -26,6 +26,18 @@ use shard_columns::Index;
 use std::alloc::{AllocError, Global};
 use std::marker::Brand;
 use std::thread::Threads;
+
+// No more workers than there are tasks, and one where there is none.
+fn worker_count(workers: u32, index: &Index, searches: &List<Search>) -> u32
+    requires some { 1 ≤ workers }
+    requires few { length searches.now * length index.now.shards ≤ MAX_TASKS }
+    ensures some { 1 ≤ result }
+    ensures most { result ≤ workers }
+    ensures tasks { result ≤ max (length searches.now * length index.now.shards) 1 }
+{
+    let tasks = searches.len() * index.shards.len();
+    workers.min(tasks as u32).max(1)
+}
 
 fn run_pool_by<J: PoolCall + Send + Sync, G: Gate, R: Threads + Sync>(
     rt: &R,
@@ -66,7 +78,7 @@ fn run_pool_by<J: PoolCall + Send + Sync, G: Gate, R: Threads + Sync>(
         index.shards.len() as u32,
         ceilings.as_slice(),
         size,
-        workers,
+        worker_count(workers, index, searches),
     )?;
     work_all(
         rt,
@@ -82,8 +94,8 @@ fn run_pool_by<J: PoolCall + Send + Sync, G: Gate, R: Threads + Sync>(
     Ok(close_pool(alloc, words, pass, table, desks, room))
 }
 
-/// Runs the tasks of some searches, one search on one shard, by up to `workers` threads, each of which takes the next task
-/// that nobody has taken; results are merged in batches of up to `size` in the order of their arrival, by the worker that
+/// Runs the tasks of some searches, one search on one shard, by up to `workers` threads, and no more than there are tasks, each
+/// of which takes the next task that nobody has taken; results are merged in batches of up to `size` in the order of their arrival, by the worker that
 /// brought the last one. It takes the memory of its table before anything is charged; threads that cannot be made are done without.
 ///
 /// Each search is made for the mapping of the index. `ceilings` holds what the pass of each task may hold in bytes, search by search
