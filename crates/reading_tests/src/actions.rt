@@ -4,6 +4,7 @@ use agg_model::ActionKind;
 use agg_model::script_refusal::{MALFORMED_ACTION, UPDATE_NOT_SUPPORTED};
 use agg_reading::RequestFault;
 use std::alloc::Global;
+use std::process::Abort;
 use std::test::Fail;
 
 /// Whether the line is an action of this kind with this id and this routing, where seven actions of the index `i` come
@@ -25,75 +26,85 @@ fn is_refused(alloc: Global, line: &[u8], number: u8) -> bool {
     }
 }
 
+/// Asserts that each line is an action of its kind, with its id and its routing.
+fn expect_actions(rt: &impl Abort, alloc: Global, rows: &[(&str, ActionKind, &str, &str)]) {
+    for &(line, kind, id, routing) in rows {
+        assert!(rt;
+            is_action(alloc, line.as_bytes(), kind, id, routing),
+            "{line}"
+        );
+    }
+}
+
+/// Asserts that each line is no action.
+fn expect_malformed(rt: &impl Abort, alloc: Global, lines: &[&str]) {
+    for line in lines {
+        assert!(rt;
+            is_refused(alloc, line.as_bytes(), MALFORMED_ACTION),
+            "{line}"
+        );
+    }
+}
+
 #[test]
-fn actions_say_what_they_give_and_make_what_they_do_not(rt: HostRuntime) -> Result<(), Fail> {
-    let alloc = rt.alloc();
-    for (line, kind, id, routing) in [
+fn actions_say_what_they_give_and_make_what_they_do_not(rt: HostRuntime) {
+    let rows = &[
+        ("{\"index\":{}}", ActionKind::Index, "_auto_7", "_auto_7"),
         (
-            b"{\"index\":{}}".as_slice(),
-            ActionKind::Index,
-            "_auto_7",
-            "_auto_7",
-        ),
-        (
-            b"{\"create\":{\"_id\":\"a\",\"_index\":\"i\"}}".as_slice(),
+            "{\"create\":{\"_id\":\"a\",\"_index\":\"i\"}}",
             ActionKind::Create,
             "a",
             "a",
         ),
         (
-            b"{\"delete\":{\"_id\":-12,\"routing\":\"r\"}}".as_slice(),
+            "{\"delete\":{\"_id\":-12,\"routing\":\"r\"}}",
             ActionKind::Delete,
             "-12",
             "r",
         ),
         (
-            b" {\"index\":{\"_id\":null,\"_index\":null,\"pipeline\":null,\"routing\":\"\",\"_type\":7}} ".as_slice(),
+            " {\"index\":{\"_id\":null,\"_index\":null,\"pipeline\":null,\"routing\":\"\",\"_type\":7}} ",
             ActionKind::Index,
             "_auto_7",
             "",
         ),
         (
-            b"{\"index\":{\"_id\":\"a\",\"_id\":\"b\",\"routing\":18446744073709551615}}".as_slice(),
+            "{\"index\":{\"_id\":\"a\",\"_id\":\"b\",\"routing\":18446744073709551615}}",
             ActionKind::Index,
             "b",
             "18446744073709551615",
         ),
-    ] {
-        assert!(rt; is_action(alloc, line, kind, id, routing), "{id}");
-    }
-    Ok(())
+    ];
+    expect_actions(&rt, rt.alloc(), rows);
 }
 
 #[test]
-fn lines_that_are_no_actions_are_refused(rt: HostRuntime) -> Result<(), Fail> {
-    let alloc = rt.alloc();
-    for line in [
-        b"".as_slice(),
-        b"{\"index\":{}".as_slice(),
-        b"[]".as_slice(),
-        b"{}".as_slice(),
-        b"{\"index\":{},\"create\":{}}".as_slice(),
-        b"{\"index\":null}".as_slice(),
-        b"{\"update\":[]}".as_slice(),
-        b"{\"Index\":{}}".as_slice(),
-        b"{\"index\":{\"_index\":\"j\"}}".as_slice(),
-        b"{\"index\":{\"_index\":1}}".as_slice(),
-        b"{\"index\":{\"pipeline\":\"p\"}}".as_slice(),
-        b"{\"index\":{\"if_seq_no\":0}}".as_slice(),
-        b"{\"index\":{\"if_primary_term\":0}}".as_slice(),
-        b"{\"index\":{\"version\":0}}".as_slice(),
-        b"{\"index\":{\"version_type\":\"\"}}".as_slice(),
-        b"{\"index\":{\"_id\":\"\"}}".as_slice(),
-        b"{\"index\":{\"_id\":1.0}}".as_slice(),
-        b"{\"index\":{\"_id\":true}}".as_slice(),
-        b"{\"index\":{\"routing\":[]}}".as_slice(),
-        b"{\"delete\":{}}".as_slice(),
-    ] {
-        assert!(rt; is_refused(alloc, line, MALFORMED_ACTION));
-    }
-    assert!(rt; is_refused(alloc, b"{\"update\":{\"_id\":\"a\"}}", UPDATE_NOT_SUPPORTED));
-    Ok(())
+fn lines_that_are_no_actions_are_refused(rt: HostRuntime) {
+    let lines = &[
+        "",
+        "{\"index\":{}",
+        "[]",
+        "{}",
+        "{\"index\":{},\"create\":{}}",
+        "{\"index\":null}",
+        "{\"update\":[]}",
+        "{\"Index\":{}}",
+        "{\"index\":{\"_index\":\"j\"}}",
+        "{\"index\":{\"_index\":1}}",
+        "{\"index\":{\"pipeline\":\"p\"}}",
+        "{\"index\":{\"if_seq_no\":0}}",
+        "{\"index\":{\"if_primary_term\":0}}",
+        "{\"index\":{\"version\":0}}",
+        "{\"index\":{\"version_type\":\"\"}}",
+        "{\"index\":{\"_id\":\"\"}}",
+        "{\"index\":{\"_id\":1.0}}",
+        "{\"index\":{\"_id\":true}}",
+        "{\"index\":{\"routing\":[]}}",
+        "{\"delete\":{}}",
+    ];
+    expect_malformed(&rt, rt.alloc(), lines);
+    let update = b"{\"update\":{\"_id\":\"a\"}}";
+    assert!(rt; is_refused(rt.alloc(), update, UPDATE_NOT_SUPPORTED));
 }
 
 #[test]

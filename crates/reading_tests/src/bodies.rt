@@ -1,44 +1,57 @@
 //! Search bodies, and their refusals.
+ghost use Rattle.std.specs.Prelude.{IfOk};
 ghost use Rattle.agg_model.specs.MappingOrder.{IsOrdered};
 
 use agg_mapping::index_line_of;
-use agg_model::{Key, Kind, Mapping, Order, OrderBy};
+use agg_model::{Agg, Key, Kind, Mapping, Order, OrderBy, Search};
 use agg_reading::RequestFault;
 use agg_request::search_of;
 use std::alloc::{AllocError, Global};
+use std::process::Abort;
 use std::test::Fail;
 
 const INDEX: &[u8] =
     b"{\"index\":\"i\",\"mappings\":{\"properties\":{\"b\":{\"type\":\"boolean\"},\"n\":{\"type\":\"long\"},\
 \"t\":{\"type\":\"keyword\"},\"v\":{\"type\":\"nested\",\"properties\":{\"s\":{\"type\":\"keyword\"}}}}}}";
 
-fn refusal(alloc: Global, body: &str, mapping: &Mapping) -> Option<(u16, String)>
-    requires { IsOrdered mapping.now }
+/// The mapping that the bodies are read by.
+fn mapping(alloc: Global) -> Result<Mapping, Fail>
+    ensures { IfOk result (λ mapping. IsOrdered mapping) }
 {
-    match search_of(alloc, body.as_bytes(), mapping) {
-        Err(RequestFault::Bad { code, path }) => {
-            Some((code, String::from_str(alloc, path.as_str()).ok()?))
-        }
-        _ => None,
+    match index_line_of(alloc, INDEX) {
+        Ok(index) => Ok(index.mapping),
+        Err(_) => Err(Fail::new("no index line")),
     }
 }
 
-fn is_refused(alloc: Global, body: &str, mapping: &Mapping, code: u16, pointer: &str) -> bool
+/// What a body gives.
+fn read(alloc: Global, body: &[u8], mapping: &Mapping) -> Result<Search, RequestFault>
     requires { IsOrdered mapping.now }
 {
-    match refusal(alloc, body, mapping) {
-        Some((found, at)) => found == code && at.as_str() == pointer,
-        None => false,
+    search_of(alloc, body, mapping)
+}
+
+fn is_refused(found: Result<Search, RequestFault>, wanted: u16, pointer: &str) -> bool {
+    match found {
+        Err(RequestFault::Bad { code, path }) => code == wanted && path.as_str() == pointer,
+        _ => false,
+    }
+}
+
+/// Asserts that each body is refused with its number and its pointer.
+fn expect_refused(rt: &impl Abort, alloc: Global, mapping: &Mapping, rows: &[(u16, &str, &str)])
+    requires { IsOrdered mapping.now }
+{
+    for &(code, pointer, body) in rows {
+        let found = read(alloc, body.as_bytes(), mapping);
+        assert!(rt; is_refused(found, code, pointer), "{body}");
     }
 }
 
 #[test]
 fn each_refusal_has_its_number_and_its_pointer(rt: HostRuntime) -> Result<(), Fail> {
-    let Ok(index) = index_line_of(rt.alloc(), INDEX) else {
-        assert!(rt; false);
-        return Ok(());
-    };
-    for (code, pointer, body) in [
+    let mapping = mapping(rt.alloc())?;
+    let rows = &[
         (100, "", "[]"),
         (101, "/aggz", "{\"aggz\":{}}"),
         (102, "/aggs/a/terms", "{\"aggs\":{\"a\":{\"terms\":{}}}}"),
@@ -80,72 +93,57 @@ fn each_refusal_has_its_number_and_its_pointer(rt: HostRuntime) -> Result<(), Fa
             "/aggs/a/terms/order/x~1y",
             "{\"aggs\":{\"a\":{\"terms\":{\"field\":\"t\",\"order\":{\"x/y\":\"asc\"}}}}}",
         ),
-    ] {
-        assert!(rt;
-            is_refused(rt.alloc(), body, &index.mapping, code, pointer),
-            "{body}"
-        );
-    }
+    ];
+    expect_refused(&rt, rt.alloc(), &mapping, rows);
     Ok(())
+}
+
+/// A text so many times.
+fn repeated(alloc: Global, text: &str, times: u32) -> Result<String, AllocError> {
+    let mut out = String::new(alloc);
+    for _ in 0..times {
+        out.push_str(text)?;
+    }
+    Ok(out)
 }
 
 /// A body of filters, each below the one before.
 fn nested_filters(alloc: Global, levels: u32) -> Result<String, AllocError> {
-    let mut body = String::from_str(alloc, "{")?;
-    for _ in 0..levels {
-        body.push_str("\"aggs\":{\"f\":{\"filter\":{\"match_all\":{}},")?;
-    }
-    body.push_str("\"aggs\":{}")?;
-    for _ in 0..levels {
-        body.push_str("}}")?;
-    }
-    body.push_str("}")?;
-    Ok(body)
+    let front = repeated(
+        alloc,
+        "\"aggs\":{\"f\":{\"filter\":{\"match_all\":{}},",
+        levels,
+    )?;
+    let back = repeated(alloc, "}}", levels)?;
+    format!(in alloc; "{{{front}\"aggs\":{{}}{back}}}")
 }
 
 #[test]
 fn aggregations_nest_sixteen_deep(rt: HostRuntime) -> Result<(), Fail> {
-    let Ok(index) = index_line_of(rt.alloc(), INDEX) else {
-        assert!(rt; false);
-        return Ok(());
-    };
+    let mapping = mapping(rt.alloc())?;
     let deep = nested_filters(rt.alloc(), 16)?;
-    assert!(rt; search_of(rt.alloc(), deep.as_bytes(), &index.mapping).is_ok());
+    assert!(rt; read(rt.alloc(), deep.as_bytes(), &mapping).is_ok());
     let deeper = nested_filters(rt.alloc(), 17)?;
-    let mut pointer = String::new(rt.alloc());
-    for _ in 0..17u8 {
-        pointer.push_str("/aggs/f")?;
-    }
-    assert!(rt;
-        is_refused(
-            rt.alloc(),
-            deeper.as_str(),
-            &index.mapping,
-            111,
-            pointer.as_str()
-        )
-    );
+    let pointer = repeated(rt.alloc(), "/aggs/f", 17)?;
+    let found = read(rt.alloc(), deeper.as_bytes(), &mapping);
+    assert!(rt; is_refused(found, 111, pointer.as_str()));
     Ok(())
+}
+
+fn is_no_json(found: Result<Search, RequestFault>) -> bool {
+    matches!(found, Err(RequestFault::NotJson))
 }
 
 #[test]
 fn bytes_that_are_no_json_have_no_pointer(rt: HostRuntime) -> Result<(), Fail> {
-    let Ok(index) = index_line_of(rt.alloc(), INDEX) else {
-        assert!(rt; false);
-        return Ok(());
-    };
+    let mapping = mapping(rt.alloc())?;
     for body in [
         b"".as_slice(),
         b"{".as_slice(),
         b"{\"size\":01}".as_slice(),
         b"\"\xff\"".as_slice(),
     ] {
-        assert!(rt;
-            matches!(
-                search_of(rt.alloc(), body, &index.mapping),
-                Err(RequestFault::NotJson)
-            )
-        );
+        assert!(rt; is_no_json(read(rt.alloc(), body, &mapping)));
     }
     Ok(())
 }
@@ -242,19 +240,20 @@ fn is_wanted(place: usize, kind: &Kind) -> bool {
     }
 }
 
-#[test]
-fn every_kind_is_read(rt: HostRuntime) -> Result<(), Fail> {
-    let Ok(index) = index_line_of(rt.alloc(), INDEX) else {
-        assert!(rt; false);
-        return Ok(());
-    };
-    let Ok(search) = search_of(rt.alloc(), EVERY_KIND, &index.mapping) else {
-        assert!(rt; false);
-        return Ok(());
-    };
-    assert!(rt; search.body_bytes == EVERY_KIND.len() as u64 && search.aggs.len() == 12);
-    for (place, agg) in search.aggs.as_slice().iter().enumerate() {
+/// Asserts that the aggregations are of the kinds of `EVERY_KIND`.
+fn expect_every_kind(rt: &impl Abort, aggs: &[Agg]) {
+    for (place, agg) in aggs.iter().enumerate() {
         assert!(rt; is_wanted(place, &agg.kind), "{place}");
     }
+}
+
+#[test]
+fn every_kind_is_read(rt: HostRuntime) -> Result<(), Fail> {
+    let mapping = mapping(rt.alloc())?;
+    let Ok(search) = read(rt.alloc(), EVERY_KIND, &mapping) else {
+        return Err(Fail::new("no search"));
+    };
+    assert!(rt; search.body_bytes == EVERY_KIND.len() as u64 && search.aggs.len() == 12);
+    expect_every_kind(&rt, search.aggs.as_slice());
     Ok(())
 }

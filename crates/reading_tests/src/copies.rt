@@ -1,3 +1,4 @@
+//! Copies of plain types, lent bytes and texts, and the order of keys.
 use agg_model::{
     Agg, Boxed, Bytes, CompositeSource, Copying, Key, Kind, List, Probe, Query, Search, Text,
 };

@@ -2,6 +2,7 @@
 use crate::rows::{has_values, is_refused, row_of};
 use agg_model::{Scalar, Text};
 use std::alloc::{AllocError, Global};
+use std::process::Abort;
 use std::test::Fail;
 
 /// An index line with one field, `a.b`, of a kind that is written so.
@@ -45,23 +46,30 @@ fn values_of_all_kinds_are_read(rt: HostRuntime) -> Result<(), Fail> {
     Ok(())
 }
 
+/// Whether the value is refused with this number, with the path of the field.
+fn refuses(alloc: Global, kind: &str, value: &str, number: u8) -> Result<bool, AllocError> {
+    let line = line_of(alloc, kind)?;
+    let source = source_of(alloc, value)?;
+    Ok(is_refused(alloc, line.as_bytes(), source.as_bytes(), number, "a.b"))
+}
+
+/// Asserts that each value is refused with its number.
+fn expect_refused(rt: &impl Abort, alloc: Global, rows: &[(&str, &str, u8)]) -> Result<(), Fail> {
+    for &(kind, value, number) in rows {
+        assert!(rt; refuses(alloc, kind, value, number)?, "{kind} {value}");
+    }
+    Ok(())
+}
+
 #[test]
 fn values_of_all_kinds_are_refused(rt: HostRuntime) -> Result<(), Fail> {
-    let a = rt.alloc();
-    for (kind, value, number) in [
+    let rows = &[
         ("\"byte\"", "-129", 22),
         ("\"long\"", "18446744073709551616", 21),
         ("\"long\"", "\"9223372036854775808\"", 22),
         ("\"short\"", "true", 21),
         ("\"keyword\"", "1.5", 21),
         ("\"boolean\"", "0", 21),
-    ] {
-        let line = line_of(a, kind)?;
-        let source = source_of(a, value)?;
-        assert!(rt;
-            is_refused(a, line.as_bytes(), source.as_bytes(), number, "a.b"),
-            "{kind} {value}"
-        );
-    }
-    Ok(())
+    ];
+    expect_refused(&rt, rt.alloc(), rows)
 }

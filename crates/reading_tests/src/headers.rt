@@ -1,14 +1,19 @@
 //! Headers, settings lines and lines that a script lacks.
-use agg_base::{Block, Lines, MemorySource};
+ghost use Rattle.std.specs.Prelude.{◌≡◌, None, OnOk};
+ghost use Rattle.agg_base.specs.Lines.{kept};
+
+use agg_base::{Block, Lines, MemorySource, Source};
 use agg_model::script_refusal::{BAD_HEADER, MISSING_SECTION};
 use agg_model::{Bytes, List as Numbers, Text};
 use script_lines::{
     Header, ScriptFault, ScriptRefusal, header_of, is_empty_line, next_line, take_line,
 };
 use std::alloc::{AllocError, Global};
+use std::process::Abort;
 use std::test::Fail;
 
-fn refusal(alloc: Global, number: u8, line: u64) -> ScriptFault {
+/// A refusal with this number at this line.
+pub(crate) fn refusal(alloc: Global, number: u8, line: u64) -> ScriptFault {
     ScriptFault::Refused(ScriptRefusal {
         number,
         line,
@@ -32,20 +37,80 @@ fn kind_of(alloc: Global, line: &[u8]) -> Result<u8, AllocError> {
     }
 }
 
+/// Asserts what each header line is.
+fn expect_kinds(rt: &impl Abort, alloc: Global, rows: &[(&str, u8)]) -> Result<(), Fail> {
+    for &(line, kind) in rows {
+        assert!(rt; kind_of(alloc, line.as_bytes())? == kind, "{line}");
+    }
+    Ok(())
+}
+
 #[test]
 fn headers_are_told_from_settings_lines(rt: HostRuntime) -> Result<(), Fail> {
-    let alloc = rt.alloc();
-    assert_eq!(rt; kind_of(alloc, b"{}")?, b's');
-    assert_eq!(rt; kind_of(alloc, b"{\"index\":\"i\"}")?, b's');
-    assert_eq!(rt; kind_of(alloc, b"{\"persistent\":{}}")?, b'c');
-    assert_eq!(rt; kind_of(alloc, b"{\"transient\":5}")?, b'c');
-    assert_eq!(rt;
-        kind_of(alloc, b"{\"persistent\":{},\"transient\":{}}")?,
-        b's'
-    );
-    assert_eq!(rt; kind_of(alloc, b"[]")?, b'r');
-    assert_eq!(rt; kind_of(alloc, b"{")?, b'r');
-    Ok(())
+    let rows = &[
+        ("{}", b's'),
+        ("{\"index\":\"i\"}", b's'),
+        ("{\"persistent\":{}}", b'c'),
+        ("{\"transient\":5}", b'c'),
+        ("{\"persistent\":{},\"transient\":{}}", b's'),
+        ("[]", b'r'),
+        ("{", b'r'),
+    ];
+    expect_kinds(&rt, rt.alloc(), rows)
+}
+
+/// Asserts that there is a next line, which is not empty.
+fn expect_line<S: Source>(
+    rt: &impl Abort,
+    alloc: Global,
+    lines: &mut Lines<'_, S>,
+) -> Result<(), Fail>
+    requires { kept lines.old ≡ None }
+    ensures { OnOk result (kept lines.new ≡ None) }
+{
+    match next_line(alloc, lines) {
+        Ok(Some(line)) => {
+            assert!(rt; !is_empty_line(line.as_slice()));
+            Ok(())
+        }
+        _ => Err(Fail::new("no line")),
+    }
+}
+
+/// Asserts that the line which has to be there is empty.
+fn expect_empty_line<S: Source>(
+    rt: &impl Abort,
+    alloc: Global,
+    lines: &mut Lines<'_, S>,
+) -> Result<(), Fail>
+    requires { kept lines.old ≡ None }
+    ensures { OnOk result (kept lines.new ≡ None) }
+{
+    match take_line(alloc, lines, MISSING_SECTION) {
+        Ok(line) => {
+            assert!(rt; is_empty_line(line.as_slice()));
+            Ok(())
+        }
+        Err(_) => Err(Fail::new("no line")),
+    }
+}
+
+/// Asserts that the line which has to be there is missing behind this one.
+fn expect_missing<S: Source>(
+    rt: &impl Abort,
+    alloc: Global,
+    lines: &mut Lines<'_, S>,
+    last: u64,
+) -> Result<(), Fail>
+    requires { kept lines.old ≡ None }
+{
+    match take_line(alloc, lines, MISSING_SECTION) {
+        Ok(_) => Err(Fail::new("one more line")),
+        Err(fault) => {
+            assert!(rt; fault == refusal(alloc, MISSING_SECTION, last));
+            Ok(())
+        }
+    }
 }
 
 #[test]
@@ -53,19 +118,7 @@ fn a_missing_line_is_refused_at_the_last_one(rt: HostRuntime) -> Result<(), Fail
     let alloc = rt.alloc();
     let mut source = MemorySource::new(Bytes::of(alloc, b"a\n\r\n")?, 1, Numbers::new(alloc));
     let mut lines = Lines::new(alloc, &mut source, Block::new(alloc)?);
-    match next_line(alloc, &mut lines) {
-        Ok(Some(line)) => assert!(rt; !is_empty_line(line.as_slice())),
-        _ => return Err(Fail::new("no first line")),
-    }
-    match take_line(alloc, &mut lines, MISSING_SECTION) {
-        Ok(line) => assert!(rt; is_empty_line(line.as_slice())),
-        Err(_) => return Err(Fail::new("no second line")),
-    }
-    match take_line(alloc, &mut lines, MISSING_SECTION) {
-        Ok(_) => Err(Fail::new("a third line")),
-        Err(fault) => {
-            assert!(rt; fault == refusal(alloc, MISSING_SECTION, 2));
-            Ok(())
-        }
-    }
+    expect_line(&rt, alloc, &mut lines)?;
+    expect_empty_line(&rt, alloc, &mut lines)?;
+    expect_missing(&rt, alloc, &mut lines, 2)
 }

@@ -9,6 +9,7 @@ use agg_model::{Bytes, List as Numbers};
 use std::alloc::{AllocError, Global};
 use std::io;
 use std::io::{Read, Write};
+use std::process::Abort;
 use std::test::Fail;
 
 fn source_of(
@@ -40,38 +41,43 @@ fn barred<S: Source>(alloc: Global, source: &mut S) -> Result<(Vec<u8>, Option<L
     Ok((all, None))
 }
 
+/// Asserts the lines of a source, each with a bar behind it, and the fault that ends them.
+fn expect_lines(
+    rt: &impl Abort,
+    alloc: Global,
+    mut source: MemorySource,
+    wanted: &[u8],
+    fault: Option<LineFault>,
+) -> Result<(), Fail> {
+    let (all, found) = barred(alloc, &mut source)?;
+    assert!(rt; all.as_slice() == wanted);
+    assert_eq!(rt; found, fault);
+    Ok(())
+}
+
 #[test]
 fn pieces_of_any_length_give_the_same_lines(rt: HostRuntime) -> Result<(), Fail> {
     let text = b"one\n\r\n\nlast";
-    let mut by_one = source_of(rt.alloc(), text, 1, &[])?;
-    let mut by_seven = source_of(rt.alloc(), text, 7, &[])?;
-    let mut by_block = source_of(rt.alloc(), text, 65_536, &[])?;
-    let (all, fault) = barred(rt.alloc(), &mut by_one)?;
-    assert_eq!(rt; all.as_slice(), b"one|\r||last|".as_slice());
-    assert_eq!(rt; fault, None);
-    let (all, _) = barred(rt.alloc(), &mut by_seven)?;
-    assert_eq!(rt; all.as_slice(), b"one|\r||last|".as_slice());
-    let (all, _) = barred(rt.alloc(), &mut by_block)?;
-    assert_eq!(rt; all.as_slice(), b"one|\r||last|".as_slice());
-    Ok(())
+    let wanted = b"one|\r||last|";
+    let alloc = rt.alloc();
+    let by_one = source_of(alloc, text, 1, &[])?;
+    expect_lines(&rt, alloc, by_one, wanted, None)?;
+    let by_seven = source_of(alloc, text, 7, &[])?;
+    expect_lines(&rt, alloc, by_seven, wanted, None)?;
+    let by_block = source_of(alloc, text, 65_536, &[])?;
+    expect_lines(&rt, alloc, by_block, wanted, None)
 }
 
 #[test]
 fn a_failed_read_ends_the_lines(rt: HostRuntime) -> Result<(), Fail> {
-    let mut source = source_of(rt.alloc(), b"one\ntwo\n", 4, &[1])?;
-    let (all, fault) = barred(rt.alloc(), &mut source)?;
-    assert_eq!(rt; all.as_slice(), b"one|".as_slice());
-    assert_eq!(rt; fault, Some(LineFault::Read));
-    Ok(())
+    let source = source_of(rt.alloc(), b"one\ntwo\n", 4, &[1])?;
+    expect_lines(&rt, rt.alloc(), source, b"one|", Some(LineFault::Read))
 }
 
 #[test]
 fn no_read_fails_behind_the_end(rt: HostRuntime) -> Result<(), Fail> {
-    let mut source = source_of(rt.alloc(), b"one\ntwo", 7, &[2])?;
-    let (all, fault) = barred(rt.alloc(), &mut source)?;
-    assert_eq!(rt; all.as_slice(), b"one|two|".as_slice());
-    assert_eq!(rt; fault, None);
-    Ok(())
+    let source = source_of(rt.alloc(), b"one\ntwo", 7, &[2])?;
+    expect_lines(&rt, rt.alloc(), source, b"one|two|", None)
 }
 
 #[test]

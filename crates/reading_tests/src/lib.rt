@@ -1,5 +1,6 @@
-//! Tests of what is read: lines, JSON values, words of the command line, settings lines and scripts. They stand in a crate of
-//! their own, since a crate that has tests is proved once more for them.
+//! Tests of what is read: lines, JSON values, words of the command line, settings lines, mappings, documents, queries, search
+//! bodies and the entries of a script. They stand in a crate of their own, since a crate that has tests is proved once more
+//! for them.
 #![tactic(auto)]
 
 #[cfg(test)]

@@ -5,6 +5,7 @@ use agg_query::query_of;
 use agg_reading::RequestFault;
 use json_walk::reading;
 use std::alloc::{AllocError, Global};
+use std::process::Abort;
 use std::test::Fail;
 
 /// What a body gives after so many queries, over fields `b`, `n`, `o.s` and `t` and nested paths `o`, `o-o` and `o.p`.
@@ -32,13 +33,21 @@ fn is_refused(found: Result<Query, RequestFault>, wanted: u16, pointer: &str) ->
     }
 }
 
+/// Asserts that each body is refused with its number and its pointer.
+fn expect_refused(rt: &impl Abort, alloc: Global, rows: &[(&str, u16, &str)]) {
+    for &(body, code, pointer) in rows {
+        let found = query_after(alloc, 0, body);
+        assert!(rt; is_refused(found, code, pointer), "{body}");
+    }
+}
+
 fn is_read(alloc: Global, body: &str, wanted: Query) -> bool {
     query_after(alloc, 0, body) == Ok(wanted)
 }
 
 #[test]
-fn a_query_is_an_object_with_one_known_name(rt: HostRuntime) -> Result<(), Fail> {
-    for (body, code, pointer) in [
+fn a_query_is_an_object_with_one_known_name(rt: HostRuntime) {
+    let rows = &[
         ("[]", 103, ""),
         ("{}", 107, ""),
         ("{\"match_all\":{},\"boost\":1}", 107, ""),
@@ -49,18 +58,13 @@ fn a_query_is_an_object_with_one_known_name(rt: HostRuntime) -> Result<(), Fail>
             101,
             "/match_all/a",
         ),
-    ] {
-        assert!(rt;
-            is_refused(query_after(rt.alloc(), 0, body), code, pointer),
-            "{body}"
-        );
-    }
-    Ok(())
+    ];
+    expect_refused(&rt, rt.alloc(), rows);
 }
 
 #[test]
-fn term_and_terms_refuse_in_the_order_of_their_walk(rt: HostRuntime) -> Result<(), Fail> {
-    for (body, code, pointer) in [
+fn term_and_terms_refuse_in_the_order_of_their_walk(rt: HostRuntime) {
+    let rows = &[
         ("{\"term\":{}}", 107, "/term"),
         ("{\"term\":{\"n\":1,\"t\":1}}", 107, "/term"),
         ("{\"term\":{\"boost\":1}}", 107, "/term"),
@@ -88,18 +92,13 @@ fn term_and_terms_refuse_in_the_order_of_their_walk(rt: HostRuntime) -> Result<(
             104,
             "/terms/n/2",
         ),
-    ] {
-        assert!(rt;
-            is_refused(query_after(rt.alloc(), 0, body), code, pointer),
-            "{body}"
-        );
-    }
-    Ok(())
+    ];
+    expect_refused(&rt, rt.alloc(), rows);
 }
 
 #[test]
-fn range_exists_and_ids_refuse_in_the_order_of_their_walk(rt: HostRuntime) -> Result<(), Fail> {
-    for (body, code, pointer) in [
+fn range_exists_and_ids_refuse_in_the_order_of_their_walk(rt: HostRuntime) {
+    let rows = &[
         ("{\"range\":{\"b\":5}}", 108, "/range/b"),
         ("{\"range\":{\"n\":5}}", 103, "/range/n"),
         (
@@ -119,18 +118,13 @@ fn range_exists_and_ids_refuse_in_the_order_of_their_walk(rt: HostRuntime) -> Re
         ("{\"ids\":{\"values\":\"a\"}}", 103, "/ids/values"),
         ("{\"ids\":{\"boost\":1}}", 102, "/ids"),
         ("{\"ids\":{\"values\":[\"a\",1]}}", 103, "/ids/values/1"),
-    ] {
-        assert!(rt;
-            is_refused(query_after(rt.alloc(), 0, body), code, pointer),
-            "{body}"
-        );
-    }
-    Ok(())
+    ];
+    expect_refused(&rt, rt.alloc(), rows);
 }
 
 #[test]
-fn bool_refuses_in_byte_order_of_its_members(rt: HostRuntime) -> Result<(), Fail> {
-    for (body, code, pointer) in [
+fn bool_refuses_in_byte_order_of_its_members(rt: HostRuntime) {
+    let rows = &[
         (
             "{\"bool\":{\"must\":[{\"term\":{\"t\":1}},{\"x\":{}}]}}",
             105,
@@ -161,18 +155,13 @@ fn bool_refuses_in_byte_order_of_its_members(rt: HostRuntime) -> Result<(), Fail
             103,
             "/bool/must_not",
         ),
-    ] {
-        assert!(rt;
-            is_refused(query_after(rt.alloc(), 0, body), code, pointer),
-            "{body}"
-        );
-    }
-    Ok(())
+    ];
+    expect_refused(&rt, rt.alloc(), rows);
 }
 
 #[test]
-fn nested_paths_lie_strictly_beneath_the_context(rt: HostRuntime) -> Result<(), Fail> {
-    for (body, code, pointer) in [
+fn nested_paths_lie_strictly_beneath_the_context(rt: HostRuntime) {
+    let rows = &[
         (
             "{\"nested\":{\"path\":\"o\",\"score_mode\":1}}",
             102,
@@ -204,13 +193,8 @@ fn nested_paths_lie_strictly_beneath_the_context(rt: HostRuntime) -> Result<(), 
             105,
             "/nested/query/x",
         ),
-    ] {
-        assert!(rt;
-            is_refused(query_after(rt.alloc(), 0, body), code, pointer),
-            "{body}"
-        );
-    }
-    Ok(())
+    ];
+    expect_refused(&rt, rt.alloc(), rows);
 }
 
 fn term(alloc: Global, word: &str) -> Result<Query, AllocError> {
@@ -234,15 +218,15 @@ fn queries_of_one_value(rt: HostRuntime) -> Result<(), Fail> {
     Ok(())
 }
 
-#[test]
-fn queries_of_lists(rt: HostRuntime) -> Result<(), Fail> {
-    let a = rt.alloc();
-    let mut values = List::new(a);
+fn true_or_false(alloc: Global) -> Result<Query, AllocError> {
+    let mut values = List::new(alloc);
     values.push(Probe::Flag(true))?;
     values.push(Probe::Flag(false))?;
-    let wanted = Query::Terms { field: 0, values };
-    assert!(rt; is_read(a, "{\"terms\":{\"b\":[true,\"false\"]}}", wanted));
-    let mut tests = List::new(a);
+    Ok(Query::Terms { field: 0, values })
+}
+
+fn above_1_up_to_9(alloc: Global) -> Result<Query, AllocError> {
+    let mut tests = List::new(alloc);
     tests.push(RangeTest {
         op: RangeOp::Gt,
         value: Probe::Whole(1),
@@ -251,38 +235,51 @@ fn queries_of_lists(rt: HostRuntime) -> Result<(), Fail> {
         op: RangeOp::Lte,
         value: Probe::Whole(9),
     })?;
-    let wanted = Query::Range { field: 1, tests };
+    Ok(Query::Range { field: 1, tests })
+}
+
+fn id_of(alloc: Global, id: &str) -> Result<Query, AllocError> {
+    let mut values = List::new(alloc);
+    values.push(Text::of(alloc, id)?)?;
+    Ok(Query::Ids { values })
+}
+
+#[test]
+fn queries_of_lists(rt: HostRuntime) -> Result<(), Fail> {
+    let a = rt.alloc();
+    assert!(rt; is_read(a, "{\"terms\":{\"b\":[true,\"false\"]}}", true_or_false(a)?));
     assert!(rt;
         is_read(
             a,
             "{\"range\":{\"n\":{\"lte\":9,\"gt\":1,\"gte\":null}}}",
-            wanted
+            above_1_up_to_9(a)?
         )
     );
-    let mut values = List::new(a);
-    values.push(Text::of(a, "x")?)?;
-    assert!(rt; is_read(a, "{\"ids\":{\"values\":[\"x\"]}}", Query::Ids { values }));
+    assert!(rt; is_read(a, "{\"ids\":{\"values\":[\"x\"]}}", id_of(a, "x")?));
     Ok(())
+}
+
+fn both_and_should(alloc: Global) -> Result<Query, AllocError> {
+    let mut must = List::new(alloc);
+    must.push(term(alloc, "f")?)?;
+    must.push(term(alloc, "m")?)?;
+    let must_not = List::new(alloc);
+    let mut should = List::new(alloc);
+    should.push(Query::All)?;
+    Ok(Query::Bool {
+        must,
+        must_not,
+        should,
+        minimum: 0,
+    })
 }
 
 #[test]
 fn bool_puts_filter_before_must(rt: HostRuntime) -> Result<(), Fail> {
     let a = rt.alloc();
-    let mut must = List::new(a);
-    must.push(term(a, "f")?)?;
-    must.push(term(a, "m")?)?;
-    let must_not = List::new(a);
-    let mut should = List::new(a);
-    should.push(Query::All)?;
-    let wanted = Query::Bool {
-        must,
-        must_not,
-        should,
-        minimum: 0,
-    };
     let body =
         "{\"bool\":{\"must\":{\"term\":{\"t\":\"m\"}},\"filter\":[{\"term\":{\"t\":\"f\"}}],\"should\":{\"match_all\":{}}}}";
-    assert!(rt; is_read(a, body, wanted));
+    assert!(rt; is_read(a, body, both_and_should(a)?));
     Ok(())
 }
 

@@ -3,6 +3,7 @@ use agg_model::{Generate, Limits, Settings, Text};
 use agg_settings::{ChangeFault, SettingsFault, byte_size, change, is_settings_line, settings_of};
 use json_walk::reading;
 use std::alloc::{AllocError, Global};
+use std::process::Abort;
 use std::test::Fail;
 
 const LIMITS: Limits = Limits {
@@ -32,6 +33,12 @@ fn words(alloc: Global, line: &str) -> Result<Vec<Text>, AllocError> {
     Ok(words)
 }
 
+/// What the words of a line give, where several workers and searches are in the grammar or not.
+fn read(alloc: Global, line: &str, several: bool) -> Result<Settings, SettingsFault> {
+    let words = words(alloc, line)?;
+    settings_of(alloc, words.as_slice(), several)
+}
+
 fn is_usage(read: Result<Settings, SettingsFault>, key: &str, value: &str) -> bool {
     match read {
         Err(SettingsFault::Usage(usage)) => {
@@ -41,8 +48,24 @@ fn is_usage(read: Result<Settings, SettingsFault>, key: &str, value: &str) -> bo
     }
 }
 
+/// Asserts that the words of each line give its settings.
+fn expect_settings(rt: &impl Abort, alloc: Global, rows: &[(&str, Settings)]) {
+    for &(line, wanted) in rows {
+        let found = read(alloc, line, true);
+        assert!(rt; found == Ok(wanted), "{line}");
+    }
+}
+
+/// Asserts that the words of each line are refused with its key and value.
+fn expect_usage(rt: &impl Abort, alloc: Global, several: bool, rows: &[(&str, &str, &str)]) {
+    for &(line, key, value) in rows {
+        let found = read(alloc, line, several);
+        assert!(rt; is_usage(found, key, value), "{line}");
+    }
+}
+
 #[test]
-fn words_give_settings(rt: HostRuntime) -> Result<(), Fail> {
+fn words_give_settings(rt: HostRuntime) {
     let all = Limits {
         request: 1,
         fielddata: 2_048,
@@ -60,7 +83,7 @@ fn words_give_settings(rt: HostRuntime) -> Result<(), Fail> {
         documents: 100_000,
         shards: 64,
     };
-    for (line, wanted) in [
+    let rows = &[
         ("", PLAIN),
         ("--", PLAIN),
         (
@@ -117,17 +140,13 @@ fn words_give_settings(rt: HostRuntime) -> Result<(), Fail> {
             },
         ),
         ("-E indices.breaker.total.use_real_memory=false", PLAIN),
-    ] {
-        let words = words(rt.alloc(), line)?;
-        let read = settings_of(rt.alloc(), words.as_slice(), true);
-        assert!(rt; read == Ok(wanted), "{line}");
-    }
-    Ok(())
+    ];
+    expect_settings(&rt, rt.alloc(), rows);
 }
 
 #[test]
-fn words_outside_the_grammar_are_refused(rt: HostRuntime) -> Result<(), Fail> {
-    for (line, key, value) in [
+fn words_outside_the_grammar_are_refused(rt: HostRuntime) {
+    let rows = &[
         ("x", "", ""),
         ("-- x", "", ""),
         ("--help", "", ""),
@@ -196,17 +215,13 @@ fn words_outside_the_grammar_are_refused(rt: HostRuntime) -> Result<(), Fail> {
             "1",
         ),
         ("--generate x --scan --concurrent-searches 2", "--scan", ""),
-    ] {
-        let words = words(rt.alloc(), line)?;
-        let read = settings_of(rt.alloc(), words.as_slice(), true);
-        assert!(rt; is_usage(read, key, value), "{line}");
-    }
-    Ok(())
+    ];
+    expect_usage(&rt, rt.alloc(), true, rows);
 }
 
 #[test]
-fn one_worker_and_one_search_where_no_more_are_answered(rt: HostRuntime) -> Result<(), Fail> {
-    for (line, key, value) in [
+fn one_worker_and_one_search_where_no_more_are_answered(rt: HostRuntime) {
+    let rows = &[
         ("--workers 2", "--workers", "2"),
         ("--concurrent-searches 2", "--concurrent-searches", "2"),
         (
@@ -214,12 +229,8 @@ fn one_worker_and_one_search_where_no_more_are_answered(rt: HostRuntime) -> Resu
             "--concurrent-searches",
             "2",
         ),
-    ] {
-        let words = words(rt.alloc(), line)?;
-        let read = settings_of(rt.alloc(), words.as_slice(), false);
-        assert!(rt; is_usage(read, key, value), "{line}");
-    }
-    Ok(())
+    ];
+    expect_usage(&rt, rt.alloc(), false, rows);
 }
 
 #[test]
@@ -253,10 +264,18 @@ fn changed(alloc: Global, line: &str) -> Result<Result<Settings, ChangeFault>, F
     }
 }
 
+/// Asserts that each settings line gives these settings.
+fn expect_changed(rt: &impl Abort, alloc: Global, rows: &[(&str, Settings)]) -> Result<(), Fail> {
+    for &(line, wanted) in rows {
+        assert!(rt; changed(alloc, line)? == Ok(wanted), "{line}");
+    }
+    Ok(())
+}
+
 #[test]
 fn a_settings_line_changes_what_it_names(rt: HostRuntime) -> Result<(), Fail> {
     let limits = IN_FORCE.limits;
-    for (line, wanted) in [
+    let rows = &[
         (r#"{"persistent":{}}"#, IN_FORCE),
         (
             r#"{"persistent":{"indices.breaker.request.limit":"4866b"}}"#,
@@ -305,15 +324,29 @@ fn a_settings_line_changes_what_it_names(rt: HostRuntime) -> Result<(), Fail> {
                 ..IN_FORCE
             },
         ),
-    ] {
-        assert!(rt; changed(rt.alloc(), line)? == Ok(wanted), "{line}");
+    ];
+    expect_changed(&rt, rt.alloc(), rows)
+}
+
+/// Whether a settings line is refused with this name.
+fn is_refused(alloc: Global, line: &str, wanted: &str) -> Result<bool, Fail> {
+    match changed(alloc, line)? {
+        Err(ChangeFault::Refused { key }) => Ok(key.as_str() == wanted),
+        _ => Ok(false),
+    }
+}
+
+/// Asserts that each settings line is refused with its name.
+fn expect_refused(rt: &impl Abort, alloc: Global, rows: &[(&str, &str)]) -> Result<(), Fail> {
+    for &(line, wanted) in rows {
+        assert!(rt; is_refused(alloc, line, wanted)?, "{line}");
     }
     Ok(())
 }
 
 #[test]
 fn a_settings_line_is_refused_with_its_first_bad_name(rt: HostRuntime) -> Result<(), Fail> {
-    for (line, wanted) in [
+    let rows = &[
         (r#"{"persistent":5}"#, "persistent"),
         (r#"{"transient":null}"#, "transient"),
         (r#"{"persistent":{"x":1}}"#, "x"),
@@ -338,14 +371,8 @@ fn a_settings_line_is_refused_with_its_first_bad_name(rt: HostRuntime) -> Result
             r#"{"persistent":{"search.max_buckets":1.5}}"#,
             "search.max_buckets",
         ),
-    ] {
-        let refused = match changed(rt.alloc(), line)? {
-            Err(ChangeFault::Refused { key }) => key.as_str() == wanted,
-            _ => false,
-        };
-        assert!(rt; refused, "{line}");
-    }
-    Ok(())
+    ];
+    expect_refused(&rt, rt.alloc(), rows)
 }
 
 /// Whether a JSON text is a settings line.

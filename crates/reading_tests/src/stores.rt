@@ -1,5 +1,5 @@
 //! The store that bulk actions change, and its cut into shards.
-ghost use Rattle.std.specs.Prelude.{IfOk};
+ghost use Rattle.std.specs.Prelude.{◌≤◌, IfOk};
 ghost use Rattle.agg_model.specs.MappingOrder.{IsOrdered};
 
 use agg_documents::{Store, document_of, shard_of};
@@ -8,6 +8,7 @@ use agg_model::{Action, ActionKind, Applied, Bytes, Document, List, Mapping, Sca
 use agg_reading::IndexLine;
 use document_rows::ItemFault;
 use std::alloc::{AllocError, Global};
+use std::process::Abort;
 use std::test::Fail;
 
 /// What is read of an index line.
@@ -84,6 +85,25 @@ fn does(
     }
 }
 
+/// An action of this kind, with this id and this source, and what it does or the number of its refusal.
+type Step<'a> = (ActionKind, &'a str, &'a str, Result<Applied, u8>);
+
+/// Asserts what one action after another does.
+fn expect_all(
+    rt: &impl Abort,
+    alloc: Global,
+    store: &mut Store,
+    mapping: &Mapping,
+    steps: &[Step<'_>],
+)
+    requires { IsOrdered mapping.now }
+{
+    for &(kind, id, source, wanted) in steps {
+        let is_done = does(alloc, store, mapping, kind, id, source.as_bytes(), wanted);
+        assert!(rt; is_done, "{id} {source}");
+    }
+}
+
 fn is_document(document: Option<&Document>, id: &str, word: &str) -> bool {
     let Some(document) = document else {
         return false;
@@ -114,39 +134,12 @@ fn a_second_create_is_refused_and_a_delete_of_nothing_is_not_found(
     let map = &line.mapping;
     let mut store = Store::new(alloc);
     let create = ActionKind::Create;
-    assert!(rt;
-        does(
-            alloc,
-            &mut store,
-            map,
-            create,
-            "1",
-            b"{\"t\":\"a\"}",
-            Ok(Applied::Created)
-        )
-    );
-    assert!(rt;
-        does(
-            alloc,
-            &mut store,
-            map,
-            create,
-            "1",
-            b"{\"t\":\"b\"}",
-            Err(26)
-        )
-    );
-    assert!(rt;
-        does(
-            alloc,
-            &mut store,
-            map,
-            ActionKind::Delete,
-            "9",
-            b"",
-            Ok(Applied::NotFound)
-        )
-    );
+    let steps = &[
+        (create, "1", "{\"t\":\"a\"}", Ok(Applied::Created)),
+        (create, "1", "{\"t\":\"b\"}", Err(26)),
+        (ActionKind::Delete, "9", "", Ok(Applied::NotFound)),
+    ];
+    expect_all(&rt, alloc, &mut store, map, steps);
     assert!(rt; store.len() == 1 && is_document(store.get(0), "1", "a"));
     Ok(())
 }
@@ -158,63 +151,19 @@ fn a_deleted_id_that_comes_again_takes_its_old_place(rt: HostRuntime) -> Result<
     let map = &line.mapping;
     let mut store = Store::new(alloc);
     let index = ActionKind::Index;
-    assert!(rt;
-        does(
-            alloc,
-            &mut store,
-            map,
-            index,
-            "x",
-            b"{\"t\":\"a\"}",
-            Ok(Applied::Created)
-        )
-    );
-    assert!(rt;
-        does(
-            alloc,
-            &mut store,
-            map,
-            index,
-            "y",
-            b"{\"t\":\"b\"}",
-            Ok(Applied::Created)
-        )
-    );
-    assert!(rt;
-        does(
-            alloc,
-            &mut store,
-            map,
-            ActionKind::Delete,
-            "x",
-            b"",
-            Ok(Applied::Deleted)
-        )
-    );
+    let steps = &[
+        (index, "x", "{\"t\":\"a\"}", Ok(Applied::Created)),
+        (index, "y", "{\"t\":\"b\"}", Ok(Applied::Created)),
+        (ActionKind::Delete, "x", "", Ok(Applied::Deleted)),
+    ];
+    expect_all(&rt, alloc, &mut store, map, steps);
     assert!(rt; store.len() == 1 && is_document(store.get(0), "y", "b"));
-    assert!(rt;
-        does(
-            alloc,
-            &mut store,
-            map,
-            index,
-            "x",
-            b"{\"t\":\"c\"}",
-            Ok(Applied::Created)
-        )
-    );
-    assert!(rt; does(alloc, &mut store, map, index, "y", b"{\"t\":{}}", Err(21)));
-    assert!(rt;
-        does(
-            alloc,
-            &mut store,
-            map,
-            index,
-            "y",
-            b"{\"t\":\"d\"}",
-            Ok(Applied::Updated)
-        )
-    );
+    let steps = &[
+        (index, "x", "{\"t\":\"c\"}", Ok(Applied::Created)),
+        (index, "y", "{\"t\":{}}", Err(21)),
+        (index, "y", "{\"t\":\"d\"}", Ok(Applied::Updated)),
+    ];
+    expect_all(&rt, alloc, &mut store, map, steps);
     assert!(rt; is_document(store.get(0), "x", "c") && is_document(store.get(1), "y", "d"));
     assert!(rt; store.get(2).is_none());
     Ok(())
@@ -227,30 +176,13 @@ fn routings_1_and_0_choose_shards_0_and_1(rt: HostRuntime) -> Result<(), Fail> {
     let map = &line.mapping;
     let mut store = Store::new(alloc);
     let index = ActionKind::Index;
-    assert!(rt;
-        does(
-            alloc,
-            &mut store,
-            map,
-            index,
-            "0",
-            b"{\"t\":\"a\"}",
-            Ok(Applied::Created)
-        )
-    );
-    assert!(rt;
-        does(
-            alloc,
-            &mut store,
-            map,
-            index,
-            "1",
-            b"{\"t\":\"b\"}",
-            Ok(Applied::Created)
-        )
-    );
+    let steps = &[
+        (index, "0", "{\"t\":\"a\"}", Ok(Applied::Created)),
+        (index, "1", "{\"t\":\"b\"}", Ok(Applied::Created)),
+    ];
+    expect_all(&rt, alloc, &mut store, map, steps);
     assert!(rt; shard_of(b"1", 2) == 0 && shard_of(b"0", 2) == 1);
-    let shards = store.into_shards(2)?;
+    let shards = dealt(store, 2)?;
     assert!(rt;
         shards.len() == 2 && has_one(shards.get(0), "1", "b") && has_one(shards.get(1), "0", "a")
     );
@@ -317,6 +249,46 @@ fn is_deleted(
     ))
 }
 
+/// Asserts that 100,000 documents are created.
+fn expect_created(
+    rt: &impl Abort,
+    alloc: Global,
+    store: &mut Store,
+    mapping: &Mapping,
+) -> Result<(), Fail>
+    requires { IsOrdered mapping.now }
+{
+    for number in 0..100_000u32 {
+        assert!(rt; is_created(alloc, store, mapping, number)?, "at {number}");
+    }
+    Ok(())
+}
+
+/// Asserts that every tenth of them is deleted.
+fn expect_deleted(
+    rt: &impl Abort,
+    alloc: Global,
+    store: &mut Store,
+    mapping: &Mapping,
+) -> Result<(), Fail>
+    requires { IsOrdered mapping.now }
+{
+    for tenth in 0..10_000u32 {
+        assert!(rt;
+            is_deleted(alloc, store, mapping, tenth * 10)?,
+            "at {tenth}"
+        );
+    }
+    Ok(())
+}
+
+/// The documents, dealt to so many shards.
+fn dealt(store: Store, shards: u32) -> Result<List<List<Document>>, AllocError>
+    requires { 1 ≤ shards }
+{
+    store.into_shards(shards)
+}
+
 /// The number of documents of each shard.
 fn sizes_of(alloc: Global, shards: &List<List<Document>>) -> Result<Vec<usize>, AllocError> {
     let mut sizes = Vec::new(alloc);
@@ -333,20 +305,10 @@ fn every_tenth_of_100_000_documents_with_1_000_fields_is_deleted_and_the_others_
     let alloc = rt.alloc();
     let line = wide_line(alloc)?;
     let mut store = Store::new(alloc);
-    for number in 0..100_000u32 {
-        assert!(rt;
-            is_created(alloc, &mut store, &line.mapping, number)?,
-            "at {number}"
-        );
-    }
-    for tenth in 0..10_000u32 {
-        assert!(rt;
-            is_deleted(alloc, &mut store, &line.mapping, tenth * 10)?,
-            "at {tenth}"
-        );
-    }
+    expect_created(&rt, alloc, &mut store, &line.mapping)?;
+    expect_deleted(&rt, alloc, &mut store, &line.mapping)?;
     assert!(rt; store.len() == 90_000);
-    let sizes = sizes_of(alloc, &store.into_shards(4)?)?;
+    let sizes = sizes_of(alloc, &dealt(store, 4)?)?;
     assert!(rt; sizes.as_slice() == [22_500, 22_499, 22_500, 22_501].as_slice());
     Ok(())
 }
