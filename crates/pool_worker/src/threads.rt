@@ -8,7 +8,6 @@ ghost use Rattle.pool_results.specs.Pooled.{IsPoolOf};
 ghost use Rattle.pool_worker.specs.Workers.{HasWorked, IsReady};
 ghost use Rattle.pool_worker.specs.Plans.{plan_of};
 
-use crate::worker_gate::Gate;
 use crate::working::work;
 use agg_model::{List, Search};
 use arrival_table::{Arrivals, Desk};
@@ -17,6 +16,7 @@ use pool_results::{Load, Outcome, PoolCall};
 use shard_columns::Index;
 use std::alloc::Global;
 use std::thread::{Threads, for_each_mut};
+use worker_gate::Gate;
 
 /// Lets each desk work until there is no task more, in a thread of its own where one can be made. All have ended when it
 /// returns, whatever became of a task.

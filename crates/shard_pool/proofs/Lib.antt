@@ -7,7 +7,7 @@ pub mod Taking
 pub mod Ending
 pub mod Searches
 pub mod Known
-pub mod Closing
+pub mod ClosingRun
 pub mod Whole
 pub mod Returns
 pub mod Ended

@@ -3,7 +3,7 @@ use Rattle.breaker_words.specs.Passes.{PassModel}
 use Rattle.shard_pool.specs.Ends.{HasRun, MayEnd}
 use Rattle.shard_pool.specs.Results.{results_of}
 use Rattle.shard_pool.proofs.Known.{search-ends}
-use Rattle.shard_pool.proofs.Closing.{has-run}
+use Rattle.shard_pool.proofs.ClosingRun.{has-run}
 use Rattle.shard_pool.proofs.Searches.{ends-length}
 use Rattle.shard_pool.proofs.Whole.{carried-runs, closed-tasks, is-closed, lost-held}
 use Rattle.shard_pool.proofs.closing.close_pool.Goals as goal
