@@ -1,5 +1,5 @@
 //! The top call.
-ghost use Rattle.std.specs.Prelude.{◌≡◌, ℕ, List as Items, Some, None, IfOk, IfSome, IfNone, IsNone, IsErr, Ok, true};
+ghost use Rattle.std.specs.Prelude.{◌≡◌, ◌≢◌, ℕ, List as Items, Some, None, IfOk, IfSome, IfNone, IsNone, IsErr, Ok, true};
 ghost use Rattle.std.specs.Io.KnownBytes.{IsAtEnd};
 ghost use Rattle.agg_base.specs.Outside.{Rose};
 ghost use Rattle.agg_model.specs.declared.settings.Settings.{Settings};
@@ -7,8 +7,9 @@ ghost use Rattle.agg_program.specs.Arguments.{words_given};
 ghost use Rattle.agg_program.specs.Listening.{alone};
 ghost use Rattle.agg_settings.specs.Settings.{settings_of};
 ghost use Rattle.script_answers.specs.Outputs.{so_far};
+ghost use Rattle.script_run.specs.Inputs.{AskForNoInput};
 ghost use Rattle.script_run.specs.Runs.{Runs};
-ghost use Rattle.script_run.specs.Statuses.{IsOfRefusedWords};
+ghost use Rattle.script_run.specs.Statuses.{IsExitStatus, IsOfRefusedWords};
 
 use crate::arguments::words_of;
 use agg_base::{Sink, Source};
@@ -27,11 +28,13 @@ use worker_gate::Gate;
 ///
 /// - 0: the input was read to its end, and all lines were written.
 /// - 2: the words are not in the grammar; nothing is read.
-/// - 3: the source failed; whole lines of the output were written.
+/// - 3: the source failed; whole lines of the output were written. Not with a generated script.
 /// - 4: the sink failed; a front of the output was written, and not all.
 /// - 5: the script was refused; its error line is the last that was written.
 /// - 6: the columns are beyond a limit; that is the one line.
 /// - 7: memory ran out; whole lines of the output were written.
+///
+/// A generated script stands in the place of the input, which is not read.
 ///
 /// Each listener of the audience is told of each answer to a search once its line was written whole. Workers that share the tasks of
 /// searches pass the gate; nothing that is promised depends on it.
@@ -49,6 +52,12 @@ pub fn run<R: Threads + Sync, S: Source, K: Sink, L: Listener>(
     // whole reduction of the shards that did not fail, or by a refusal of a breaker that saw a total above its limit.
     ensures output { (input before : Items ℕ) → S.left source.old ≡ Some input → K.written sink.old ≡ Some before →
         Runs true words.now input (S.left source.new) result (so_far (Some before) audience.old) (so_far (K.written sink.new) audience.new) }
+
+    // What is so whatever the source and the sink tell: where the words ask for no input the source is as it was, with its count of
+    // faults; and which statuses there are.
+    ensures unread { AskForNoInput (settings_of true words.now) → source.new ≡ source.old }
+    ensures statuses { IsExitStatus result }
+    ensures no_read_fault { AskForNoInput (settings_of true words.now) → result ≢ 3 }
 
     // Why each status comes.
     ensures finished { result ≡ 0 → (settings : Settings) → settings_of true words.now ≡ Ok settings →
@@ -109,8 +118,16 @@ pub fn run_arguments<R: Threads + Sync, S: Source, K: Sink, L: Listener>(
     // Where there was no memory for the words.
     ensures no_words { words_given arguments ≡ None → IsNone result.audience }
     ensures memory { IfNone result.audience (result.status ≡ 7) }
-    ensures unread { IfNone result.audience (S.left source.new ≡ S.left source.old) }
-    ensures unwritten { IfNone result.audience (K.written sink.new ≡ K.written sink.old) }
+    ensures untouched { IfNone result.audience (source.new ≡ source.old) }
+    ensures unwritten { IfNone result.audience (sink.new ≡ sink.old) }
+
+    // What is so whatever the source and the sink tell: where the words ask for no input the source is as it was, with its count of
+    // faults; and which statuses there are.
+    ensures unread { (words : Items (Items ℕ)) → words_given arguments ≡ Some words → AskForNoInput (settings_of true words) →
+        source.new ≡ source.old }
+    ensures statuses { IsExitStatus result.status }
+    ensures no_read_fault { (words : Items (Items ℕ)) → words_given arguments ≡ Some words → AskForNoInput (settings_of true words) →
+        result.status ≢ 3 }
 
     // Why each status comes.
     ensures finished { result.status ≡ 0 → (words : Items (Items ℕ)) → words_given arguments ≡ Some words → (settings : Settings) →

@@ -1,5 +1,6 @@
 -- What a run writes.
 pub mod Charged
 pub mod Ends
+pub mod Inputs
 pub mod Runs
 pub mod Statuses

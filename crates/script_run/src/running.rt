@@ -1,5 +1,5 @@
 //! The run of a script over a source and a sink.
-ghost use Rattle.std.specs.Prelude.{◌≡◌, ◌≤◌, ◌≢◌, ℕ, Bool, List as Items, Some, None, IsErr, Ok, drop};
+ghost use Rattle.std.specs.Prelude.{◌≡◌, ◌≤◌, ◌≢◌, ℕ, Bool, List as Items, Some, None, IsErr, IsSome, Ok, drop};
 ghost use Rattle.std.specs.Io.KnownBytes.{IsAtEnd};
 ghost use Rattle.agg_base.specs.Outside.{Rose};
 ghost use Rattle.agg_model.specs.declared.settings.Settings.{Settings as AnySettings};
@@ -7,8 +7,9 @@ ghost use Rattle.agg_settings.specs.Ranges.{AreInRange};
 ghost use Rattle.agg_settings.specs.Settings.{settings_of as settings_given};
 ghost use Rattle.agg_spec.specs.Generator.{generated};
 ghost use Rattle.script_answers.specs.Outputs.{so_far};
+ghost use Rattle.script_run.specs.Inputs.{AskForNoInput};
 ghost use Rattle.script_run.specs.Runs.{Runs, WroteOf};
-ghost use Rattle.script_run.specs.Statuses.{code_of, IsOfRefusedWords};
+ghost use Rattle.script_run.specs.Statuses.{code_of, IsExitStatus, IsOfRefusedWords};
 ghost use Rattle.script_run.specs.declared.status.Status.TheVariants as status;
 
 use crate::answering::answer_lines;
@@ -99,6 +100,8 @@ fn answer_settings<R: Threads + Sync, S: Source, K: Sink, L: Listener, A: Opens>
         S.left source.old ≡ Some input → K.written sink.old ≡ Some before →
         Runs several words input (S.left source.new) (code_of result) (so_far (Some before) audience.old) (so_far (K.written sink.new) audience.new) }
     ensures finished { result ≡ status.Finished → settings.generate ≡ None → IsAtEnd (S.left source.new) }
+    ensures unread { IsSome settings.generate → source.new ≡ source.old }
+    ensures no_read_fault { IsSome settings.generate → result ≢ status.ReadFault }
     ensures read_fault { result ≡ status.ReadFault → Rose (S.faults source.old) (S.faults source.new) }
     ensures write_fault { result ≡ status.WriteFault → Rose (K.faults sink.old) (K.faults sink.new) }
     ensures no_usage { result ≢ status.Usage }
@@ -129,6 +132,8 @@ fn status_of<R: Threads + Sync, S: Source, K: Sink, L: Listener, A: Opens>(
         (so_far (K.written sink.new) audience.new) }
     ensures finished { result ≡ status.Finished → (settings : AnySettings) → settings_given several words.now ≡ Ok settings →
         settings.generate ≡ None → IsAtEnd (S.left source.new) }
+    ensures unread { AskForNoInput (settings_given several words.now) → source.new ≡ source.old }
+    ensures no_read_fault { AskForNoInput (settings_given several words.now) → result ≢ status.ReadFault }
     ensures usage { result ≡ status.Usage → IsErr (settings_given several words.now) }
     ensures refused { IsErr (settings_given several words.now) → IsOfRefusedWords (code_of result) }
     ensures read_fault { result ≡ status.ReadFault → Rose (S.faults source.old) (S.faults source.new) }
@@ -150,11 +155,13 @@ fn status_of<R: Threads + Sync, S: Source, K: Sink, L: Listener, A: Opens>(
 ///
 /// - 0: the input was read to its end, and all lines were written.
 /// - 2: the words are not in the grammar; nothing is read.
-/// - 3: the source failed; whole lines of the output were written.
+/// - 3: the source failed; whole lines of the output were written. Not with a generated script.
 /// - 4: the sink failed; a front of the output was written, and not all.
 /// - 5: the script was refused; its error line is the last that was written.
 /// - 6: the columns are beyond a limit; that is the one line.
 /// - 7: memory ran out; whole lines of the output were written.
+///
+/// A generated script stands in the place of the input, which is not read.
 ///
 /// Each listener of the audience is told of each answer to a search once its line was written whole. Whoever answers may start
 /// threads, which have ended when it returns; workers that share tasks pass the gate.
@@ -172,6 +179,12 @@ pub fn run<R: Threads + Sync, S: Source, K: Sink, L: Listener, A: Opens>(
     // What was written and read, where the source and the sink tell their bytes.
     ensures output { (input before : Items ℕ) → S.left source.old ≡ Some input → K.written sink.old ≡ Some before →
         Runs several words.now input (S.left source.new) result (so_far (Some before) audience.old) (so_far (K.written sink.new) audience.new) }
+
+    // What is so whatever the source and the sink tell: where the words ask for no input the source is as it was, with its count of
+    // faults; and which statuses there are.
+    ensures unread { AskForNoInput (settings_given several words.now) → source.new ≡ source.old }
+    ensures statuses { IsExitStatus result }
+    ensures no_read_fault { AskForNoInput (settings_given several words.now) → result ≢ 3 }
 
     // Why each status comes.
     ensures finished { result ≡ 0 → (settings : AnySettings) → settings_given several words.now ≡ Ok settings →
