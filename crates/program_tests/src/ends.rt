@@ -1,5 +1,5 @@
 //! How a search of a pool is to end.
-use crate::parts::{Counts, counts_of, merged};
+use crate::parts::{Counts, counts_of_all};
 use agg_model::{Failure, Tripped, Which};
 use shard_pool::SearchEnd;
 use std::alloc::{AllocError, Global};
@@ -22,6 +22,35 @@ fn are_left_out(failures: &[Failure], shards: &[u32], tripped: Tripped) -> bool 
             && failure.tripped == tripped)
 }
 
+fn refusal_at(total: u64, limit: u64) -> Tripped {
+    Tripped {
+        which: Which::Request,
+        wanted: total,
+        limit,
+    }
+}
+
+/// Whether a search that tells these counts, and what was refused, ended as wanted.
+fn is_wanted(
+    counts: Option<Counts>,
+    refused: Option<Tripped>,
+    failures: &[Failure],
+    limit: u64,
+    wanted: Wanted,
+) -> bool {
+    match wanted {
+        Wanted::Whole(all) => counts == Some(all) && refused.is_none() && failures.is_empty(),
+        Wanted::Stopped(total) => {
+            counts.is_none() && refused == Some(refusal_at(total, limit)) && failures.is_empty()
+        }
+        Wanted::Without(shards, total, others) => {
+            counts == Some(others)
+                && refused.is_none()
+                && are_left_out(failures, shards, refusal_at(total, limit))
+        }
+    }
+}
+
 /// Whether a search ended so, where the request breaker has this limit. Its parts are merged to one.
 pub(crate) fn has_ended(
     alloc: Global,
@@ -35,27 +64,6 @@ pub(crate) fn has_ended(
         memory,
         failures,
     } = end;
-    let refusal_at = |total| Tripped {
-        which: Which::Request,
-        wanted: total,
-        limit,
-    };
-    let counts = merged(alloc, parts)?.map(|whole| counts_of(&whole));
-    let failures = failures.as_slice();
-    Ok(
-        !memory
-            && match wanted {
-                Wanted::Whole(all) => {
-                    counts == Some(all) && refused.is_none() && failures.is_empty()
-                }
-                Wanted::Stopped(total) => {
-                    counts.is_none() && refused == Some(refusal_at(total)) && failures.is_empty()
-                }
-                Wanted::Without(shards, total, others) => {
-                    counts == Some(others)
-                        && refused.is_none()
-                        && are_left_out(failures, shards, refusal_at(total))
-                }
-            },
-    )
+    let counts = counts_of_all(alloc, parts)?;
+    Ok(!memory && is_wanted(counts, refused, failures.as_slice(), limit, wanted))
 }

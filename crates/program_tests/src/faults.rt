@@ -1,19 +1,19 @@
 //! Each read and each write of a run fails, one after another.
 
 use crate::runs::{
-    FailedCalls, INDEX, ONE_ANSWER, ONE_BODY, answered, are_first_lines, is_front, joined,
-    line_count,
+    Ended, FailedCalls, INDEX, ONE_ANSWER, ONE_BODY, Setup, are_first_lines, expect_end, is_front,
+    joined, line_count, run_in_memory,
 };
-use std::alloc::Global;
+use std::alloc::{AllocError, Global};
 use std::process::Abort;
 use std::test::Fail;
 use std::thread::Threads;
+use worker_gate::OpenGate;
 
 /// More calls than any of the runs below has.
 const MANY: u64 = 10_000;
 
 /// What a script is answered where nothing fails.
-#[derive(Clone, Copy)]
 struct Case {
     rest: &'static str,
     output: &'static str,
@@ -43,81 +43,144 @@ const CASES: [Case; 2] = [
     },
 ];
 
-/// Lets one read after another fail, and answers how many could. What was read is answered: the later the read that fails, the
-/// more lines there are, and at the end all but the last one.
+/// Runs a case in which these calls fail.
+fn run_case<R: Threads + Sync>(
+    rt: &R,
+    alloc: Global,
+    case: &Case,
+    piece: usize,
+    faults: FailedCalls,
+) -> Result<Ended, AllocError> {
+    let setup = Setup {
+        words: &[],
+        piece,
+        faults,
+        rooms: &[],
+    };
+    run_in_memory(
+        rt,
+        alloc,
+        joined(alloc, INDEX, case.rest)?,
+        setup,
+        &OpenGate,
+    )
+}
+
+// Lets a read fail, where the run before it wrote so many lines, and gives how many are written now: the later the read that fails,
+// the more. None where no read failed: then all is written, one line more than before.
+fn expect_front<R: Abort + Threads + Sync>(
+    rt: &R,
+    alloc: Global,
+    case: &Case,
+    piece: usize,
+    call: u64,
+    before: usize,
+) -> Result<Option<usize>, Fail> {
+    let faults = FailedCalls {
+        read: Some(call),
+        write: None,
+    };
+    let ended = run_case(rt, alloc, case, piece, faults)?;
+    let written = ended.sink.written();
+    let lines = line_count(written);
+    if ended.status != 3 {
+        expect_end(rt, &ended, case.status, case.output);
+        assert!(rt; before.checked_add(1) == Some(lines));
+        return Ok(None);
+    }
+    assert!(rt; are_first_lines(written, case.output.as_bytes()), "{call}");
+    assert!(rt; before <= lines, "{call}");
+    Ok(Some(lines))
+}
+
+/// Lets one read after another fail, and answers how many could.
 fn failed_reads<R: Abort + Threads + Sync>(
     rt: &R,
     alloc: Global,
-    case: Case,
+    case: &Case,
     piece: usize,
 ) -> Result<u64, Fail> {
-    let all = case.output.as_bytes();
     let mut lines = 0usize;
     for call in 0..MANY {
-        let faults = FailedCalls {
-            read: Some(call),
-            write: None,
-        };
-        let input = joined(alloc, INDEX, case.rest)?;
-        let (status, written) = answered(rt, alloc, input, piece.max(1), faults)?;
-        if status != 3 {
-            assert_eq!(rt; status, case.status);
-            assert!(rt; written.as_slice() == all);
-            assert!(rt; lines.checked_add(1) == Some(line_count(all)));
-            return Ok(call);
+        match expect_front(rt, alloc, case, piece, call, lines)? {
+            Some(more) => lines = more,
+            None => return Ok(call),
         }
-        assert!(rt; are_first_lines(written.as_slice(), all), "{call}");
-        assert!(rt; lines <= line_count(written.as_slice()), "{call}");
-        lines = line_count(written.as_slice());
     }
     Ok(MANY)
+}
+
+// Lets a write fail, and tells whether there was one; all is written where there was none.
+fn expect_cut<R: Abort + Threads + Sync>(
+    rt: &R,
+    alloc: Global,
+    case: &Case,
+    piece: usize,
+    call: u64,
+) -> Result<bool, Fail> {
+    let faults = FailedCalls {
+        read: None,
+        write: Some(call),
+    };
+    let ended = run_case(rt, alloc, case, piece, faults)?;
+    if ended.status != 4 {
+        expect_end(rt, &ended, case.status, case.output);
+        return Ok(false);
+    }
+    let written = ended.sink.written();
+    assert!(rt; is_front(written, case.output.as_bytes()), "{call}");
+    assert!(rt; written.len() < case.output.len(), "{call}");
+    Ok(true)
 }
 
 /// Lets one write after another fail, and answers how many could.
 fn failed_writes<R: Abort + Threads + Sync>(
     rt: &R,
     alloc: Global,
-    case: Case,
+    case: &Case,
     piece: usize,
 ) -> Result<u64, Fail> {
-    let all = case.output.as_bytes();
     for call in 0..MANY {
-        let faults = FailedCalls {
-            read: None,
-            write: Some(call),
-        };
-        let input = joined(alloc, INDEX, case.rest)?;
-        let (status, written) = answered(rt, alloc, input, piece.max(1), faults)?;
-        if status != 4 {
-            assert_eq!(rt; status, case.status);
-            assert!(rt; written.as_slice() == all);
+        if !expect_cut(rt, alloc, case, piece, call)? {
             return Ok(call);
         }
-        assert!(rt; is_front(written.as_slice(), all), "{call}");
-        assert!(rt; written.len() < all.len(), "{call}");
     }
     Ok(MANY)
 }
 
+/// How many calls it takes at least to move so many bytes.
+fn calls_of(bytes: usize, piece: usize) -> u64 {
+    bytes.div_ceil(piece.max(1)) as u64
+}
+
+// Asserts that at least as many reads fail as it takes to see all bytes and then the end, and as many writes as all lines take.
+fn expect_faults<R: Abort + Threads + Sync>(
+    rt: &R,
+    alloc: Global,
+    case: &Case,
+    piece: usize,
+) -> Result<(), Fail> {
+    let input = joined(alloc, INDEX, case.rest)?;
+    let reads = calls_of(input.len(), piece);
+    let failed = failed_reads(rt, alloc, case, piece)?;
+    assert!(rt;
+        reads < failed && failed < MANY,
+        "{failed} of reads of {piece}"
+    );
+    let writes = calls_of(case.output.len(), piece);
+    let failed = failed_writes(rt, alloc, case, piece)?;
+    assert!(rt;
+        writes <= failed && failed < MANY,
+        "{failed} of writes of {piece}"
+    );
+    Ok(())
+}
+
 #[test]
 fn no_fault_is_swallowed(rt: HostRuntime) -> Result<(), Fail> {
-    for case in CASES {
+    for case in &CASES {
         for piece in [1usize, 7, 65_536] {
-            let piece = piece.max(1);
-            let input = joined(rt.alloc(), INDEX, case.rest)?;
-            // At least as many reads as it takes to see all bytes and then the end, and as many writes as all lines take.
-            let reads = input.len().div_ceil(piece) as u64;
-            let writes = case.output.len().div_ceil(piece) as u64;
-            let failed = failed_reads(&rt, rt.alloc(), case, piece)?;
-            assert!(rt;
-                reads < failed && failed < MANY,
-                "{failed} of reads of {piece}"
-            );
-            let failed = failed_writes(&rt, rt.alloc(), case, piece)?;
-            assert!(rt;
-                writes <= failed && failed < MANY,
-                "{failed} of writes of {piece}"
-            );
+            expect_faults(&rt, rt.alloc(), case, piece)?;
         }
     }
     Ok(())

@@ -9,9 +9,10 @@ ghost use Rattle.program_tests.specs.SampleMapping.{sample_mapping};
 ghost use Rattle.program_tests.specs.SampleTerms.{IsFirstByCount, returned_bucket};
 
 use agg_model::{
-    Agg, Bucket, Key, Kind, List, Node, NodeAnswer, Order, OrderBy, Partial, Query, Search, Text,
+    Agg, Answer, Bucket, BucketAnswer, Key, Kind, List, Node, Order, OrderBy, Partial, Query,
+    Search, Text,
 };
-use final_reduce::finish;
+use final_reduce::{FinalFault, finish};
 use std::alloc::{AllocError, Global};
 use std::test::Fail;
 
@@ -125,16 +126,42 @@ fn sample_of(
     of_one(alloc, agg, node)
 }
 
-/// Whether the answer has this one term, with these errors and this number of other documents.
-fn has_one(node: &NodeAnswer, word: &str, count: u64, errors: (i64, i64), other: u64) -> bool {
+/// The final answer, of which it promises nothing, since a test only looks at it.
+pub(crate) fn finished(
+    alloc: Global,
+    sample: Sample,
+    max_buckets: u64,
+) -> Result<Answer, FinalFault>
+    requires made { IsMade sample.search }
+    requires whole { IsTrue (can_finish sample.search sample.whole) }
+{
+    let Sample { search, whole } = sample;
+    finish(alloc, &search, max_buckets, whole)
+}
+
+fn is_bucket(bucket: &BucketAnswer, word: &str, count: u64, error: i64) -> bool {
+    let is_key = match &bucket.key {
+        Key::Word(text) => text.as_str() == word,
+        _ => false,
+    };
+    is_key && bucket.count == count && bucket.error == Some(error)
+}
+
+/// Whether the answer has the one term `a` with this count, these errors, and this number of other documents.
+fn has_a_alone(
+    end: &Result<Answer, FinalFault>,
+    count: u64,
+    errors: (i64, i64),
+    other: u64,
+) -> bool {
+    let Ok(answer) = end else {
+        return false;
+    };
+    let [node] = answer.nodes.as_slice() else {
+        return false;
+    };
     let is_only = match node.buckets.as_slice() {
-        [bucket] => {
-            let is_key = match &bucket.key {
-                Key::Word(text) => text.as_str() == word,
-                _ => false,
-            };
-            is_key && bucket.count == count && bucket.error == Some(errors.0)
-        }
+        [bucket] => is_bucket(bucket, "a", count, errors.0),
         _ => false,
     };
     is_only && node.error == errors.1 && node.other == other
@@ -142,26 +169,14 @@ fn has_one(node: &NodeAnswer, word: &str, count: u64, errors: (i64, i64), other:
 
 #[test]
 fn two_shards_cut_to_one_term_leave_an_error(rt: HostRuntime) -> Result<(), Fail> {
-    let Sample { search, whole } = sample_of(rt.alloc(), true, 3, 3, 3, 3, 3)?;
-    match finish(rt.alloc(), &search, 1, whole) {
-        Ok(answer) => match answer.nodes.as_slice() {
-            [node] => assert!(rt; has_one(node, "a", 3, (3, 6), 6)),
-            _ => assert!(rt; false),
-        },
-        Err(_) => assert!(rt; false),
-    }
+    let sample = sample_of(rt.alloc(), true, 3, 3, 3, 3, 3)?;
+    assert!(rt; has_a_alone(&finished(rt.alloc(), sample, 1), 3, (3, 6), 6));
     Ok(())
 }
 
 #[test]
 fn by_rising_count_the_error_is_unknown(rt: HostRuntime) -> Result<(), Fail> {
-    let Sample { search, whole } = sample_of(rt.alloc(), false, 1, 1, 2, 2, 6)?;
-    match finish(rt.alloc(), &search, 1, whole) {
-        Ok(answer) => match answer.nodes.as_slice() {
-            [node] => assert!(rt; has_one(node, "a", 1, (-1, -1), 8)),
-            _ => assert!(rt; false),
-        },
-        Err(_) => assert!(rt; false),
-    }
+    let sample = sample_of(rt.alloc(), false, 1, 1, 2, 2, 6)?;
+    assert!(rt; has_a_alone(&finished(rt.alloc(), sample, 1), 1, (-1, -1), 8));
     Ok(())
 }

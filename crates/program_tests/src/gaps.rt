@@ -9,11 +9,11 @@ ghost use Rattle.agg_evaluation.specs.Finishable.{can_finish, is_histogram_key};
 ghost use Rattle.agg_evaluation.specs.SearchFits.{IsMade};
 ghost use Rattle.program_tests.specs.SampleGaps.{IsHistogram, counted_bucket, no_bounds, rises};
 
-use crate::finals::{Sample, of_one, one};
+use crate::finals::{Sample, finished, of_one, one};
 use agg_model::{
     Agg, Answer, Bounds, Bucket, BucketAnswer, Key, Kind, List, Node, Order, OrderBy, Text,
 };
-use final_reduce::{FinalFault, finish};
+use final_reduce::FinalFault;
 use std::alloc::{AllocError, Global};
 use std::test::Fail;
 
@@ -138,7 +138,10 @@ fn is_bucket(bucket: &BucketAnswer, key: i128, count: u64) -> bool {
 }
 
 /// Whether the answer has exactly these keys with these counts.
-fn has_buckets(answer: &Answer, keys: &[(i128, u64)]) -> bool {
+fn has_buckets(end: &Result<Answer, FinalFault>, keys: &[(i128, u64)]) -> bool {
+    let Ok(answer) = end else {
+        return false;
+    };
     let [node] = answer.nodes.as_slice() else {
         return false;
     };
@@ -153,6 +156,14 @@ fn has_buckets(answer: &Answer, keys: &[(i128, u64)]) -> bool {
     true
 }
 
+/// Whether there would be so many buckets, above the most that may be.
+fn is_refused(end: &Result<Answer, FinalFault>, buckets: u64, most: u64) -> bool {
+    match end {
+        Err(FinalFault::TooManyBuckets { count, max }) => *count == buckets && *max == most,
+        _ => false,
+    }
+}
+
 /// Whether below the bucket stands a sum of 0 alone.
 fn has_no_sum(bucket: &BucketAnswer) -> bool {
     match bucket.children.as_slice() {
@@ -161,50 +172,47 @@ fn has_no_sum(bucket: &BucketAnswer) -> bool {
     }
 }
 
+/// Whether the answer has two buckets, with a sum of 0 below each.
+fn has_two_without_sums(end: &Result<Answer, FinalFault>) -> bool {
+    let Ok(answer) = end else {
+        return false;
+    };
+    let [node] = answer.nodes.as_slice() else {
+        return false;
+    };
+    match node.buckets.as_slice() {
+        [first, second] => has_no_sum(first) && has_no_sum(second),
+        _ => false,
+    }
+}
+
 #[test]
 fn gaps_are_filled_below_0_too(rt: HostRuntime) -> Result<(), Fail> {
-    let Sample { search, whole } = of_keys(rt.alloc(), 10, 0, &[(-10, 1), (0, 1), (20, 1)])?;
-    match finish(rt.alloc(), &search, 4, whole) {
-        Ok(answer) => assert!(rt; has_buckets(&answer, &[(-10, 1), (0, 1), (10, 0), (20, 1)])),
-        Err(_) => assert!(rt; false),
-    }
+    let sample = of_keys(rt.alloc(), 10, 0, &[(-10, 1), (0, 1), (20, 1)])?;
+    let end = finished(rt.alloc(), sample, 4);
+    assert!(rt; has_buckets(&end, &[(-10, 1), (0, 1), (10, 0), (20, 1)]));
     Ok(())
 }
 
 #[test]
 fn an_offset_moves_the_keys(rt: HostRuntime) -> Result<(), Fail> {
-    let Sample { search, whole } = of_keys(rt.alloc(), 10, 3, &[(-7, 2), (23, 1)])?;
-    match finish(rt.alloc(), &search, 4, whole) {
-        Ok(answer) => assert!(rt; has_buckets(&answer, &[(-7, 2), (3, 0), (13, 0), (23, 1)])),
-        Err(_) => assert!(rt; false),
-    }
+    let sample = of_keys(rt.alloc(), 10, 3, &[(-7, 2), (23, 1)])?;
+    let end = finished(rt.alloc(), sample, 4);
+    assert!(rt; has_buckets(&end, &[(-7, 2), (3, 0), (13, 0), (23, 1)]));
     Ok(())
 }
 
 #[test]
 fn ten_thousand_million_gaps_are_refused_at_once(rt: HostRuntime) -> Result<(), Fail> {
-    let Sample { search, whole } = of_keys(rt.alloc(), 1, 0, &[(0, 1), (10_000_000_000, 1)])?;
-    match finish(rt.alloc(), &search, 100, whole) {
-        Err(FinalFault::TooManyBuckets { count, max }) => assert!(rt;
-            count == 10_000_000_001 && max == 100
-        ),
-        _ => assert!(rt; false),
-    }
+    let sample = of_keys(rt.alloc(), 1, 0, &[(0, 1), (10_000_000_000, 1)])?;
+    let end = finished(rt.alloc(), sample, 100);
+    assert!(rt; is_refused(&end, 10_000_000_001, 100));
     Ok(())
 }
 
 #[test]
 fn below_a_filled_bucket_stand_the_answers_over_no_rows(rt: HostRuntime) -> Result<(), Fail> {
-    let Sample { search, whole } = of_nothing(rt.alloc())?;
-    match finish(rt.alloc(), &search, 2, whole) {
-        Ok(answer) => match answer.nodes.as_slice() {
-            [node] => match node.buckets.as_slice() {
-                [first, second] => assert!(rt; has_no_sum(first) && has_no_sum(second)),
-                _ => assert!(rt; false),
-            },
-            _ => assert!(rt; false),
-        },
-        Err(_) => assert!(rt; false),
-    }
+    let end = finished(rt.alloc(), of_nothing(rt.alloc())?, 2);
+    assert!(rt; has_two_without_sums(&end));
     Ok(())
 }

@@ -1,9 +1,8 @@
 //! Whole runs of many workers, behind gates that hold them up and without. What is wanted of one worker was computed by another
 //! program; what meets by the cost model.
-use crate::runs::audience_with_room;
-use agg_base::{MemorySink, MemorySource};
-use agg_model::{Bytes, List, Text};
-use agg_program::run;
+use crate::runs::{NO_FAULT, Setup, run_in_memory};
+use crate::scripts::{seven_shards, two_shards};
+use agg_model::{Bytes, Text};
 use serde_json::Value;
 use std::alloc::{AllocError, Global};
 use std::process::Abort;
@@ -13,58 +12,27 @@ use std::thread::Threads;
 use test_gates::{HeldBack, Meeting};
 use worker_gate::{Gate, OpenGate, Point};
 
-/// A header and a search by the words of `t`, and its answer over the documents of `seven_shards`.
-const SEARCH: &str = r#"{}
-{"aggs":{"t":{"terms":{"field":"t"}}}}
-"#;
-
+/// The answer to a search by the words of `t`, over seven shards.
 const ANSWER: &str =
     r#"{"_shards":{"failed":0,"skipped":0,"successful":7,"total":7},"aggregations":{"t":{"buckets":[{"doc_count":12,"key":"a"},{"doc_count":8,"key":"b"}],"doc_count_error_upper_bound":0,"sum_other_doc_count":0}},"hits":{"hits":[],"max_score":null,"total":{"relation":"eq","value":20}},"status":200,"timed_out":false,"took":0}"#;
 
-/// One document with `a` on shard 0, one with `b` and one with `c` on shard 1, and a search.
-const TWO_SHARDS: &str =
-    r#"{"index":"i","mappings":{"properties":{"t":{"type":"keyword"}}},"settings":{"number_of_shards":2}}
-
-{"index":{"routing":"1"}}
-{"t":"a"}
-{"index":{"routing":"0"}}
-{"t":"b"}
-{"index":{"routing":"0"}}
-{"t":"c"}
-
-{}
-{"aggs":{"t":{"terms":{"field":"t"}}}}
-"#;
-
-/// What it prints where shard 1 was collected before shard 0 began, and the limit of requests is 5,200 bytes.
+/// What the script of two shards prints where shard 1 was collected before shard 0 began, and the limit of requests is 5,200 bytes.
 const TWO_MET: &str =
     r#"{"errors":false,"items":[{"index":{"_id":"_auto_0","_index":"i","result":"created","status":201}},{"index":{"_id":"_auto_1","_index":"i","result":"created","status":201}},{"index":{"_id":"_auto_2","_index":"i","result":"created","status":201}}],"took":0}
 {"error":{"bytes_limit":5200,"bytes_wanted":5378,"durability":"TRANSIENT","reason":"[request] Data too large, data for [search] would be [5378b], which is larger than the limit of [5200b]","type":"circuit_breaking_exception"},"status":429}
 {"breakers":{"fielddata":{"estimated_size_in_bytes":28,"granted_size_in_bytes":28,"limit_size_in_bytes":429496729,"overhead_percent":103,"tripped":0},"inflight_requests":{"estimated_size_in_bytes":0,"granted_size_in_bytes":76,"limit_size_in_bytes":1073741824,"overhead_percent":200,"tripped":0},"parent":{"estimated_size_in_bytes":28,"granted_size_in_bytes":4970,"limit_size_in_bytes":751619276,"overhead_percent":100,"tripped":0},"request":{"estimated_size_in_bytes":0,"granted_size_in_bytes":4866,"limit_size_in_bytes":5200,"overhead_percent":100,"tripped":1}}}
 "#;
 
-/// The documents 1 to 20 on seven shards, of which the first twelve have the word `a` and the others `b`, and so many searches.
-fn seven_shards(alloc: Global, searches: usize) -> Result<Bytes, AllocError> {
-    let mut lines = String::new(alloc);
-    lines.push_str(
-        r#"{"index":"i","mappings":{"properties":{"t":{"type":"keyword"}}},"settings":{"number_of_shards":7}}"#,
-    )?;
-    lines.push_str("\n\n")?;
-    for id in 1..21u32 {
-        let word = if id <= 12 { "a" } else { "b" };
-        let action = format!(in alloc;
-            "{{\"index\":{{\"_id\":\"{id}\"}}}}\n{{\"t\":\"{word}\"}}\n"
-        )?;
-        lines.push_str(action.as_str())?;
+/// The words of a text, which are split at blanks.
+fn words_in(alloc: Global, text: &str) -> Result<Vec<Text>, AllocError> {
+    let mut words = Vec::new(alloc);
+    for word in text.split_whitespace() {
+        words.push(Text::of(alloc, word)?)?;
     }
-    lines.push_str("\n")?;
-    for _search in 0..searches {
-        lines.push_str(SEARCH)?;
-    }
-    Bytes::of(alloc, lines.as_bytes())
+    Ok(words)
 }
 
-/// What a run with these words, which are split at blanks, prints behind a gate. It is answered to its end.
+/// What a run with these words prints behind a gate. It is answered to its end.
 fn printed<R: Threads + Abort + Sync>(
     rt: &R,
     alloc: Global,
@@ -72,24 +40,16 @@ fn printed<R: Threads + Abort + Sync>(
     script: Bytes,
     gate: &dyn Gate,
 ) -> Result<String, Fail> {
-    let mut texts = Vec::new(alloc);
-    for word in words.split_whitespace() {
-        texts.push(Text::of(alloc, word)?)?;
-    }
-    let mut source = MemorySource::new(script, 65_536, List::new(alloc));
-    let mut sink = MemorySink::new(alloc, 10_000, 65_536, List::new(alloc))?;
-    let mut audience = audience_with_room(alloc, &[])?;
-    let status = run(
-        rt,
-        alloc,
-        texts.as_slice(),
-        &mut source,
-        &mut sink,
-        &mut audience,
-        gate,
-    );
-    assert_eq!(rt; status, 0, "{words}");
-    let text = str::from_utf8(sink.written())?;
+    let texts = words_in(alloc, words)?;
+    let setup = Setup {
+        words: texts.as_slice(),
+        piece: 65_536,
+        faults: NO_FAULT,
+        rooms: &[],
+    };
+    let ended = run_in_memory(rt, alloc, script, setup, gate)?;
+    assert_eq!(rt; ended.status, 0, "{words}");
+    let text = str::from_utf8(ended.sink.written())?;
     Ok(String::from_str(alloc, text)?)
 }
 
@@ -139,8 +99,7 @@ fn charges_meet(rt: HostRuntime) -> Result<(), Fail> {
     let alloc = rt.alloc();
     let gate = HeldBack::new(0, Point::Collected, 1);
     let words = "--workers 2 -E indices.breaker.request.limit=5200b";
-    let script = Bytes::of(alloc, TWO_SHARDS.as_bytes())?;
-    let text = printed(&rt, alloc, words, script, &gate)?;
+    let text = printed(&rt, alloc, words, two_shards(alloc, 1)?, &gate)?;
     assert!(rt; gate.has_released());
     assert_eq!(rt; text.as_str(), TWO_MET);
     Ok(())
@@ -199,8 +158,46 @@ fn storm_words(
     format!(in alloc; "--batched-reduce-size 2 --workers {workers} -E {setting}={limit}b")
 }
 
-/// Runs a case, and answers the total at which the search was refused. Behind it nothing is held but the columns: 20 values of 8 bytes and
-/// 12 words of one byte, times 1.03.
+// Asserts the line of a search, which tells a total above the limit or is the whole answer, and gives the total.
+fn expect_line(
+    rt: &impl Abort,
+    alloc: Global,
+    case: &Case,
+    line: &str,
+) -> Result<Option<u64>, Fail> {
+    let total = number_at(alloc, line, "/error/bytes_wanted")?;
+    let wanted = wanted_line(alloc, case.breaker, total, case.limit)?;
+    assert!(rt; line == wanted.as_str(), "{line}");
+    if let Some(bytes) = total {
+        assert!(rt; case.limit < bytes, "{line}");
+    }
+    Ok(total)
+}
+
+fn expect_held(
+    rt: &impl Abort,
+    alloc: Global,
+    statistics: &str,
+    breaker: &str,
+    held: u64,
+) -> Result<(), Fail> {
+    assert_eq!(rt;
+        held_at(alloc, statistics, breaker)?,
+        Some(held),
+        "{breaker}: {statistics}"
+    );
+    Ok(())
+}
+
+// Asserts that nothing is held but the columns: 20 values of 8 bytes and 12 words of one byte, times 1.03.
+fn expect_columns(rt: &impl Abort, alloc: Global, statistics: &str) -> Result<(), Fail> {
+    expect_held(rt, alloc, statistics, "request", 0)?;
+    expect_held(rt, alloc, statistics, "fielddata", 178)?;
+    expect_held(rt, alloc, statistics, "inflight_requests", 0)?;
+    expect_held(rt, alloc, statistics, "parent", 178)
+}
+
+/// Runs a case, and answers the total at which the search was refused.
 fn refused_at<R: Threads + Abort + Sync>(
     rt: &R,
     alloc: Global,
@@ -208,72 +205,80 @@ fn refused_at<R: Threads + Abort + Sync>(
     workers: u32,
     gate: &dyn Gate,
 ) -> Result<Option<u64>, Fail> {
-    let Case {
-        setting,
-        breaker,
-        limit,
-        alone: _,
-    } = *case;
-    let words = storm_words(alloc, workers, setting, limit)?;
+    let words = storm_words(alloc, workers, case.setting, case.limit)?;
     let text = printed(rt, alloc, words.as_str(), seven_shards(alloc, 1)?, gate)?;
     assert_eq!(rt; text.lines().count(), 3, "{words}");
-    let line = text.lines().nth(1).unwrap_or_default();
-    let statistics = text.lines().last().unwrap_or_default();
-    let total = number_at(alloc, line, "/error/bytes_wanted")?;
-    let wanted = wanted_line(alloc, breaker, total, limit)?;
-    assert!(rt; line == wanted.as_str(), "{words}: {line}");
-    if let Some(bytes) = total {
-        assert!(rt; limit < bytes, "{words}");
+    expect_columns(rt, alloc, text.lines().last().unwrap_or_default())?;
+    expect_line(rt, alloc, case, text.lines().nth(1).unwrap_or_default())
+}
+
+// Asserts where one worker is refused, and that eight are in any order where that is sure.
+fn expect_storm<R: Threads + Abort + Sync>(rt: &R, alloc: Global, case: &Case) -> Result<(), Fail> {
+    assert_eq!(rt; refused_at(rt, alloc, case, 1, &OpenGate)?, case.alone);
+    let open = refused_at(rt, alloc, case, 8, &OpenGate)?;
+    let met = refused_at(rt, alloc, case, 8, &Meeting::new(2, 100_000))?;
+    if case.alone.is_some() {
+        assert!(rt; open.is_some() && met.is_some(), "{}", case.setting);
     }
-    for (name, held) in [
-        ("request", 0),
-        ("fielddata", 178),
-        ("inflight_requests", 0),
-        ("parent", 178),
-    ] {
-        assert_eq!(rt; held_at(alloc, statistics, name)?, Some(held), "{words}");
-    }
-    Ok(total)
+    Ok(())
 }
 
 /// Whatever order charges come in, a search is answered in full or refused at a total above the limit.
 #[test]
 fn storms(rt: HostRuntime) -> Result<(), Fail> {
-    let alloc = rt.alloc();
     for case in &CASES {
-        assert_eq!(rt; refused_at(&rt, alloc, case, 1, &OpenGate)?, case.alone);
-        let open = refused_at(&rt, alloc, case, 8, &OpenGate)?;
-        let met = refused_at(&rt, alloc, case, 8, &Meeting::new(2, 100_000))?;
-        if case.alone.is_some() {
-            assert!(rt; open.is_some() && met.is_some(), "{}", case.setting);
-        }
+        expect_storm(&rt, rt.alloc(), case)?;
     }
     Ok(())
+}
+
+// Asserts what so many searches print one after another, and what they are granted.
+fn expect_answers(
+    rt: &impl Abort,
+    alloc: Global,
+    text: &str,
+    searches: usize,
+    granted: u64,
+) -> Result<(), Fail> {
+    for line in text.lines().skip(1).take(searches) {
+        assert_eq!(rt; line, ANSWER);
+    }
+    let statistics = text.lines().skip(searches).nth(1).unwrap_or_default();
+    let path = "/breakers/request/granted_size_in_bytes";
+    assert_eq!(rt; number_at(alloc, statistics, path)?, Some(granted));
+    Ok(())
+}
+
+// Asserts that a wave of all searches prints the same.
+fn expect_same<R: Threads + Abort + Sync>(
+    rt: &R,
+    alloc: Global,
+    workers: u32,
+    searches: usize,
+    alone: &str,
+) -> Result<(), Fail> {
+    let words = format!(in alloc; "--workers {workers} --concurrent-searches {searches}")?;
+    let script = seven_shards(alloc, searches)?;
+    let text = printed(rt, alloc, words.as_str(), script, &OpenGate)?;
+    assert_eq!(rt; text.as_str(), alone, "{words}");
+    Ok(())
+}
+
+fn expect_wave<R: Threads + Abort + Sync>(
+    rt: &R,
+    alloc: Global,
+    searches: usize,
+    granted: u64,
+) -> Result<(), Fail> {
+    let alone = printed(rt, alloc, "", seven_shards(alloc, searches)?, &OpenGate)?;
+    expect_answers(rt, alloc, alone.as_str(), searches, granted)?;
+    expect_same(rt, alloc, 1, searches, alone.as_str())?;
+    expect_same(rt, alloc, 8, searches, alone.as_str())
 }
 
 /// The searches of a wave are answered and charged, in all, as one after another, where no limit is near.
 #[test]
 fn waves_are_answered_as_one_search_after_another(rt: HostRuntime) -> Result<(), Fail> {
-    let alloc = rt.alloc();
-    for (searches, granted) in [(2usize, 78_508u64), (3, 117_762)] {
-        let alone = printed(&rt, alloc, "", seven_shards(alloc, searches)?, &OpenGate)?;
-        for line in alone.lines().skip(1).take(searches) {
-            assert_eq!(rt; line, ANSWER);
-        }
-        let statistics = alone.lines().skip(searches).nth(1).unwrap_or_default();
-        let path = "/breakers/request/granted_size_in_bytes";
-        assert_eq!(rt; number_at(alloc, statistics, path)?, Some(granted));
-        for workers in [1u32, 8] {
-            let words = format!(in alloc; "--workers {workers} --concurrent-searches {searches}")?;
-            let text = printed(
-                &rt,
-                alloc,
-                words.as_str(),
-                seven_shards(alloc, searches)?,
-                &OpenGate,
-            )?;
-            assert_eq!(rt; text, alone, "{words}");
-        }
-    }
-    Ok(())
+    expect_wave(&rt, rt.alloc(), 2, 78_508)?;
+    expect_wave(&rt, rt.alloc(), 3, 117_762)
 }

@@ -1,8 +1,11 @@
-//! Tests of whole runs over memory. What is wanted was computed by another program.
+//! Tests of partial results and answers, of pools of workers, and of whole runs over memory. They stand in a crate of their own,
+//! since a crate that has tests is proved once more for them.
 #![tactic(auto)]
 
 #[cfg(test)]
 mod batches;
+#[cfg(test)]
+mod cases;
 #[cfg(test)]
 mod ends;
 #[cfg(test)]

@@ -4,12 +4,14 @@ ghost use Rattle.agg_model.specs.declared.aggregation.Search.{Search as AnySearc
 ghost use Rattle.agg_model.specs.declared.key.Key.TheVariants as any_key;
 ghost use Rattle.agg_model.specs.declared.partial.Node.TheVariants as node;
 ghost use Rattle.batch_reduce.specs.Parts.{AreParts, cost_of_parts};
+ghost use Rattle.breaker_words.specs.Passes.{IsOf};
 
 use agg_model::{Bucket, Child, Key, Limits, List, Node, Partial, Text, Which};
 use batch_reduce::{ReduceEnd, Tripped, reduce};
 use breaker_tree::charge;
-use breaker_words::{Words, set_ceiling};
+use breaker_words::{Pass, Trial, Words, set_ceiling};
 use std::alloc::{AllocError, Global};
+use std::process::Abort;
 use std::test::Fail;
 
 /// What a shard answers that has one document with this word.
@@ -54,6 +56,75 @@ fn has_both(partial: &Partial) -> bool {
     partial.hits == 2 && buckets.len() == 2
 }
 
+// Charges what the two parts cost, where nothing is held.
+fn expect_charged(rt: &impl Abort, words: &Words, pass: &mut Pass)
+    requires of { IsOf words.now pass.old }
+    requires rest { pass.old.view.trial ≡ Trial.Rest }
+    requires cap { pass.old.view.cap ≡ 100000 }
+    ensures of { IsOf words.now pass.new }
+    ensures rest { pass.new.view.trial ≡ Trial.Rest }
+    ensures cap { pass.new.view.cap ≡ 100000 }
+{
+    assert!(rt; pass.hold(Which::Parent) == 0);
+    assert_eq!(rt; charge(words, pass, Child::Request, 1_282), Ok(()));
+}
+
+// Merges the two parts, and asserts whether it was refused.
+fn expect_end(
+    rt: &impl Abort,
+    alloc: Global,
+    words: &Words,
+    pass: &mut Pass,
+    tripped: Option<Tripped>,
+) -> Result<(), Fail>
+    requires of { IsOf words.now pass.old }
+    requires rest { pass.old.view.trial ≡ Trial.Rest }
+    requires cap { pass.old.view.cap ≡ 100000 }
+{
+    assert!(rt; pass.hold(Which::Request) == 1_282 && pass.hold(Which::Parent) == 1_282);
+    match reduce(alloc, words, pass, two_parts(alloc)?) {
+        ReduceEnd::Done(merged) => {
+            assert_eq!(rt; tripped, None);
+            assert!(rt; has_both(&merged));
+        }
+        ReduceEnd::Refused(seen) => assert_eq!(rt; tripped, Some(seen)),
+        ReduceEnd::Memory => return Err(AllocError.into()),
+    }
+    Ok(())
+}
+
+// Asserts what is held in the end, and what was granted at request.
+fn expect_held(rt: &impl Abort, pass: &Pass, held: u64, granted: u64) {
+    assert_eq!(rt;
+        (pass.hold(Which::Request), pass.hold(Which::Parent)),
+        (held, held)
+    );
+    assert_eq!(rt; pass.granted(Which::Request), granted);
+}
+
+// Merges the two parts where the limit of request is this many bytes.
+fn expect_merged(
+    rt: &impl Abort,
+    alloc: Global,
+    request: u64,
+    tripped: Option<Tripped>,
+    held: u64,
+    granted: u64,
+) -> Result<(), Fail> {
+    let limits = Limits {
+        request,
+        fielddata: 10_000,
+        inflight: 10_000,
+        parent: 10_000,
+    };
+    let (words, mut pass) = Words::open(alloc, limits)?;
+    set_ceiling(&words, &mut pass, 100_000);
+    expect_charged(rt, &words, &mut pass);
+    expect_end(rt, alloc, &words, &mut pass, tripped)?;
+    expect_held(rt, &pass, held, granted);
+    Ok(())
+}
+
 #[test]
 fn two_parts_of_641_bytes_are_merged_or_refused(rt: HostRuntime) -> Result<(), Fail> {
     let refused = Tripped {
@@ -61,33 +132,6 @@ fn two_parts_of_641_bytes_are_merged_or_refused(rt: HostRuntime) -> Result<(), F
         wanted: 2_564,
         limit: 1_300,
     };
-    // The limit of request, the refusal, and what is held and was granted in the end.
-    for (request, tripped, held, granted) in [
-        (1_300, Some(refused), 0, 1_282),
-        (10_000, None, 770, 2_564),
-    ] {
-        let limits = Limits {
-            request,
-            fielddata: 10_000,
-            inflight: 10_000,
-            parent: 10_000,
-        };
-        let (words, mut pass) = Words::open(rt.alloc(), limits)?;
-        set_ceiling(&words, &mut pass, 100_000);
-        assert_eq!(rt; charge(&words, &mut pass, Child::Request, 1_282), Ok(()));
-        match reduce(rt.alloc(), &words, &mut pass, two_parts(rt.alloc())?) {
-            ReduceEnd::Done(merged) => {
-                assert_eq!(rt; tripped, None);
-                assert!(rt; has_both(&merged));
-            }
-            ReduceEnd::Refused(seen) => assert_eq!(rt; tripped, Some(seen)),
-            ReduceEnd::Memory => return Err(AllocError.into()),
-        }
-        assert_eq!(rt;
-            (pass.hold(Which::Request), pass.hold(Which::Parent)),
-            (held, held)
-        );
-        assert_eq!(rt; pass.granted(Which::Request), granted);
-    }
-    Ok(())
+    expect_merged(&rt, rt.alloc(), 1_300, Some(refused), 0, 1_282)?;
+    expect_merged(&rt, rt.alloc(), 10_000, None, 770, 2_564)
 }

@@ -98,10 +98,20 @@ fn is_result(partial: &Partial, hits: u64, words: &[&str], sums: [u64; 3]) -> bo
     is_node && partial.hits == hits
 }
 
+/// The result over no shard.
+fn nothing(alloc: Global) -> Result<Partial, AllocError> {
+    empty(alloc, &search(alloc)?)
+}
+
+/// The union of two results. It promises nothing, since a test only looks at it.
+fn united(alloc: Global, first: Partial, second: Partial) -> Result<Partial, AllocError> {
+    merge(alloc, first, second)
+}
+
 #[test]
 fn two_shards_cut_to_one_term_are_united(rt: HostRuntime) -> Result<(), Fail> {
     let alloc = rt.alloc();
-    let merged = merge(alloc, returned(alloc, "a", 2)?, returned(alloc, "b", 1)?)?;
+    let merged = united(alloc, returned(alloc, "a", 2)?, returned(alloc, "b", 1)?)?;
     assert!(rt; is_result(&merged, 9, &["a", "b"], [6, 2, 3]));
     Ok(())
 }
@@ -109,9 +119,9 @@ fn two_shards_cut_to_one_term_are_united(rt: HostRuntime) -> Result<(), Fail> {
 #[test]
 fn the_empty_result_is_neutral(rt: HostRuntime) -> Result<(), Fail> {
     let alloc = rt.alloc();
-    let nothing = empty(alloc, &search(alloc)?)?;
+    let nothing = nothing(alloc)?;
     assert!(rt; is_result(&nothing, 0, &[], [0, 0, 0]));
-    let merged = merge(alloc, nothing, returned(alloc, "a", 2)?)?;
+    let merged = united(alloc, nothing, returned(alloc, "a", 2)?)?;
     assert!(rt; is_result(&merged, 5, &["a"], [3, 1, 2]));
     Ok(())
 }

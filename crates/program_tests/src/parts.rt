@@ -49,7 +49,7 @@ pub(crate) fn cost_of(parts: &[Partial]) -> u64 {
 }
 
 /// The parts as one; none where there is no part.
-pub(crate) fn merged(alloc: Global, parts: List<Partial>) -> Result<Option<Partial>, AllocError> {
+fn merged(alloc: Global, parts: List<Partial>) -> Result<Option<Partial>, AllocError> {
     let mut whole = None;
     for part in parts.into_vec() {
         whole = Some(match whole {
@@ -58,4 +58,15 @@ pub(crate) fn merged(alloc: Global, parts: List<Partial>) -> Result<Option<Parti
         });
     }
     Ok(whole)
+}
+
+/// What the parts tell as one; none where there is no part.
+pub(crate) fn counts_of_all(
+    alloc: Global,
+    parts: List<Partial>,
+) -> Result<Option<Counts>, AllocError> {
+    match merged(alloc, parts)? {
+        Some(whole) => Ok(Some(counts_of(&whole))),
+        None => Ok(None),
+    }
 }

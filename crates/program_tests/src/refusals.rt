@@ -1,7 +1,8 @@
 //! Charges that are refused, of one search and of two in one pool.
-use crate::ends::{Wanted, has_ended};
+use crate::cases::{Case, columns_of};
+use crate::ends::Wanted;
 use crate::parts::Counts;
-use crate::pools::{Account, Call, Ran, run};
+use crate::pools::Account;
 use crate::scripts::seven_shards;
 use shard_pool::{Gate, OpenGate, Point};
 use std::alloc::Global;
@@ -28,15 +29,6 @@ const GRANTED: u64 = 38_936;
 
 const ALL: Counts = [20, 12, 8];
 
-/// The searches of a pool, how each is to end, and what the caller's pass has then.
-struct Case {
-    limit: u64,
-    size: u32,
-    bodies: &'static [&'static str],
-    ends: &'static [Wanted],
-    request: Account,
-}
-
 fn check<G: Gate, R: Threads + Abort + Sync>(
     rt: &R,
     alloc: Global,
@@ -44,19 +36,7 @@ fn check<G: Gate, R: Threads + Abort + Sync>(
     case: &Case,
     gate: &G,
 ) -> Result<(), Fail> {
-    let call = Call {
-        limit: case.limit,
-        workers,
-        size: case.size,
-        bodies: case.bodies,
-    };
-    let Ran { ends, request, .. } = run(rt, alloc, seven_shards(alloc)?, call, gate)?;
-    let ends = ends?.into_vec();
-    assert_eq!(rt; ends.len(), case.ends.len());
-    for (end, wanted) in ends.into_iter().zip(case.ends) {
-        assert!(rt; has_ended(alloc, end, case.limit, *wanted)?, "{request:?}");
-    }
-    assert_eq!(rt; request, case.request);
+    let _columns = columns_of(rt, alloc, seven_shards(alloc, 0)?, workers, case, gate)?;
     Ok(())
 }
 
@@ -190,13 +170,23 @@ const HELD_UP: [Case; 2] = [
     },
 ];
 
+// Asserts how the searches of a case end where the first task is held until the second search has merged its batch.
+fn check_held_up<R: Threads + Abort + Sync>(
+    rt: &R,
+    alloc: Global,
+    case: &Case,
+) -> Result<(), Fail> {
+    let gate = HeldBack::new(0, Point::Merged, 1);
+    check(rt, alloc, 2, case, &gate)?;
+    assert!(rt; gate.has_released());
+    Ok(())
+}
+
 #[test]
 fn a_refusal_stops_its_own_search_and_no_other(rt: HostRuntime) -> Result<(), Fail> {
     check(&rt, rt.alloc(), 1, &BOTH_WHOLE, &OpenGate)?;
     for case in &HELD_UP {
-        let gate = HeldBack::new(0, Point::Merged, 1);
-        check(&rt, rt.alloc(), 2, case, &gate)?;
-        assert!(rt; gate.has_released());
+        check_held_up(&rt, rt.alloc(), case)?;
     }
     Ok(())
 }

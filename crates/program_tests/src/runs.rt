@@ -1,14 +1,13 @@
 //! Runs over memory. What is wanted was computed by another program.
-ghost use Rattle.std.specs.Prelude.{◌≤◌};
-
 use agg_base::{MemorySink, MemorySource};
 use agg_listen::{Audience, ListListener, Listener, Told};
 use agg_model::{Bytes, List, Text};
 use agg_program::run;
 use std::alloc::{AllocError, Global};
+use std::process::Abort;
 use std::test::Fail;
 use std::thread::Threads;
-use worker_gate::OpenGate;
+use worker_gate::{Gate, OpenGate};
 
 pub(crate) const INDEX: &str =
     r#"{"index":"i","mappings":{"properties":{"b":{"type":"boolean"},"n":{"type":"long"},"t":{"type":"keyword"}}},"settings":{"number_of_shards":1}}"#;
@@ -64,16 +63,32 @@ pub(crate) struct FailedCalls {
     pub(crate) write: Option<u64>,
 }
 
-const NO_FAULT: FailedCalls = FailedCalls {
+pub(crate) const NO_FAULT: FailedCalls = FailedCalls {
     read: None,
     write: None,
 };
 
+/// What a run is given beside its input.
+#[derive(Clone, Copy)]
+pub(crate) struct Setup<'a> {
+    pub(crate) words: &'a [Text],
+    /// How many bytes a read or a write moves at most; 0 is taken as 1.
+    pub(crate) piece: usize,
+    pub(crate) faults: FailedCalls,
+    /// How many answers each listener has room for.
+    pub(crate) rooms: &'a [u32],
+}
+
+/// How a run ended, with its sink and the listeners that are left.
+#[derive(Drop)]
+pub(crate) struct Ended {
+    pub(crate) status: u8,
+    pub(crate) sink: MemorySink,
+    pub(crate) audience: Audience<ListListener>,
+}
+
 /// Listeners with room for so many answers each.
-pub(crate) fn audience_with_room(
-    alloc: Global,
-    rooms: &[u32],
-) -> Result<Audience<ListListener>, AllocError> {
+fn audience_with_room(alloc: Global, rooms: &[u32]) -> Result<Audience<ListListener>, AllocError> {
     let mut listeners = Vec::new(alloc);
     for room in rooms {
         listeners.push(ListListener::new(alloc, *room)?)?;
@@ -81,29 +96,38 @@ pub(crate) fn audience_with_room(
     Ok(Audience::new(listeners))
 }
 
-/// The status of a run without words over memory, in pieces of so many bytes, and what it wrote.
-pub(crate) fn answered<R: Threads + Sync>(
+/// Runs over memory. It promises nothing of the end, since a test only looks at it.
+pub(crate) fn run_in_memory<R: Threads + Sync>(
     rt: &R,
     alloc: Global,
     input: Bytes,
-    piece: usize,
-    faults: FailedCalls,
-) -> Result<(u8, Bytes), AllocError>
-    requires { 1 ≤ piece }
-{
-    let mut source = MemorySource::new(input, piece, failing(alloc, faults.read)?);
-    let mut sink = MemorySink::new(alloc, 1_000_000, piece, failing(alloc, faults.write)?)?;
-    let mut audience = audience_with_room(alloc, &[])?;
+    setup: Setup<'_>,
+    gate: &dyn Gate,
+) -> Result<Ended, AllocError> {
+    let piece = setup.piece.max(1);
+    let mut source = MemorySource::new(input, piece, failing(alloc, setup.faults.read)?);
+    let mut sink = MemorySink::new(alloc, 1_000_000, piece, failing(alloc, setup.faults.write)?)?;
+    let mut audience = audience_with_room(alloc, setup.rooms)?;
     let status = run(
         rt,
         alloc,
-        &[],
+        setup.words,
         &mut source,
         &mut sink,
         &mut audience,
-        &OpenGate,
+        gate,
     );
-    Ok((status, Bytes::of(alloc, sink.written())?))
+    Ok(Ended {
+        status,
+        sink,
+        audience,
+    })
+}
+
+// Asserts how a run ended, and all that it wrote.
+pub(crate) fn expect_end(rt: &impl Abort, ended: &Ended, status: u8, output: &str) {
+    assert_eq!(rt; ended.status, status);
+    assert!(rt; ended.sink.written() == output.as_bytes());
 }
 
 /// Whether these are the first bytes of all.
@@ -121,95 +145,111 @@ pub(crate) fn line_count(bytes: &[u8]) -> usize {
     bytes.iter().filter(|byte| **byte == b'\n').count()
 }
 
-#[test]
-fn two_bodies_are_answered_in_pieces_of_any_length(rt: HostRuntime) -> Result<(), Fail> {
-    for piece in [1usize, 7, 65_536] {
-        let input = joined(rt.alloc(), INDEX, TWO_BODIES)?;
-        let (status, written) = answered(&rt, rt.alloc(), input, piece.max(1), NO_FAULT)?;
-        assert_eq!(rt; status, 0);
-        assert!(rt; written.as_slice() == TWO_ANSWERS.as_bytes());
-    }
+// Asserts what two searches are answered, where so many bytes are moved at a time.
+fn expect_two_answers<R: Threads + Abort + Sync>(
+    rt: &R,
+    alloc: Global,
+    piece: usize,
+) -> Result<(), Fail> {
+    let setup = Setup {
+        words: &[],
+        piece,
+        faults: NO_FAULT,
+        rooms: &[],
+    };
+    let input = joined(alloc, INDEX, TWO_BODIES)?;
+    let ended = run_in_memory(rt, alloc, input, setup, &OpenGate)?;
+    expect_end(rt, &ended, 0, TWO_ANSWERS);
     Ok(())
 }
 
 #[test]
+fn two_bodies_are_answered_in_pieces_of_any_length(rt: HostRuntime) -> Result<(), Fail> {
+    for piece in [1usize, 7, 65_536] {
+        expect_two_answers(&rt, rt.alloc(), piece)?;
+    }
+    Ok(())
+}
+
+// Asserts how many listeners are left, and that each heard this answer and no other.
+fn expect_left(
+    rt: &impl Abort,
+    audience: &Audience<ListListener>,
+    left: usize,
+    told: Option<Told>,
+) {
+    assert_eq!(rt; audience.listeners().len(), left);
+    for listener in audience.listeners() {
+        assert_eq!(rt; listener.entry(0), told);
+        assert_eq!(rt; listener.entry(1), None);
+    }
+}
+
+#[test]
 fn words_outside_the_grammar_end_the_run(rt: HostRuntime) -> Result<(), Fail> {
-    let input = joined(rt.alloc(), INDEX, ONE_BODY)?;
-    let mut source = MemorySource::new(input, 10, List::new(rt.alloc()));
-    let mut sink = MemorySink::new(rt.alloc(), 100, 10, List::new(rt.alloc()))?;
     let words = [Text::of(rt.alloc(), "--workers")?];
-    let mut audience = audience_with_room(rt.alloc(), &[8])?;
-    let status = run(
-        &rt,
-        rt.alloc(),
-        &words,
-        &mut source,
-        &mut sink,
-        &mut audience,
-        &OpenGate,
-    );
-    assert_eq!(rt; status, 2);
-    assert_eq!(rt; audience.listeners().len(), 1);
-    assert_eq!(rt; audience.listeners()[0].entry(0), None);
-    let wanted = b"{\"error\":{\"key\":\"\",\"type\":\"usage\",\"value\":\"\"},\"status\":2}\n";
-    assert!(rt; sink.written() == wanted.as_slice());
+    let setup = Setup {
+        words: words.as_slice(),
+        piece: 10,
+        faults: NO_FAULT,
+        rooms: &[8],
+    };
+    let input = joined(rt.alloc(), INDEX, ONE_BODY)?;
+    let ended = run_in_memory(&rt, rt.alloc(), input, setup, &OpenGate)?;
+    let wanted = "{\"error\":{\"key\":\"\",\"type\":\"usage\",\"value\":\"\"},\"status\":2}\n";
+    expect_end(&rt, &ended, 2, wanted);
+    expect_left(&rt, &ended.audience, 1, None);
+    Ok(())
+}
+
+/// Runs one search, with listeners that have room for so many answers each.
+fn run_with_room<R: Threads + Sync>(
+    rt: &R,
+    alloc: Global,
+    rooms: &[u32],
+) -> Result<Ended, AllocError> {
+    let setup = Setup {
+        words: &[],
+        piece: 65_536,
+        faults: NO_FAULT,
+        rooms,
+    };
+    run_in_memory(rt, alloc, joined(alloc, INDEX, ONE_BODY)?, setup, &OpenGate)
+}
+
+// Asserts how many listeners are left, which all heard of the answer.
+fn expect_heard<R: Threads + Abort + Sync>(
+    rt: &R,
+    alloc: Global,
+    rooms: &[u32],
+    left: usize,
+) -> Result<(), Fail> {
+    let ended = run_with_room(rt, alloc, rooms)?;
+    expect_end(rt, &ended, 0, ONE_ANSWER);
+    // The second line of `ONE_ANSWER`.
+    let told = Told {
+        line: 2,
+        status: 200,
+        bytes: 290,
+    };
+    expect_left(rt, &ended.audience, left, Some(told));
     Ok(())
 }
 
 #[test]
 fn listeners_hear_of_the_answers_and_leave_without_room(rt: HostRuntime) -> Result<(), Fail> {
-    for (rooms, left) in [([0, 8], 1usize), ([0, 0], 0)] {
-        let input = joined(rt.alloc(), INDEX, ONE_BODY)?;
-        let mut source = MemorySource::new(input, 65_536, List::new(rt.alloc()));
-        let mut sink = MemorySink::new(rt.alloc(), 10_000, 65_536, List::new(rt.alloc()))?;
-        let mut audience = audience_with_room(rt.alloc(), &rooms)?;
-        let status = run(
-            &rt,
-            rt.alloc(),
-            &[],
-            &mut source,
-            &mut sink,
-            &mut audience,
-            &OpenGate,
-        );
-        assert_eq!(rt; status, 0);
-        assert!(rt; sink.written() == ONE_ANSWER.as_bytes());
-        assert_eq!(rt; audience.listeners().len(), left);
-        for listener in audience.listeners() {
-            // The second line of `ONE_ANSWER`.
-            let told = Told {
-                line: 2,
-                status: 200,
-                bytes: 290,
-            };
-            assert_eq!(rt; listener.entry(0), Some(told));
-            assert_eq!(rt; listener.entry(1), None);
-        }
-    }
-    Ok(())
+    expect_heard(&rt, rt.alloc(), &[0, 8], 1)?;
+    expect_heard(&rt, rt.alloc(), &[0, 0], 0)
 }
 
 /// For runs outside the gate in which one allocation after another fails. With ample memory all is written.
 #[test]
 fn where_memory_runs_out_whole_lines_are_written(rt: HostRuntime) -> Result<(), Fail> {
-    let input = joined(rt.alloc(), INDEX, ONE_BODY)?;
-    let mut source = MemorySource::new(input, 65_536, List::new(rt.alloc()));
-    let mut sink = MemorySink::new(rt.alloc(), 10_000, 65_536, List::new(rt.alloc()))?;
-    let mut audience = audience_with_room(rt.alloc(), &[])?;
-    let status = run(
-        &rt,
-        rt.alloc(),
-        &[],
-        &mut source,
-        &mut sink,
-        &mut audience,
-        &OpenGate,
-    );
-    if status == 7 {
-        assert!(rt; are_first_lines(sink.written(), ONE_ANSWER.as_bytes()));
+    let ended = run_with_room(&rt, rt.alloc(), &[])?;
+    if ended.status == 7 {
+        assert!(rt; are_first_lines(ended.sink.written(), ONE_ANSWER.as_bytes()));
     } else {
-        assert_eq!(rt; status, 0);
-        assert!(rt; sink.written() == ONE_ANSWER.as_bytes());
+        expect_end(&rt, &ended, 0, ONE_ANSWER);
     }
     Ok(())
 }
