@@ -1,0 +1,11 @@
+-- All that unfolds when a definition runs on a value that is written out.
+use Rattle.std.specs.Fmt.{digits}
+
+unfoldable pub computing : Unit {0}
+unfolding
+    Rattle.date_spec.specs.Calendar.days_before_year Rattle.date_spec.specs.Calendar.days_before_month Rattle.date_spec.specs.Calendar.last_begun
+    Rattle.date_spec.specs.Calendar.date_after
+    Rattle.date_spec.specs.Shapes.has_shape
+    Rattle.date_spec.specs.DateTexts.named_instant Rattle.date_spec.specs.DateTexts.clock_text
+    digits
+computing = tt

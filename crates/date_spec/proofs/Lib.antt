@@ -1,0 +1,3 @@
+pub mod Computing
+mod ReadingExamples
+mod PrintingExamples
