@@ -3,12 +3,16 @@ use Rattle.std.specs.Prelude.{ℕ, ◌-◌, ◌==◌, Bool, true, false, ◌&&�
 use Rattle.std.specs.Char.{is_ascii_digit}
 use Rattle.std.specs.Str.Parse.{digits_value}
 
--- a text has a shape: `0` stands for any digit, every other character for itself
+-- a character at a place of a shape: `0` stands for any digit, every other character for itself
+abbrev pub stands_for : ℕ → ℕ → Bool
+stands_for place c = if place == 48 then is_ascii_digit c else (c == place)
+
+-- a text has a shape
 unfoldable pub has_shape : List ℕ → List ℕ → Bool
 has_shape [] [] = true
 has_shape [] (c ∷ cs) = false
-has_shape (s ∷ ss) [] = false
-has_shape (s ∷ ss) (c ∷ cs) = (if s == 48 then is_ascii_digit c else (c == s)) && has_shape ss cs
+has_shape (place ∷ places) [] = false
+has_shape (place ∷ places) (c ∷ cs) = stands_for place c && has_shape places cs
 
 -- the number that n digits write, behind so many characters
 abbrev pub number_at : ℕ → ℕ → List ℕ → ℕ

@@ -1,14 +1,13 @@
-//! Date texts.
+//! The texts of dates: read to an instant, and printed of one.
 #![tactic(auto)]
 
-ghost use Rattle.std.specs.Prelude.{◌≡◌, ◌↔◌, pos, ◌+ℤ◌, IsOk, IfOk, IfSome, Ok};
-ghost use Rattle.jiff_core.specs.Date.{epoch_day, IsYmd};
+mod calendar;
+mod clocks;
+mod offsets;
+mod printing;
+mod reading;
+mod shapes;
 
-use jiff_core::civil::Date;
-
-/// The number of a day.
-pub fn day_of(year: i16, month: i8, day: i8) -> Option<i32>
-{
-    let date = Date::new(year, month, day).ok()?;
-    Some(date.to_unix_epoch_day())
-}
+pub use date_spec::DateFault;
+pub use printing::print;
+pub use reading::read;
