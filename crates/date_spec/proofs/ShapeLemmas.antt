@@ -44,12 +44,12 @@ has_shape-apart [] (c ∷ cs) h = refl
 has_shape-apart (p ∷ ps) [] h = refl
 has_shape-apart (p ∷ ps) (c ∷ cs) h = has_shape-apart_more p c ps cs (has_shape-apart ps cs (λ e. h (omega arith)))
   where
-  has_shape-apart_more : (p c : ℕ) (ps cs : List ℕ) → has_shape ps cs ≡ false → (stands_for p c && has_shape ps cs) ≡ false
-  has_shape-apart_more p c ps cs e = rw e (and_false (stands_for p c))
-    where
-    and_false : (b : Bool) → (b && false) ≡ false
-    and_false true = refl
-    and_false false = refl
+    has_shape-apart_more : (p c : ℕ) (ps cs : List ℕ) → has_shape ps cs ≡ false → (stands_for p c && has_shape ps cs) ≡ false
+    has_shape-apart_more p c ps cs e = rw e (and_false (stands_for p c))
+      where
+        and_false : (b : Bool) → (b && false) ≡ false
+        and_false true = refl
+        and_false false = refl
 
 pub has_shape-take : (places cs : List ℕ) (n : ℕ) → has_shape places cs ≡ true → has_shape (take n places) (take n cs) ≡ true
 unfolding has_shape

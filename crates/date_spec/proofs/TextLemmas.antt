@@ -40,7 +40,7 @@ whole_clock-shape clock offset h =
     let end = has_shape-drop whole_shape (codes "0000-01-01T00:00:00.000") (length clock) refl in
     let both = has_shape-append (take 23 (take (length clock) longest_clock)) (drop (length clock) whole_shape) (take 23 clock) (drop (length clock) (codes "0000-01-01T00:00:00.000")) front end in
     let shape : take 23 (take (length clock) longest_clock) ++ drop (length clock) whole_shape ≡ whole_shape =
-      ap (λ xs. xs ++ drop (length clock) whole_shape) (take-take 23 (length clock) longest_clock) ∙ take-drop (length clock) whole_shape in
+    ap (λ xs. xs ++ drop (length clock) whole_shape) (take-take 23 (length clock) longest_clock) ∙ take-drop (length clock) whole_shape in
     subst (λ s. has_shape s (take 23 clock ++ drop (length clock) (codes "0000-01-01T00:00:00.000")) ≡ true) shape both
 
 -- the digits of a whole clock

@@ -1,12 +1,12 @@
 -- The numbers of a clock, and the instant that they make.
-use Rattle.std.proofs.Common.{◌≡◌, ℕ, ◌+◌, ◌*◌, ◌^◌, ◌<◌, ◌≤◌, Bool, true, false, ◌&&◌, cond, List, [], ◌∷◌, length, take, drop, refl, sym, ◌∙◌, ap, arith, Some, None, ℤ, pos, ◌+ℤ◌, ◌-ℤ◌, ◌*ℤ◌}
+use Rattle.std.proofs.Common.{◌≡◌, ℕ, ◌^◌, ◌<◌, ◌≤◌, Bool, true, false, ◌&&◌, List, length, take, refl, arith, Some, None, ℤ, pos, ◌+ℤ◌, ◌-ℤ◌, ◌*ℤ◌}
 use Rattle.std.specs.Prelude.{if◌then◌else◌, Option}
 use Rattle.std.specs.Str.Parse.{AllDigits, digits_value}
 use Rattle.std.proofs.lemmas.Bool.{true≢false}
 use Rattle.std.proofs.lemmas.List.{length-take}
 use Rattle.std.proofs.lemmas.Str.Parse.{digits_value_short, numerals_by_value, tells_digits}
-use Rattle.date_spec.specs.Calendar.{is_date, day_number}
-use Rattle.date_spec.specs.Instants.{is_time, time_millis, instant_at}
+use Rattle.date_spec.specs.Calendar.{is_date}
+use Rattle.date_spec.specs.Instants.{is_time}
 use Rattle.date_spec.specs.DateTexts.{date_in, time_in, shown_at, is_clock, whole_clock, ahead_of, instant_of_clock}
 use Rattle.date_text.specs.Parts.{numbered, timed}
 

@@ -1,7 +1,6 @@
 -- The days of the calendar crate are those of the definitions.
-use Rattle.std.proofs.Common.{◌≡◌, ℕ, zero, suc, ◌+◌, ◌-◌, ◌≤◌, ◌<◌, Bool, true, false, ◌&&◌, refl, sym, ◌∙◌, ap, subst, arith, rules, Some, ℤ, pos, ◌+ℤ◌, ◌-ℤ◌, ◌↔◌, IsTrue}
-use Rattle.std.proofs.lemmas.Bool.Decides.{nat_tests}
-use Rattle.jiff_core.specs.Calendar.{days_in_month, days_in_year, days_of_years, days_of_months, day_of_year, day_count, days_from_civil, IsDate}
+use Rattle.std.proofs.Common.{◌≡◌, ℕ, zero, suc, ◌+◌, ◌-◌, ◌≤◌, ◌<◌, true, refl, sym, ◌∙◌, ap, subst, arith, Some, ℤ, pos, ◌-ℤ◌}
+use Rattle.jiff_core.specs.Calendar.{days_in_month, days_of_years, days_of_months, day_count, days_from_civil}
 use Rattle.std.proofs.lemmas.Bool.{le-leb}
 use Rattle.date_spec.proofs.ShapeLemmas.{and_both}
 use Rattle.date_text.specs.Parts.{numbered}
@@ -9,8 +8,7 @@ use Rattle.jiff_core.specs.declared.civil.date.Date.{Date}
 use Rattle.jiff_core.specs.Date.{epoch_day}
 use Rattle.jiff_core.proofs.SignedLemmas.{signed_arith}
 use Rattle.jiff_core.proofs.CalendarLemmas.{day_count-epoch, days_from_civil-day_count}
-use Rattle.date_spec.specs.Calendar as calendar
-use Rattle.date_spec.specs.Calendar.{is_leap, year_days, month_days, month_lengths, days_before_year, days_before_month, days_before, day_number, is_date}
+use Rattle.date_spec.specs.Calendar.{year_days, month_days, days_before_year, days_before_month, days_before, day_number, is_date}
 
 back : (y : ℕ) → pos (y + 10000) -ℤ pos 10000 ≡ pos y
 back y = omega (arith, signed_arith)

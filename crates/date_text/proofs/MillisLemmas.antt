@@ -1,17 +1,17 @@
 -- Texts of digits, and the places in a text.
-use Rattle.std.proofs.Common.{◌≡◌, ◌≢◌, ℕ, zero, suc, ◌+◌, ◌-◌, ◌<◌, ◌≤◌, Bool, true, false, ◌&&◌, cond, List, [], ◌∷◌, length, get_or, take, drop, refl, sym, ◌∙◌, ap, arith, ℤ, pos, neg_ℤ, ◌<ℤ◌, FitsSigned, w64, ◌⊎◌, inl, inr}
+use Rattle.std.proofs.Common.{◌≡◌, ℕ, zero, suc, ◌+◌, ◌<◌, ◌≤◌, Bool, true, false, ◌&&◌, List, [], ◌∷◌, length, get_or, take, drop, refl, sym, ◌∙◌, ap, arith, ℤ, pos, neg_ℤ, ◌<ℤ◌, FitsSigned, w64, ◌⊎◌, inl, inr}
 use Rattle.std.specs.Prelude.{nat_le, min, ◌==◌}
 use Rattle.std.specs.Char.{is_ascii_digit}
 use Rattle.std.specs.List.{list_all, position_or_len}
 use Rattle.std.specs.Str.{all_ascii_digits}
-use Rattle.std.specs.Str.Parse.{IsNumeral, AllDigits, without_leading_sign, without_leading_plus, starts_with_minus, signed_digits_value}
-use Rattle.std.proofs.lemmas.Bool.{false≢true, le-leb, lt-leb, leb-true}
+use Rattle.std.specs.Str.Parse.{IsNumeral, without_leading_sign, without_leading_plus, starts_with_minus, signed_digits_value}
+use Rattle.std.proofs.lemmas.Bool.{le-leb, lt-leb, leb-true}
 use Rattle.std.proofs.lemmas.Bool.Decides.{nat_tests}
 use Rattle.std.proofs.lemmas.Int.{ints, by_lt_z}
 use Rattle.std.proofs.lemmas.List.{take_all}
 use Rattle.std.proofs.Math.ListN.{drop_of_length-le}
 use Rattle.std.proofs.lemmas.Str.Parse.{numerals_by_value, tells_all_ascii_digits}
-use Rattle.date_spec.specs.DateTexts.{digits_of, is_millis, begins_offset, clock_length}
+use Rattle.date_spec.specs.DateTexts.{digits_of, is_millis}
 use Rattle.date_spec.specs.Instants.{is_in_range}
 use Rattle.date_spec.proofs.ShapeLemmas.{and_first, and_second}
 
@@ -40,14 +40,14 @@ is_millis-longer text high = rw (lt-leb _ 19 high, and_no (nat_le 5 (length (dig
 position_next : (p : ℕ → Bool) (x : ℕ) (xs : List ℕ) (i : ℕ) → position_or_len p (take (suc i) (x ∷ xs)) ≡ suc i → (position_or_len p (take i xs) ≡ i → position_or_len p (take (i + 1) xs) ≡ i + 1) → position_or_len p (take (suc (i + 1)) (x ∷ xs)) ≡ suc (i + 1)
 position_next p x xs i h f = position_split p x (take i xs) (take (i + 1) xs) i h f
   where
-  position_split : (p : ℕ → Bool) (x : ℕ) (front longer : List ℕ) (i : ℕ) → position_or_len p (x ∷ front) ≡ suc i → (position_or_len p front ≡ i → position_or_len p longer ≡ i + 1) → position_or_len p (x ∷ longer) ≡ suc (i + 1)
-  position_split p x front longer i h f = grind arith
+    position_split : (p : ℕ → Bool) (x : ℕ) (front longer : List ℕ) (i : ℕ) → position_or_len p (x ∷ front) ≡ suc i → (position_or_len p front ≡ i → position_or_len p longer ≡ i + 1) → position_or_len p (x ∷ longer) ≡ suc (i + 1)
+    position_split p x front longer i h f = grind arith
 
 position_at : (p : ℕ → Bool) (x : ℕ) (xs : List ℕ) (i : ℕ) → position_or_len p (take (suc i) (x ∷ xs)) ≡ suc i → (position_or_len p (take i xs) ≡ i → position_or_len p xs ≡ i) → position_or_len p (x ∷ xs) ≡ suc i
 position_at p x xs i h f = position_still p x (take i xs) xs i h f
   where
-  position_still : (p : ℕ → Bool) (x : ℕ) (front xs : List ℕ) (i : ℕ) → position_or_len p (x ∷ front) ≡ suc i → (position_or_len p front ≡ i → position_or_len p xs ≡ i) → position_or_len p (x ∷ xs) ≡ suc i
-  position_still p x front xs i h f = grind arith
+    position_still : (p : ℕ → Bool) (x : ℕ) (front xs : List ℕ) (i : ℕ) → position_or_len p (x ∷ front) ≡ suc i → (position_or_len p front ≡ i → position_or_len p xs ≡ i) → position_or_len p (x ∷ xs) ≡ suc i
+    position_still p x front xs i h f = grind arith
 
 pub position_none : (p : ℕ → Bool) (xs : List ℕ) → position_or_len p (take 0 xs) ≡ 0
 position_none p xs = refl
@@ -72,26 +72,27 @@ cases_le m n = grind arith
 
 pub take_least : (n : ℕ) (xs : List ℕ) → take (min n (length xs)) xs ≡ take n xs
 take_least n xs = elim (cases_le n (length xs)) [
-    | inl le ↦ let same : min n (length xs) ≡ n = omega arith in ap (λ k. take k xs) same
-    | inr gt ↦ let same : min n (length xs) ≡ length xs = omega arith in
+  | inl le ↦ let same : min n (length xs) ≡ n = omega arith in ap (λ k. take k xs) same
+  | inr gt ↦ let same : min n (length xs) ≡ length xs = omega arith in
       ap (λ k. take k xs) same ∙ take_all (length xs) xs (omega arith) ∙ sym (take_all n xs (omega arith))
-  ]
+]
 
 pub drop_least : (n : ℕ) (xs : List ℕ) → drop (min n (length xs)) xs ≡ drop n xs
 drop_least n xs = elim (cases_le n (length xs)) [
-    | inl le ↦ let same : min n (length xs) ≡ n = omega arith in ap (λ k. drop k xs) same
-    | inr gt ↦ let same : min n (length xs) ≡ length xs = omega arith in
+  | inl le ↦ let same : min n (length xs) ≡ n = omega arith in ap (λ k. drop k xs) same
+  | inr gt ↦ let same : min n (length xs) ≡ length xs = omega arith in
       ap (λ k. drop k xs) same ∙ drop_short (length xs) xs (omega arith) ∙ sym (drop_short n xs (omega arith))
-  ]
+]
 
 -- a number of more than 64 bits lies beyond the range
 beyond_range : (z : ℤ) → (FitsSigned w64 z → ⊥) → is_in_range z ≡ false
 beyond_range z big = by_lt_z z (neg_ℤ (pos 62_167_219_200_000)) (λ low. in_first z low) (λ ge. by_lt_z (pos 253_402_214_399_999) z (λ high. in_second z high) (λ le. let fits : FitsSigned w64 z = omega (arith, ints) in absurd (big fits)))
   where
-  in_first : (z : ℤ) → z <ℤ neg_ℤ (pos 62_167_219_200_000) → is_in_range z ≡ false
-  in_first z low = grind (arith, ints)
-  in_second : (z : ℤ) → pos 253_402_214_399_999 <ℤ z → is_in_range z ≡ false
-  in_second z high = grind (arith, ints)
+    in_first : (z : ℤ) → z <ℤ neg_ℤ (pos 62_167_219_200_000) → is_in_range z ≡ false
+    in_first z low = grind (arith, ints)
+
+    in_second : (z : ℤ) → pos 253_402_214_399_999 <ℤ z → is_in_range z ≡ false
+    in_second z high = grind (arith, ints)
 
 digit_no_plus : (c : ℕ) → is_ascii_digit c ≡ true → (c == 43) ≡ false
 digit_no_plus c h = grind (arith, nat_tests)

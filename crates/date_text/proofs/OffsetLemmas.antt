@@ -1,14 +1,13 @@
 -- Offsets by their parts.
-use Rattle.std.proofs.Common.{◌≡◌, ℕ, ◌+◌, ◌-◌, ◌*◌, ◌<◌, ◌≤◌, Bool, true, false, ◌&&◌, ◌||◌, List, [], ◌∷◌, length, take, drop, refl, sym, ◌∙◌, ap, arith, Some, None, pos, neg_ℤ}
-use Rattle.std.specs.Prelude.{if◌then◌else◌, Option, codes, nat_lt, nat_le}
-use Rattle.std.specs.List.{list_any}
+use Rattle.std.proofs.Common.{◌≡◌, ℕ, ◌+◌, ◌-◌, ◌*◌, ◌<◌, ◌≤◌, Bool, true, false, ◌||◌, List, [], ◌∷◌, length, take, drop, refl, sym, ◌∙◌, ap, arith, Some, None, pos, neg_ℤ}
+use Rattle.std.specs.Prelude.{if◌then◌else◌, Option, codes}
 use Rattle.std.specs.Str.Parse.{AllDigits, digits_value}
 use Rattle.std.proofs.lemmas.Bool.{false≢true}
 use Rattle.std.proofs.lemmas.List.{take_all, length-drop}
 use Rattle.date_spec.proofs.ShapeLemmas.{has_shape-length, has_shape-take, has_shape-drop, digits_of_shape}
 use Rattle.std.proofs.lemmas.Bool.Decides.{nat_tests}
 use Rattle.date_spec.specs.Shapes.{has_shape, number_at}
-use Rattle.date_spec.specs.DateTexts.{offset_shapes, beside_hours, minutes_of, is_offset, ahead_of}
+use Rattle.date_spec.specs.DateTexts.{beside_hours, minutes_of, is_offset, ahead_of}
 use Rattle.date_text.specs.Parts.{parts_of}
 
 abbrev Pair : Type 0

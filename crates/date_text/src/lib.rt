@@ -1,13 +1,11 @@
-//! The texts of dates: read to an instant, and printed of one.
+//! The texts of dates, read to the instants that they name.
 #![tactic(auto)]
 
 mod calendar;
 mod clocks;
 mod offsets;
-mod printing;
 mod reading;
 mod shapes;
 
 pub use date_spec::DateFault;
-pub use printing::print;
 pub use reading::read;

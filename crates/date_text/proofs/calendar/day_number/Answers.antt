@@ -1,5 +1,5 @@
 -- The calendar crate has the dates of the definitions, with their numbers.
-use Rattle.std.proofs.Common.{arith, ◌≡◌, pos, FitsSigned, w32, w64, to_z, of_z}
+use Rattle.std.proofs.Common.{arith, ◌≡◌, pos, w64, to_z, of_z}
 use Rattle.std.proofs.lemmas.Int.{ints}
 use Rattle.jiff_core.specs.Date.{epoch_day}
 use Rattle.date_text.proofs.Days.{numbered-epoch_day}

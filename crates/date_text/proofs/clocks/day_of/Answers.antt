@@ -1,5 +1,5 @@
 -- The digits of a date stand in their places.
-use Rattle.std.proofs.Common.{◌≡◌, ◌^◌, ◌<◌, arith, refl, take, drop}
+use Rattle.std.proofs.Common.{arith, refl, take, drop}
 use Rattle.date_spec.specs.DateTexts.{date_in}
 use Rattle.date_spec.proofs.TextLemmas.{whole-digits}
 use Rattle.date_text.proofs.ClockLemmas.{few, small}

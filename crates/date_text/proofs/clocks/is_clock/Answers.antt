@@ -1,6 +1,5 @@
 -- A clock is told by its length and its shape.
-use Rattle.std.proofs.Common.{arith, ◌≡◌, ◌∙◌, sym, length, true, false}
-use Rattle.std.proofs.lemmas.Grind.{common_steps}
+use Rattle.std.proofs.Common.{◌≡◌, ◌∙◌, sym, length, true, false}
 use Rattle.date_spec.specs.DateTexts.{is_clock, may_leave_off}
 use Rattle.date_text.proofs.clocks.is_clock.Goals as goal
 

@@ -1,5 +1,5 @@
 -- The instant is made of the day and the time.
-use Rattle.std.proofs.Common.{◌≡◌, ◌∙◌, sym, ap, arith, Some, pos, ◌*ℤ◌, ◌+ℤ◌, ◌-ℤ◌}
+use Rattle.std.proofs.Common.{◌∙◌, sym, ap, arith, Some}
 use Rattle.std.proofs.lemmas.Int.{ints}
 use Rattle.date_text.proofs.ClockLemmas.{shown_at-no_date, shown_at-no_time, shown_at-both}
 use Rattle.date_text.proofs.clocks.shown_at.Goals as goal

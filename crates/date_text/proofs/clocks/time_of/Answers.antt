@@ -1,5 +1,5 @@
 -- The digits of a time stand in their places.
-use Rattle.std.proofs.Common.{◌≡◌, arith, refl, drop}
+use Rattle.std.proofs.Common.{arith, refl, drop}
 use Rattle.date_spec.specs.DateTexts.{time_in}
 use Rattle.date_spec.proofs.TextLemmas.{whole-digits}
 use Rattle.date_text.proofs.ClockLemmas.{few}

@@ -1,5 +1,5 @@
 -- What a sign says of the minutes behind it.
-use Rattle.std.proofs.Common.{◌≡◌, ◌≢◌, ◌∙◌, sym, ap, arith, rules, refl, Some, None, pos, neg_ℤ, [], ◌∷◌, length, List, ℕ, ◌<◌, ◌*◌}
+use Rattle.std.proofs.Common.{◌≡◌, ◌∙◌, sym, ap, arith, Some, ◌∷◌, length, ◌<◌}
 use Rattle.std.proofs.lemmas.Int.{ints}
 use Rattle.std.proofs.lemmas.Bool.{eqb-true, eqb-false}
 use Rattle.date_spec.specs.DateTexts.{ahead_of}

@@ -1,5 +1,5 @@
 -- The minutes of an offset by its parts.
-use Rattle.std.proofs.Common.{◌≡◌, ◌∙◌, sym, arith}
+use Rattle.std.proofs.Common.{◌∙◌, sym, arith}
 use Rattle.date_text.proofs.OffsetLemmas.{no_parts, in_range, beyond}
 use Rattle.date_text.proofs.offsets.minutes_of.Goals as goal
 

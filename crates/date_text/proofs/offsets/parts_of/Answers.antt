@@ -1,5 +1,5 @@
 -- Offsets by their shapes.
-use Rattle.std.proofs.Common.{◌≡◌, ◌∙◌, sym, arith, refl, length, take, drop, ◌-◌}
+use Rattle.std.proofs.Common.{◌∙◌, sym, arith, refl, length, take, drop, ◌-◌}
 use Rattle.std.specs.Prelude.{codes}
 use Rattle.date_spec.proofs.ShapeLemmas.{digits_of_shape, has_shape-length}
 use Rattle.date_text.proofs.ClockLemmas.{small, few}

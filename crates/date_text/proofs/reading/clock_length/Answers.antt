@@ -1,5 +1,5 @@
 -- What stands before an offset has a date's length or more.
-use Rattle.std.proofs.Common.{◌≡◌, ◌∙◌, ap, sym, refl, ◌+◌, ◌≤◌, arith, length, drop, take}
+use Rattle.std.proofs.Common.{◌∙◌, ap, refl, ◌+◌, ◌≤◌, arith, length, drop}
 use Rattle.std.proofs.lemmas.List.{take_all, length-drop}
 use Rattle.std.specs.List.{position_or_len}
 use Rattle.date_spec.specs.DateTexts.{begins_offset, clock_length}

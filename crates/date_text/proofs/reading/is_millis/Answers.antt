@@ -1,5 +1,5 @@
 -- The digits by how many they are.
-use Rattle.std.proofs.Common.{◌≡◌, ◌∙◌, sym, arith, length, ap}
+use Rattle.std.proofs.Common.{◌∙◌, arith, length, ap}
 use Rattle.std.specs.List.{list_all}
 use Rattle.std.specs.Char.{is_ascii_digit}
 use Rattle.date_text.proofs.MillisLemmas.{is_millis-long, is_millis-short, is_millis-longer}

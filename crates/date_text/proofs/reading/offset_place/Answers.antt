@@ -1,5 +1,5 @@
 -- No place before the first begins an offset.
-use Rattle.std.proofs.Common.{◌≡◌, ◌∙◌, sym, arith}
+use Rattle.std.proofs.Common.{◌∙◌, sym, arith}
 use Rattle.date_spec.specs.DateTexts.{begins_offset}
 use Rattle.date_text.proofs.MillisLemmas.{position_none, position_more, position_found}
 use Rattle.date_text.proofs.reading.offset_place.Goals as goal

@@ -1,5 +1,5 @@
 -- What a text names, by its form.
-use Rattle.std.proofs.Common.{◌≡◌, ◌∙◌, sym, ap, arith, refl, true, pos, Some, take, drop, length, ℕ}
+use Rattle.std.proofs.Common.{◌≡◌, ◌∙◌, sym, ap, arith, take, drop, length, ℕ}
 use Rattle.std.specs.Prelude.{min}
 use Rattle.date_spec.specs.DateTexts.{ranged, read_date, clock_length, instant_of_clock, named_instant}
 use Rattle.date_spec.proofs.ShapeLemmas.{has_shape-take}

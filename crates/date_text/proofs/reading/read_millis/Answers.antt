@@ -1,5 +1,5 @@
 -- Digits that are no number of 64 bits name an instant beyond the range.
-use Rattle.std.proofs.Common.{◌≡◌, refl}
+use Rattle.std.proofs.Common.{refl}
 use Rattle.date_text.proofs.MillisLemmas.{millis_beyond}
 use Rattle.date_text.proofs.reading.read_millis.Goals as goal
 

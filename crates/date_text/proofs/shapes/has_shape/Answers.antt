@@ -1,7 +1,5 @@
 -- A shape is told place by place.
-use Rattle.std.proofs.Common.{◌≡◌, ◌∙◌, sym, arith, take, length, true, false}
-use Rattle.std.proofs.lemmas.Bool.{both_ways}
-use Rattle.date_spec.specs.Shapes.{has_shape}
+use Rattle.std.proofs.Common.{sym, arith}
 use Rattle.date_spec.proofs.ShapeLemmas.{has_shape-apart, has_shape-at, has_shape_none, has_shape_more}
 use Rattle.date_text.proofs.shapes.has_shape.Goals as goal
 
