@@ -1,0 +1,4 @@
+pub mod Calendar
+pub mod Instants
+pub mod Shapes
+pub mod DateTexts

@@ -1,0 +1,4 @@
+pub mod Days
+pub mod ClockLemmas
+pub mod OffsetLemmas
+pub mod MillisLemmas
