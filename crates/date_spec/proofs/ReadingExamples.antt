@@ -1,7 +1,7 @@
 -- What texts read as, computed by the definitions and compared with values from outside.
 use Rattle.std.specs.Prelude.{◌≡◌, refl, pos, negsuc, [], ◌∷◌, map, Ok, Err, codes}
 use Rattle.date_spec.specs.declared.fault.DateFault.TheVariants.{Malformed, OutOfRange}
-use Rattle.date_spec.specs.DateTexts.{read_date, named_instant}
+use Rattle.date_spec.specs.DateTexts.{read_date}
 use Rattle.date_spec.proofs.Computing.{computing}
 
 years_months_and_days :

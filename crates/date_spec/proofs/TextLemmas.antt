@@ -1,14 +1,14 @@
 -- Texts in full: what they name, and what is whole of a clock.
-use Rattle.std.proofs.Common.{◌≡◌, ℕ, zero, suc, ◌+◌, ◌-◌, ◌≤◌, ◌<◌, Bool, true, false, ◌&&◌, ◌||◌, not, List, [], ◌∷◌, ◌++◌, length, take, drop, refl, sym, ◌∙◌, ap, subst, arith, Some, None, pos, IsTrue, append-nil, length-drop}
+use Rattle.std.proofs.Common.{◌≡◌, ℕ, zero, suc, ◌+◌, ◌≤◌, Bool, true, false, ◌||◌, not, List, [], ◌∷◌, ◌++◌, length, take, drop, refl, ◌∙◌, ap, subst, arith, Some, pos, append-nil, length-drop}
 use Rattle.std.proofs.lemmas.List.{take_all}
-use Rattle.std.specs.Prelude.{replicate, codes, nat_le, ◌==◌, Option, ℤ}
-use Rattle.std.specs.List.{list_all, position_or_len, position}
+use Rattle.std.specs.Prelude.{replicate, codes, ◌==◌}
+use Rattle.std.specs.List.{list_all, position_or_len}
 use Rattle.std.specs.Str.Parse.{AllDigits, signed_digits_value}
-use Rattle.std.proofs.lemmas.Bool.{false≢true, lt-leb}
+use Rattle.std.proofs.lemmas.Bool.{false≢true}
 use Rattle.std.proofs.lemmas.Bool.Decides.{nat_tests}
 use Rattle.date_spec.specs.Shapes.{has_shape, stands_for}
-use Rattle.date_spec.specs.DateTexts.{digits_of, is_millis, longest_clock, may_leave_off, is_clock, whole_clock, ahead_of, shown_at, begins_offset, clock_length, instant_of_clock, named_instant}
-use Rattle.date_spec.proofs.ShapeLemmas.{and_first, and_second, and_both, has_shape-length, has_shape-take, has_shape-drop, has_shape-append, digits_of_shape}
+use Rattle.date_spec.specs.DateTexts.{is_millis, longest_clock, may_leave_off, is_clock, whole_clock, ahead_of, shown_at, begins_offset, clock_length, instant_of_clock, named_instant}
+use Rattle.date_spec.proofs.ShapeLemmas.{and_first, and_second, has_shape-length, has_shape-take, has_shape-drop, has_shape-append, digits_of_shape}
 
 -- a clock with all its parts, and three digits of a fraction
 abbrev pub whole_shape : List ℕ
@@ -49,10 +49,10 @@ whole-digits clock b n h e =
     digits_of_shape n (take n (drop b clock)) (subst (λ s. has_shape s (take n (drop b clock)) ≡ true) e (has_shape-take (drop b whole_shape) (drop b clock) n (has_shape-drop whole_shape clock b h)))
 
 -- a place at which no offset begins
-abbrev plain : ℕ → Bool
+abbrev pub plain : ℕ → Bool
 plain place = (place == 48) || not (begins_offset place)
 
-plain_stands : (place c : ℕ) → plain place ≡ true → stands_for place c ≡ true → begins_offset c ≡ false
+pub plain_stands : (place c : ℕ) → plain place ≡ true → stands_for place c ≡ true → begins_offset c ≡ false
 plain_stands place c p h = grind (arith, nat_tests)
 
 z_stands : (c : ℕ) → stands_for 90 c ≡ true → c ≡ 90
@@ -82,7 +82,7 @@ unfolding clock_length
 full_clock_length text h =
     ap (λ n. 10 + n) (position-of_z (codes "T00:00:00.000") (drop 10 text) refl (has_shape-drop full_shape text 10 h))
 
-z_alone : (cs : List ℕ) → has_shape (90 ∷ []) cs ≡ true → cs ≡ 90 ∷ []
+pub z_alone : (cs : List ℕ) → has_shape (90 ∷ []) cs ≡ true → cs ≡ 90 ∷ []
 unfolding has_shape
 z_alone [] h = absurd (false≢true h)
 z_alone (c ∷ []) h = ap (λ x. x ∷ []) (z_stands c (and_first (stands_for 90 c) _ h))
@@ -105,7 +105,7 @@ full_whole text h =
     let long : length (take 23 text) ≡ 23 = has_shape-length whole_shape (take 23 text) (has_shape-take full_shape text 23 h) in
     rw long (append-nil (take 23 (take 23 text)) ∙ take_all 23 (take 23 text) (omega arith))
 
-ahead_of_z : ahead_of (90 ∷ []) ≡ Some (pos 0)
+pub ahead_of_z : ahead_of (90 ∷ []) ≡ Some (pos 0)
 unfolding ahead_of
 ahead_of_z = refl
 

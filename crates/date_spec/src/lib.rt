@@ -1,10 +1,13 @@
-//! Dates, said once: the Gregorian calendar, instants in milliseconds, and the texts that name them. This crate has
-//! definitions, their laws, two constants and one type that readers answer with.
+//! Dates, said once: the Gregorian calendar, instants in milliseconds, the texts that name them, and the
+//! periods that hold them. This crate has definitions, their laws, and the types and constants that they speak of.
 #![tactic(auto)]
 
 mod fault;
 pub mod laws;
+mod period;
+pub mod period_laws;
 mod range;
 
 pub use fault::DateFault;
+pub use period::{GREATEST_INTERVAL, Period};
 pub use range::{GREATEST_INSTANT, LEAST_INSTANT};

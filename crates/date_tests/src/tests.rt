@@ -1,4 +1,7 @@
-use date_text::{DateFault, read};
+use date_spec::{GREATEST_INSTANT, LEAST_INSTANT};
+use date_text::{DateFault, print, read};
+use std::alloc::Global;
+use std::test::Fail;
 
 /// Texts and what they read as, with values from outside.
 static TEXTS: [(&str, Result<i64, DateFault>); 135] = [
@@ -144,4 +147,79 @@ fn texts_read_as_the_definitions_say(rt: HostRuntime) {
     for (text, instant) in &TEXTS {
         assert_eq!(rt; read(text), *instant, "{text}");
     }
+}
+
+/// Instants, what stands for the offset, and what they print as, with values from outside.
+static PRINTED: [(i64, &str, &str); 16] = [
+    (-62_167_219_200_000, "Z", "0000-01-01T00:00:00.000Z"),
+    (253_402_214_399_999, "Z", "9999-12-30T23:59:59.999Z"),
+    (0, "Z", "1970-01-01T00:00:00.000Z"),
+    (-1, "Z", "1969-12-31T23:59:59.999Z"),
+    (-86_400_000, "Z", "1969-12-31T00:00:00.000Z"),
+    (-86_400_001, "Z", "1969-12-30T23:59:59.999Z"),
+    (-62_135_683_200_001, "Z", "0000-12-30T23:59:59.999Z"),
+    (-2_203_891_200_001, "Z", "1900-02-28T23:59:59.999Z"),
+    (-2_203_891_200_000, "Z", "1900-03-01T00:00:00.000Z"),
+    (951_782_400_000, "Z", "2000-02-29T00:00:00.000Z"),
+    (1_709_164_799_999, "Z", "2024-02-28T23:59:59.999Z"),
+    (1_709_251_199_999, "Z", "2024-02-29T23:59:59.999Z"),
+    (1_709_254_861_001, "Z", "2024-03-01T01:01:01.001Z"),
+    (1_706_745_600_000, "+01:00", "2024-02-01T00:00:00.000+01:00"),
+    (1_706_731_200_045, "-03:00", "2024-01-31T20:00:00.045-03:00"),
+    (1_704_067_200_000, "", "2024-01-01T00:00:00.000"),
+];
+
+/// The text of an instant in range.
+fn printed(alloc: Global, instant: i64, offset: &str) -> Result<String, Fail> {
+    if instant < LEAST_INSTANT || instant > GREATEST_INSTANT {
+        return Err(Fail::new("an instant out of range"));
+    }
+    Ok(print(alloc, instant, offset)?)
+}
+
+#[test]
+fn instants_print_as_the_definitions_say(rt: HostRuntime) -> Result<(), Fail> {
+    for (instant, offset, text) in &PRINTED {
+        let printed = printed(rt.alloc(), *instant, offset)?;
+        assert_eq!(rt; printed.as_str(), *text);
+    }
+    Ok(())
+}
+
+/// Offsets, and the milliseconds by which their clocks are ahead of UTC.
+static OFFSETS: [(&str, i64); 6] = [
+    ("Z", 0),
+    ("+01:00", 3_600_000),
+    ("-03:00", -10_800_000),
+    ("+0530", 19_800_000),
+    ("-18", -64_800_000),
+    ("+18:00", 64_800_000),
+];
+
+/// Whether what clocks with these offsets show at an instant is printed, and read as the instant.
+fn is_read_back(alloc: Global, instant: i64) -> Result<bool, Fail> {
+    for (offset, ahead) in &OFFSETS {
+        let text = printed(alloc, instant.saturating_add(*ahead), offset)?;
+        if read(text.as_str()) != Ok(instant) {
+            return Ok(false);
+        }
+    }
+    Ok(true)
+}
+
+#[test]
+fn what_is_printed_reads_as_the_instant(rt: HostRuntime) -> Result<(), Fail> {
+    for instant in [
+        -62_167_154_400_000,
+        -2_203_891_200_001,
+        -86_400_001,
+        -1,
+        0,
+        951_782_400_000,
+        1_709_251_199_999,
+        253_402_149_599_999,
+    ] {
+        assert!(rt; is_read_back(rt.alloc(), instant)?, "{instant}");
+    }
+    Ok(())
 }

@@ -17,7 +17,7 @@ few n xs = omega (arith, length-take n xs)
 pub small : (k : ℕ) (ds : List ℕ) (n : ℕ) → AllDigits 10 ds → length ds ≤ k → n ≡ digits_value 10 ds → n < 10 ^ k
 small k ds n h few e = let short = digits_value_short (numerals_by_value _ tells_digits) ds k h few in omega (arith, e, short)
 
-some_if : (b : Bool) (x y : ℤ) → Some y ≡ (if b then Some x else None) → (b ≡ true) × (y ≡ x)
+pub some_if : (b : Bool) (x y : ℤ) → Some y ≡ (if b then Some x else None) → (b ≡ true) × (y ≡ x)
 some_if true x y e = (refl, cc)
 some_if false x y e = cc
 

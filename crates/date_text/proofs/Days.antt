@@ -1,5 +1,7 @@
 -- The days of the calendar crate are those of the definitions.
-use Rattle.std.proofs.Common.{◌≡◌, ℕ, zero, suc, ◌+◌, ◌-◌, ◌≤◌, ◌<◌, true, refl, sym, ◌∙◌, ap, subst, arith, Some, ℤ, pos, ◌-ℤ◌}
+use Rattle.std.proofs.Common.{◌≡◌, ℕ, zero, suc, ◌+◌, ◌-◌, ◌≤◌, ◌<◌, true, refl, sym, ◌∙◌, ap, subst, arith, Some, ℤ, pos, neg_ℤ, ◌-ℤ◌, ◌≤ℤ◌}
+use Rattle.std.specs.Prelude.{unsigned_abs}
+use Rattle.std.proofs.lemmas.Int.{ints, by_lt_z}
 use Rattle.jiff_core.specs.Calendar.{days_in_month, days_of_years, days_of_months, day_count, days_from_civil}
 use Rattle.std.proofs.lemmas.Bool.{le-leb}
 use Rattle.date_spec.proofs.ShapeLemmas.{and_both}
@@ -7,8 +9,10 @@ use Rattle.date_text.specs.Parts.{numbered}
 use Rattle.jiff_core.specs.declared.civil.date.Date.{Date}
 use Rattle.jiff_core.specs.Date.{epoch_day}
 use Rattle.jiff_core.proofs.SignedLemmas.{signed_arith}
-use Rattle.jiff_core.proofs.CalendarLemmas.{day_count-epoch, days_from_civil-day_count}
-use Rattle.date_spec.specs.Calendar.{year_days, month_days, days_before_year, days_before_month, days_before, day_number, is_date}
+use Rattle.jiff_core.proofs.CalendarLemmas.{day_count-epoch, days_from_civil-day_count, day_count-lt_year}
+use Rattle.date_spec.specs.Calendar.{year_days, month_days, days_before_year, days_before_month, days_before, day_number, is_date, date_of}
+use Rattle.date_spec.proofs.DayLemmas.{date_of-day_number}
+use Rattle.date_text.proofs.ClockLemmas.{some_if}
 
 back : (y : ℕ) → pos (y + 10000) -ℤ pos 10000 ≡ pos y
 back y = omega (arith, signed_arith)
@@ -94,3 +98,21 @@ numbered-epoch_day date y m d number year month day e =
     let last : d ≤ days_in_month (pos y) m = rw (year, month, day) at date.day_in.1 in
     let here : number ≡ days_from_civil (pos y) m d = rw (year, month, day) at e in
     rw (is_date-here y m d low high first last) (ap Some (here ∙ days_from_civil-here y m d low high first))
+
+days_before-zero : days_before (record { year = 0; month = 1; day = 1 }) ≡ 0
+unfolding days_before_year days_before_month
+days_before-zero = refl
+
+-- no year before the year 0000 has a day of this number or a later one
+pub year_from_zero : (date : Date) → neg_ℤ (pos 719_528) ≤ℤ epoch_day date → pos 0 ≤ℤ date.year
+year_from_zero date h =
+    by_lt_z date.year (pos 0)
+    (λ before. absurd (omega (arith, signed_arith, days_from_civil-day_count date.year date.month date.day, day_count-lt_year date.year date.month date.day (pos 0) 1 1 (date.year_in, date.month_in, date.day_in) (omega arith) before, day_count-here 0 1 1 (omega arith) (omega arith) (omega arith), days_before-zero, days_before-first)))
+    (λ from. from)
+
+-- the date of the calendar crate with a number is the date of that number
+pub date_of-epoch_day : (date : Date) → pos 0 ≤ℤ date.year → date_of (epoch_day date) ≡ record { year = unsigned_abs date.year; month = date.month; day = date.day }
+date_of-epoch_day date from =
+    let year : date.year ≡ pos (unsigned_abs date.year) = omega (arith, ints) in
+    let number = some_if _ (day_number (record { year = unsigned_abs date.year; month = date.month; day = date.day })) (epoch_day date) (numbered-epoch_day date (unsigned_abs date.year) date.month date.day (epoch_day date) year refl refl refl) in
+    ap date_of number.1 ∙ date_of-day_number (record { year = unsigned_abs date.year; month = date.month; day = date.day }) number.0

@@ -1,8 +1,13 @@
 //! Days by their numbers, and times of day in milliseconds.
-ghost use Rattle.std.specs.Prelude.{◌≡◌, ◌≤◌, ◌≤ℤ◌, pos, neg_ℤ, IfSome};
+ghost use Rattle.std.specs.Prelude.{◌≡◌, ◌<◌, ◌≤◌, ◌≤ℤ◌, pos, neg_ℤ, unsigned_abs, IfSome, IsTrue};
+ghost use Rattle.std.specs.Int.{int_div_euclid, int_rem_euclid};
+ghost use Rattle.date_spec.specs.Instants.{date_at, is_in_range};
 ghost use Rattle.date_text.specs.Parts.{numbered, timed};
 
 use jiff_core::civil::Date;
+
+/// The milliseconds of a day.
+pub(crate) const DAY_MILLIS: i64 = 86_400_000;
 
 /// The number of the day with this date; none where the calendar does not have it.
 pub(crate) fn day_number(year: u16, month: u16, day: u16) -> Option<i64>
@@ -28,4 +33,30 @@ pub(crate) fn time_millis(hour: u16, minute: u16, second: u16, milli: u16) -> Op
     }
     let minutes = i64::from(hour) * 60 + i64::from(minute);
     Some((minutes * 60 + i64::from(second)) * 1000 + i64::from(milli))
+}
+
+/// The number of the day at an instant, in UTC.
+fn day_at(instant: i64) -> i64
+    ensures { result ≡ int_div_euclid instant (pos 86_400_000) }
+{
+    instant.div_euclid(DAY_MILLIS)
+}
+
+/// The date that a clock in UTC shows at an instant.
+pub(crate) fn date_at(instant: i64) -> Date
+    requires { IsTrue (is_in_range instant) }
+    ensures { date_at instant ≡ record { year = unsigned_abs result.year; month = result.month; day = result.day } }
+{
+    match Date::from_unix_epoch_day(day_at(instant)) {
+        Ok(date) => date,
+        Err(_) => unreachable!(),
+    }
+}
+
+/// The milliseconds since midnight at an instant, in UTC.
+pub(crate) fn millis_at(instant: i64) -> u32
+    ensures millis { result ≡ unsigned_abs (int_rem_euclid instant (pos 86_400_000)) }
+    ensures bound { result < 86_400_000 }
+{
+    instant.rem_euclid(DAY_MILLIS) as u32
 }

@@ -4,10 +4,8 @@ ghost use Rattle.date_spec.specs.DateTexts as definition;
 ghost use Rattle.date_spec.specs.DateTexts.{date_in, may_leave_off, time_in, whole_clock};
 ghost use Rattle.date_text.specs.Parts.{IsOffset, IsWhole, numbered, timed};
 
-use crate::calendar::{day_number, time_millis};
+use crate::calendar::{DAY_MILLIS, day_number, time_millis};
 use crate::shapes::{has_shape, number};
-
-const DAY_MILLIS: i64 = 86_400_000;
 
 /// The longest clock, in which `0` stands for any digit.
 const LONGEST: &[u8] = b"0000-00-00T00:00:00.000000000";

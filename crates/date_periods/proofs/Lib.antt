@@ -1,0 +1,2 @@
+mod CivilMonths
+mod ReachLemmas
