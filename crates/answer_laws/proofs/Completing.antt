@@ -24,7 +24,7 @@ use Rattle.answer_laws.proofs.Untripped.{solo-plain}
 use Rattle.answer_laws.proofs.WavesWithRoom.{wave-plain}
 
 -- a test of each line holds of both parts
-both-parts : (p : Line → Bool) (front back : List Line) → list_all p (front ++ back) ≡ true → (list_all p front ≡ true) × (list_all p back ≡ true)
+pub both-parts : (p : Line → Bool) (front back : List Line) → list_all p (front ++ back) ≡ true → (list_all p front ≡ true) × (list_all p back ≡ true)
 both-parts p front back all = and_parts (list_all p front) (list_all p back) (sym (list_all-append p front back) ∙ all)
 
 from-parts : (p : Line → Bool) (front back : List Line) → list_all p front ≡ true → list_all p back ≡ true → list_all p (front ++ back) ≡ true
@@ -111,7 +111,7 @@ module _ (change : Change) (words : Settings) (s : LoadedScript) where
   answers-quiet segments written at_end h printed room =
       ap (list_all is_quiet_line) h.lines ∙ segments-quiet change words s.index s.columns start segments h.rounds (answers-plain segments written at_end h printed room)
 
-  ended-printed : (written : List Line) (ends : EndsWell change words s written) → IsTrue (all_printed written) → IsTrue (all_printed ends.answers)
+  pub ended-printed : (written : List Line) (ends : EndsWell change words s written) → IsTrue (all_printed written) → IsTrue (all_printed ends.answers)
   ended-printed written ends printed = (both-parts is_printed ends.answers (statistics ends.totals ∷ []) (sym (ap all_printed ends.lines) ∙ printed)).0
 
   pub whole-plain : (written : List Line) (ends : EndsWell change words s written) → IsTrue (all_printed written) → HaveRoom s ends.answered.rounds → ArePlain s ends.answered.rounds

@@ -35,7 +35,7 @@ module _ (index : Index) (columns : ℕ) where
   Rooms = AllByRecursion (HasRoom index columns)
 
   -- the waves of these searches, answered by the whole reduction
-  abbrev plain_waves : Settings → List (List Request) → List Round
+  abbrev pub plain_waves : Settings → List (List Request) → List Round
   plain_waves now = map (plain_round index columns now)
 
   asks-waves : (now : Settings) (waves : List (List Request)) → map (λ (r : Round). r.requests) (plain_waves now waves) ≡ waves
@@ -46,7 +46,7 @@ module _ (index : Index) (columns : ℕ) where
   each-plain now [] = tt
   each-plain now (wave ∷ waves) = ((refl, refl), each-plain now waves)
 
-  waves-answer : (now : Settings) (requests : List Request) → now.scan ≡ false → AreRounds index columns (IsPlain index columns) now requests (plain_waves now (batches now.width requests))
+  pub waves-answer : (now : Settings) (requests : List Request) → now.scan ≡ false → AreRounds index columns (IsPlain index columns) now requests (plain_waves now (batches now.width requests))
   waves-answer now requests no_scan = record {
     form = subst (Formed index columns now requests (plain_waves now (batches now.width requests))) (sym no_scan) (asks-waves now (batches now.width requests));
     each = each-plain now (batches now.width requests);

@@ -34,3 +34,11 @@ pub mod PlainAnswers
 pub mod PlainRounds
 pub mod Completing
 pub mod InputsWithRoom
+pub mod LoadedFits
+pub mod ScanEnds
+pub mod RoomHowever
+pub mod SameRounds
+pub mod QuietFronts
+pub mod FullRuns
+pub mod Responses
+pub mod LeftCounts

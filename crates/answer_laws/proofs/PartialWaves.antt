@@ -6,7 +6,9 @@ use Rattle.agg_model.specs.declared.outcome.Failure.{Failure}
 use Rattle.agg_model.specs.declared.outcome.Outcome.{Outcome}
 use Rattle.agg_model.specs.declared.outcome.Outcome.TheVariants as ended
 use Rattle.agg_model.specs.declared.settings.Settings.{Settings}
+use Rattle.agg_spec.specs.Complete.{HasRoom}
 use Rattle.agg_spec.specs.Outcome.{Request, outcome}
+use Rattle.agg_spec.specs.Rounds.{plain_answer}
 use Rattle.agg_spec.specs.Wave.{MayAnswerWave}
 use Rattle.agg_spec.proofs.Samples.{request_limit}
 use Rattle.answer_laws.proofs.PartialExamples.{partial, whole, failed, second_shard_fails_answer}
@@ -81,3 +83,27 @@ another_exception_than_the_first_failure : MayAnswerAlone partial (ended.Tripped
 unfolding computing
 another_exception_than_the_first_failure ((may, inl reduced), rest) = let same : 5250 ≡ 5249 = ap wanted_of reduced in omega (arith, same)
 another_exception_than_the_first_failure ((may, inr end), rest) = end.left refl
+
+-- Limits that hold all that the wave can charge when no shard fails do not when one does, whose failure its response tells of.
+abbrev just_enough : Settings
+just_enough = record (request_limit 20127) { workers = 2 }
+
+it_has_room_if_none_fails : HasRoom two_shards 79 (record { settings = just_enough; requests = partial ∷ []; answers = plain_answer two_shards just_enough partial ∷ [] })
+unfolding computing
+it_has_room_if_none_fails = record { at_request = lit≤ tt; at_parent = lit≤ tt; bodies = lit≤ tt }
+
+one_may_fail_all_the_same :
+    MayAnswerWave just_enough two_shards 79 (partial ∷ []) (record { outcome = outcome two_shards 65536 partial (failed 1 20128 20127 ∷ []); failures = failed 1 20128 20127 ∷ [] } ∷ [])
+unfolding computing
+one_may_fail_all_the_same = (
+  (
+    record {
+      runs = refl;
+      allowed = refl;
+      ascending = (lit≤ tt, lit≤ tt, tt);
+      seen = (record { breaker = inl refl; limit = refl; above = lit≤ tt; within = lit≤ tt }, tt);
+    },
+    (refl, record { at_request = all_within _ 20127 (lit≤ tt); at_parent = all_within _ 751619276 (lit≤ tt) }, record { at_request = lit≤ tt; at_parent = lit≤ tt }),
+  ),
+  tt,
+)

@@ -19,7 +19,7 @@ module _ (index : Index) (columns : ℕ) where
   abbrev IsMeant : Settings → Round → Type 0
   IsMeant now round = (round.settings ≡ now) × IsAllowed index columns round
 
-  abbrev round_of : Settings → List Request → List Answered → Round
+  abbrev pub round_of : Settings → List Request → List Answered → Round
   round_of now requests answers = record { settings = now; requests = requests; answers = answers }
 
   -- by its settings and its requests a plain round is known

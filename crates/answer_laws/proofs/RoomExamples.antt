@@ -1,7 +1,7 @@
 -- Whether a script has room by its settings, computed: with one worker, and side by side.
 use Rattle.std.specs.Prelude.{◌≡◌, refl, ◌≤◌, ℕ, Bool, true, false, List, [], ◌∷◌, map, length, codes}
 use Rattle.std.specs.List.{AllByRecursion}
-use Rattle.std.proofs.Common.{◌∙◌, ap, sym, subst, lit≤, arith}
+use Rattle.std.proofs.Common.{◌∙◌, ap, sym, subst, inr, lit≤, arith}
 use Rattle.agg_model.specs.declared.settings.Settings.{Settings}
 use Rattle.agg_model.specs.declared.outcome.Answered.{Answered}
 use Rattle.agg_spec.specs.Answers.{Change, AreAnswered, ArePages, AreWaves}
@@ -13,6 +13,8 @@ use Rattle.agg_spec.specs.Reduction.{batches}
 use Rattle.agg_spec.specs.Requests.{LoadedScript}
 use Rattle.agg_spec.specs.Rounds.{Round, plain_answer}
 use Rattle.agg_spec.proofs.Samples.{request_limit}
+use Rattle.answer_laws.specs.Completing.{HasRoomHowever, KeepsWorkers, TellsRoom}
+use Rattle.answer_laws.proofs.FullRuns.{room-however}
 use Rattle.answer_laws.proofs.Scripts.{all_created, searches, script}
 use Rattle.answer_laws.proofs.Runs.{Reads, no_change, started}
 use Rattle.answer_laws.proofs.SettingsLineExamples.{two_words, terms}
@@ -107,3 +109,12 @@ a_limit_below_the_ceiling_is_no_room room =
     let plain : Round = record { settings = two_workers 10142; requests = terms ∷ []; answers = plain_answer two_words (two_workers 10142) terms ∷ [] } in
     let within : 10143 ≤ 10142 = (fits ((plain ∷ []) ∷ []) (record { form = refl; each = ((refl, refl), tt) }, tt)).0.0.at_request in
     omega (arith, within)
+
+-- its search allows no partial results, so there is room however it is answered
+no_line_is_understood : KeepsWorkers no_change (two_workers 10143)
+no_line_is_understood now after line is = let no : ⊥ = cc in absurd no
+
+they_have_room_however_it_is_answered : HasRoomHowever no_change (two_workers 10143) one_search
+unfolding computing
+they_have_room_however_it_is_answered =
+    room-however no_change (two_workers 10143) one_search no_line_is_understood two_workers_have_room (subst (TellsRoom (two_workers 10143)) (sym wave_is_read) (inr ((refl, tt), tt)))

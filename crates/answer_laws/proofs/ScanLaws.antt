@@ -67,13 +67,13 @@ same-composite key (kind.Max a b) = refl
 same-composite key (kind.Avg a b) = refl
 same-composite key (kind.ValueCount a b) = refl
 
-paged-next : (key : Key) (aggs : List Agg) → is_paged (map (agg_after key) aggs) ≡ is_paged aggs
+pub paged-next : (key : Key) (aggs : List Agg) → is_paged (map (agg_after key) aggs) ≡ is_paged aggs
 paged-next key [] = refl
 paged-next key (a ∷ []) = ap (λ (x : Agg-F Agg). is_composite x.kind) (out-roll-Agg _) ∙ same-composite key (out-Agg a).kind
 paged-next key (a ∷ b ∷ rest) = refl
 
 -- the size of a composite's pages
-composite-size : (k : Kind) → is_composite k ≡ true → (size : ℕ) × (page_size k ≡ Some size)
+pub composite-size : (k : Kind) → is_composite k ≡ true → (size : ℕ) × (page_size k ≡ Some size)
 composite-size (kind.Composite sources size after) e = (size, refl)
 composite-size (kind.Terms a b c d n f g h i) e = absurd (let no : ⊥ = cc in no)
 composite-size (kind.Histogram a b c d n f g h i) e = absurd (let no : ⊥ = cc in no)
@@ -131,7 +131,7 @@ module _ (index : Index) (columns : ℕ) where
             (subst (AsksAfter rounds) (next-page bytes request round paged full) rest),
       )
 
-kind-same : (a : Agg) → (out-Agg a).kind ≡ kind_of a
+pub kind-same : (a : Agg) → (out-Agg a).kind ≡ kind_of a
 unfolding computing
 kind-same (Agg' name kind n children) = refl
 

@@ -33,7 +33,7 @@ module _ (settings : Settings) (index : Index) (columns : ℕ) where
   abbrev before-body : ℕ → Amounts
   before-body before = record { request = 0; fielddata = columns; inflight = before; parent = columns + before }
 
-  body-granted : (before : ℕ) (r : Request) → before + 2 * r.bytes ≤ settings.limits.inflight → columns + before + 2 * r.bytes ≤ settings.limits.parent
+  pub body-granted : (before : ℕ) (r : Request) → before + 2 * r.bytes ≤ settings.limits.inflight → columns + before + 2 * r.bytes ≤ settings.limits.parent
       → body_refusal settings index columns before r ≡ None
   body-granted before r at_inflight at_parent = by_size (r.bytes == 0)
     where
@@ -66,7 +66,7 @@ module _ (settings : Settings) (index : Index) (columns : ℕ) where
     ended-reduced r a (ended.Tripped t) printed (inr refused) = absurd (never-seen t refused.seen)
     ended-reduced r a ended.Memory printed may = absurd (let no : ⊥ = cc in no)
 
-    answer-plain : (r : Request) (a : Answered) → has_memory a.outcome ≡ true → MayAnswer settings index columns ceiling r None a → a ≡ plain_answer index settings r
+    pub answer-plain : (r : Request) (a : Answered) → has_memory a.outcome ≡ true → MayAnswer settings index columns ceiling r None a → a ≡ plain_answer index settings r
     answer-plain r a printed (allowed, may) =
         ap (λ o. answered o a.failures) (ended-reduced r a a.outcome printed may)
         ∙ ap (λ failures. answered (outcome index settings.max_buckets r failures) failures) (none-fails r a.failures allowed)

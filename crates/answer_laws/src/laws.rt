@@ -1,7 +1,10 @@
 //! Laws of the definitions of answers. Each function has a law as its contract, over all values of the definitions, and does nothing.
 ghost use Rattle.std.specs.List.{AllByRecursion, list_all};
-ghost use Rattle.std.specs.Prelude.{◌≡◌, ◌≤◌, ◌∷◌, ◌++◌, ◌+◌, ◌*◌, [], ℕ, false, flat_map, IsTrue, length, List, None, Ok, Result, Some};
+ghost use Rattle.std.specs.Prelude.{◌≡◌, ◌≢◌, ◌≤◌, ◌∷◌, ◌++◌, ◌+◌, ◌*◌, [], ℕ, false, true, flat_map, IfOk, IsTrue, length, List, map, None, Ok, Result, slice_get, Some};
+ghost use Rattle.agg_model.specs.declared.aggregation.Agg.{Agg, out-Agg};
 ghost use Rattle.agg_model.specs.declared.aggregation.Search.{Search};
+ghost use Rattle.agg_model.specs.declared.answer.BucketAnswer.{out-BucketAnswer};
+ghost use Rattle.agg_model.specs.declared.answer.NodeAnswer.{NodeAnswer, out-NodeAnswer};
 ghost use Rattle.agg_model.specs.declared.breaker.Child.TheVariants as child;
 ghost use Rattle.agg_model.specs.declared.breaker.Limits.{Limits};
 ghost use Rattle.agg_model.specs.declared.outcome.Failure.{Failure};
@@ -10,13 +13,16 @@ ghost use Rattle.agg_model.specs.declared.partial.Partial.{Partial};
 ghost use Rattle.agg_model.specs.declared.settings.Settings.{Settings};
 ghost use Rattle.agg_model.specs.declared.settings.Usage.{Usage};
 ghost use Rattle.agg_evaluation.specs.SearchFits.{search_fits};
+ghost use Rattle.agg_evaluation.specs.TrueCounts.{BucketPath, aggs_at, true_count, true_key_count};
+ghost use Rattle.agg_evaluation.specs.Whole.{parts as node_parts};
 ghost use Rattle.agg_settings.specs.Changes.{changed};
+ghost use Rattle.agg_settings.specs.Settings.{settings_of};
 ghost use Rattle.agg_spec.specs.Answers.{ArePages, Change, IsAllowed, Recent};
 ghost use Rattle.agg_spec.specs.Charges.{lowered, no_amounts, Run};
 ghost use Rattle.agg_spec.specs.Complete.{HasRoom, HasRoomFor, IsPlain, ScriptFits};
 ghost use Rattle.agg_spec.specs.Failures.{AreFailures, unfailed};
-ghost use Rattle.agg_spec.specs.Index.{Index};
-ghost use Rattle.agg_spec.specs.Outcome.{answer_of, Request, response_length};
+ghost use Rattle.agg_spec.specs.Index.{Index, rows_in};
+ghost use Rattle.agg_spec.specs.Outcome.{answer_of, Request, response_length, whole_of};
 ghost use Rattle.agg_spec.specs.Output.{answered, EndsWell, HasAnswers, IsOutput, IsWhole, IsWholeOf};
 ghost use Rattle.agg_spec.specs.Pages.{is_paged};
 ghost use Rattle.agg_spec.specs.Reduction.{after_batches, after_last, after_tasks, begun, merge_steps, Task, task_of, task_steps};
@@ -24,14 +30,31 @@ ghost use Rattle.agg_spec.specs.Requests.{LoadedScript, Segment};
 ghost use Rattle.agg_spec.specs.Rounds.{all_quiet, plain_answer, Round};
 ghost use Rattle.agg_spec.specs.Solo.{after_requests, idle, outcome_with, solo_answer, solo_run};
 ghost use Rattle.agg_spec.specs.Written.{all_printed, answer, has_memory, Line};
-ghost use Rattle.answer_laws.specs.Completing.{ArePlain, AreQuiet, HaveRoom, IsAlone, KeepsAlone};
+ghost use Rattle.answer_laws.specs.Completing.{
+  ArePlain,
+  AreQuiet,
+  HasPlainAnswers,
+  HasPlainRounds,
+  HasRoomHowever,
+  HaveRoom,
+  IsAlone,
+  IsInFullUnlessMemory,
+  IsPlainWithRoom,
+  KeepsAlone,
+  KeepsWorkers,
+  TellsRoom,
+  script_of,
+};
 ghost use Rattle.answer_laws.specs.Held.{costs_of, GivesBackHeld, HoldsMore, HoldsResults, IsPaid};
 ghost use Rattle.answer_laws.specs.LineCounts.{entry_count, KeepsWaves};
-ghost use Rattle.answer_laws.specs.Reduced.{TellsTheWhole};
+ghost use Rattle.answer_laws.specs.Reduced.{PrintTheAnswer, TellsTheWhole};
 ghost use Rattle.answer_laws.specs.Scans.{IsAnsweredByAll, searches_of};
 ghost use Rattle.count_laws.specs.CompositeGroups.{composite_groups};
-ghost use Rattle.count_laws.specs.Paths.{answer_of_shards};
+ghost use Rattle.count_laws.specs.Paths.{answer_of_shards, answered_by_shard};
+ghost use Rattle.count_laws.specs.ReturnedPaths.{answers_at, is_returned};
 ghost use Rattle.count_laws.specs.Scans.{IsScan, page_groups};
+ghost use Rattle.count_laws.specs.TermsErrors.{IsBoundOfAll, IsTermsByCount, IsWithinError};
+ghost use Rattle.count_laws.specs.TermsSums.{below_minimum_count, minimum_of_terms, other_count, returned_count, whole_of_rows};
 
 /// No more shards fail than there are.
 pub fn no_more_failures_than_shards()
@@ -57,6 +80,52 @@ pub fn each_entry_of_a_script_has_one_line()
 /// reduction of all shards that it does not name as failed: breakers decide whether there is a response, and not what it says.
 pub fn answers_tell_the_whole_reduction()
     ensures { (index : Index) (columns : ℕ) (round : Round) → IsAllowed index columns round → TellsTheWhole index round }
+{}
+
+/// The line of a response is the text of the final answer of the shards that it does not name as failed, with any number of workers.
+pub fn responses_print_the_answer_of_the_shards_left()
+    ensures { (index : Index) (columns : ℕ) (round : Round) → IsAllowed index columns round → PrintTheAnswer index round }
+{}
+
+/// What the counts say that stand in such an answer, at the end of a path of returned buckets, some of them filled maybe, on which no
+/// terms were cut: they are of the rows of the shards that did not fail. Its hits are those that match. Terms have all keys of these rows;
+/// by descending count each returned term is within its error and within that of the answer, which a term that no shard returned does not
+/// pass; and where no term was cut there, each returned bucket has its true count.
+pub fn counts_of_a_response_are_of_the_shards_left()
+    ensures hits { (index : Index) (search : Search) (failures : List Failure) →
+        (answer_of index search (unfailed index failures)).hits ≡ true_count (map (rows_in index) (unfailed index failures)) search [] }
+    ensures sums { (index : Index) (search : Search) (failures : List Failure) (path : BucketPath) (place : ℕ) (agg : Agg) (given : NodeAnswer)
+        (min_doc_count : ℕ) → IsTrue (search_fits index.mapping search) →
+        IsTrue (is_returned search.aggs (whole_of index search (unfailed index failures)).nodes path) →
+        slice_get (aggs_at search.aggs path) place ≡ Some agg → minimum_of_terms (out-Agg agg).kind ≡ Some min_doc_count →
+        slice_get (answers_at (answer_of index search (unfailed index failures)).nodes path) place ≡ Some given →
+        returned_count given + other_count given
+        + below_minimum_count min_doc_count
+        (node_parts (whole_of_rows agg (answered_by_shard search path (map (rows_in index) (unfailed index failures))))).buckets
+        ≡ true_key_count (map (rows_in index) (unfailed index failures)) search path place }
+    ensures errors { (index : Index) (search : Search) (failures : List Failure) (path : BucketPath) (place : ℕ) (agg : Agg)
+        (given : NodeAnswer) → IsTrue (search_fits index.mapping search) →
+        IsTrue (is_returned search.aggs (whole_of index search (unfailed index failures)).nodes path) →
+        slice_get (aggs_at search.aggs path) place ≡ Some agg → IsTermsByCount (out-Agg agg).kind →
+        slice_get (answers_at (answer_of index search (unfailed index failures)).nodes path) place ≡ Some given →
+        AllByRecursion (IsWithinError (λ key. true_count (map (rows_in index) (unfailed index failures)) search (path ++ (place, key) ∷ [])))
+        (out-NodeAnswer given).buckets }
+    ensures bound { (index : Index) (search : Search) (failures : List Failure) (path : BucketPath) (place : ℕ) (agg : Agg)
+        (given : NodeAnswer) → IsTrue (search_fits index.mapping search) →
+        IsTrue (is_returned search.aggs (whole_of index search (unfailed index failures)).nodes path) →
+        slice_get (aggs_at search.aggs path) place ≡ Some agg → IsTermsByCount (out-Agg agg).kind →
+        slice_get (answers_at (answer_of index search (unfailed index failures)).nodes path) place ≡ Some given →
+        IsBoundOfAll (λ key. true_count (map (rows_in index) (unfailed index failures)) search (path ++ (place, key) ∷ []))
+        (node_parts (whole_of_rows agg (answered_by_shard search path (map (rows_in index) (unfailed index failures))))).buckets given }
+    ensures counts { (index : Index) (search : Search) (failures : List Failure) (path : BucketPath) (place : ℕ) (agg : Agg)
+        (given : NodeAnswer) → IsTrue (search_fits index.mapping search) →
+        IsTrue (is_returned search.aggs (whole_of index search (unfailed index failures)).nodes path) →
+        slice_get (aggs_at search.aggs path) place ≡ Some agg →
+        (node_parts (whole_of_rows agg (answered_by_shard search path (map (rows_in index) (unfailed index failures))))).cut ≡ 0 →
+        slice_get (answers_at (answer_of index search (unfailed index failures)).nodes path) place ≡ Some given →
+        AllByRecursion (λ b. (out-BucketAnswer b).count
+        ≡ true_count (map (rows_in index) (unfailed index failures)) search (path ++ (place, (out-BucketAnswer b).key) ∷ []))
+        (out-NodeAnswer given).buckets }
 {}
 
 /// Whatever the status, no line of an output is the answer of a search that wanted memory.
@@ -182,4 +251,40 @@ pub fn inputs_that_have_room_are_answered_in_full()
         KeepsAlone change words → IsAlone words → ScriptFits change words (answered script) →
         (ends : EndsWell change words script written) → IsTrue (all_printed written) → ArePlain script ends.answered.rounds }
     ensures kept { (words : Settings) → KeepsAlone changed words }
+{}
+
+/// Each list of searches that are made for the mapping has whole rounds that are answered by the whole reduction, also where pages are
+/// asked for: a scan comes to an end. So has each script that was loaded.
+pub fn scans_come_to_an_end()
+    ensures rounds { (index : Index) (columns : ℕ) (settings : Settings) (requests : List Request) →
+        AllByRecursion (λ r. IfOk r.search (λ s. IsTrue (search_fits index.mapping s))) requests →
+        HasPlainRounds index columns settings requests }
+    ensures script { (change : Change) (words : Settings) (input : List ℕ) (script : LoadedScript) →
+        script_of words input ≡ answered script → HasPlainAnswers change words script }
+{}
+
+/// Where the words are in the grammar, the input has room however its searches are answered, and neither the source nor the sink failed
+/// (so that the status is not 3 and not 4), a run ends with status 0 and answers all searches by the whole reduction, with no exception
+/// and no failed shard, or it ran out of memory: status 7. No line that was written by then, or before the sink failed, is an exception
+/// or tells of a failed shard. So it is with any number of workers, with settings lines, and where pages are asked for. An input has room
+/// so, where it has it when all is answered by the whole reduction, and one worker runs one search at a time or no search allows partial
+/// results.
+pub fn runs_that_have_room_are_answered_in_full()
+    ensures output { (change : Change) (words : Settings) (input : List ℕ) (read status : ℕ) (written : List Line) (piece : List ℕ) →
+        HasRoomHowever change words input → IsOutput change (Ok words) input read status written piece → status ≢ 3 → status ≢ 4 →
+        IsInFullUnlessMemory change words input status written piece }
+    ensures quiet { (change : Change) (words : Settings) (input : List ℕ) (read status : ℕ) (written : List Line) (piece : List ℕ) →
+        HasRoomHowever change words input → IsOutput change (Ok words) input read status written piece → status ≢ 3 → AreQuiet written }
+    ensures room { (change : Change) (words : Settings) (input : List ℕ) → KeepsWorkers change words → HasRoomFor change words input →
+        TellsRoom words (script_of words input) → HasRoomHowever change words input }
+    ensures by_words { (words : List (List ℕ)) (settings : Settings) (input : List ℕ) (read status : ℕ) (written : List Line)
+        (piece : List ℕ) → settings_of true words ≡ Ok settings → HasRoomFor changed settings input →
+        TellsRoom settings (script_of settings input) →
+        IsOutput changed (settings_of true words) input read status written piece → status ≢ 3 → status ≢ 4 →
+        IsInFullUnlessMemory changed settings input status written piece }
+    ensures as_answered { (change : Change) (words : Settings) (input : List ℕ) (read status : ℕ) (written : List Line) (piece : List ℕ)
+        (script : LoadedScript) → script_of words input ≡ answered script → script.refused ≡ None →
+        IsOutput change (Ok words) input read status written piece → status ≢ 3 → status ≢ 4 →
+        IsPlainWithRoom change words script status written piece }
+    ensures kept { (words : Settings) → KeepsWorkers changed words }
 {}

@@ -1,11 +1,11 @@
 -- The pages of a scan, one after another, have all groups.
-use Rattle.std.specs.Prelude.{◌≡◌, refl, ℕ, zero, suc, nat_le, T, List, [], ◌∷◌, ◌++◌, map, flat_map, take, drop, Option, Some, None, option_map, slice_get}
+use Rattle.std.specs.Prelude.{◌≡◌, refl, ◌≤◌, ◌<◌, ℕ, zero, suc, nat_le, T, List, [], ◌∷◌, ◌++◌, map, flat_map, take, drop, length, Option, Some, None, option_map, slice_get}
 use Rattle.std.specs.List.{AllByRecursion, last_or}
 use Rattle.std.specs.Option.{option_map_or}
-use Rattle.std.proofs.Common.{sym, ◌∙◌, ap, subst}
+use Rattle.std.proofs.Common.{sym, ◌∙◌, ap, subst, arith}
 use Rattle.agg_model.specs.declared.mapping.Mapping.{Mapping}
 use Rattle.agg_model.specs.declared.key.Key.{Key}
-use Rattle.agg_model.specs.declared.answer.BucketAnswer.{out-BucketAnswer}
+use Rattle.agg_model.specs.declared.answer.BucketAnswer.{BucketAnswer, out-BucketAnswer}
 use Rattle.agg_model.specs.declared.answer.NodeAnswer.{NodeAnswer, out-NodeAnswer}
 use Rattle.agg_model.specs.declared.aggregation.Agg.{Agg, Agg'}
 use Rattle.agg_model.specs.declared.aggregation.Search.{Search}
@@ -95,3 +95,38 @@ module _ (m : Mapping) (shards : List (List PlacedRow)) (size : ℕ) where
           no-pages : (pages : List Search) → IsScan shards None pages → flat_map (page_groups shards) pages ≡ []
           no-pages [] h = refl
           no-pages (page ∷ pages) h = absurd h
+
+drop-at_most : {A : Type 0} (n : ℕ) (xs : List A) → length (drop n xs) ≤ length xs
+drop-at_most zero xs = omega arith
+drop-at_most (suc n) [] = omega arith
+drop-at_most (suc n) (x ∷ xs) = omega (arith, drop-at_most n xs)
+
+drop-fewer : {A : Type 0} (n : ℕ) (xs : List A) → T (nat_le 1 n) → (xs ≡ [] → ⊥) → length (drop n xs) < length xs
+drop-fewer zero xs least some = absurd least
+drop-fewer (suc n) [] least some = absurd (some refl)
+drop-fewer (suc n) (x ∷ xs) least some = omega (arith, drop-at_most n xs)
+
+none-taken : {A : Type 0} (n : ℕ) (xs : List A) → xs ≡ [] → take n xs ≡ []
+none-taken zero xs e = refl
+none-taken (suc n) [] e = refl
+none-taken (suc n) (x ∷ xs) e = let no : ⊥ = cc in absurd no
+
+-- each page leaves fewer groups
+pub fewer-groups : (m : Mapping) (request : Search) (shards : List (List PlacedRow)) (a : Agg) (size : ℕ) (l : Key) → T (search_fits m request) → request.aggs ≡ a ∷ [] → page_size (kind_of a) ≡ Some size
+    → last_key (answer_of_shards request shards).nodes ≡ Some l → length (composite_groups shards (search_after request l)) < length (composite_groups shards request)
+fewer-groups m request shards a size l fit alone sized last =
+    let at : slice_get request.aggs 0 ≡ Some a = ap (λ aggs. slice_get aggs 0) alone in
+    let node = (finisher a).finish (whole_of_rows a (map (λ all. (all, matched_roots all request.query)) shards)) in
+    let answered = answer-first request shards 0 a at in
+    let groups = composite_groups shards request in
+    let here : answered_groups node ≡ take size groups = page-first m request shards a size node fit at sized answered in
+    let keyed = last_key-at (answer_of_shards request shards).nodes node answered in
+    let some : groups ≡ [] → ⊥ = (λ none. by node (here ∙ none-taken size groups none) (sym keyed ∙ last)) in
+    subst (λ gs. length gs < length groups) (sym (next-groups m request shards a size l fit alone sized last)) (drop-fewer size groups (positive-size m request a size fit at sized) some)
+  where
+    by : (node : NodeAnswer) → answered_groups node ≡ [] → option_map (λ b. (out-BucketAnswer b).key) (last_or None (out-NodeAnswer node).buckets) ≡ Some l → ⊥
+    by node none = among (out-NodeAnswer node).buckets none
+      where
+        among : (bs : List BucketAnswer) → map group_answer bs ≡ [] → option_map (λ b. (out-BucketAnswer b).key) (last_or None bs) ≡ Some l → ⊥
+        among [] e there = none_some l there
+        among (b ∷ bs) e there = let no : ⊥ = cc in no

@@ -17,7 +17,7 @@ use Rattle.agg_evaluation.proofs.Computing.{computing}
 use Rattle.list_laws.proofs.Lists.{sum_by-map}
 use Rattle.list_laws.proofs.Options.{none_some}
 use Rattle.count_laws.specs.Paths.{answered_by_shard}
-use Rattle.count_laws.specs.TermsErrors.{IsTermsByCount, IsWithinError}
+use Rattle.count_laws.specs.TermsErrors.{IsBoundOfAll, IsTermsByCount, IsWithinError}
 use Rattle.count_laws.specs.TermsSums.{answer_of_rows, below_minimum_count, minimum_of_terms, other_count, returned_count, whole_of_rows}
 use Rattle.count_laws.proofs.TermsAddUp.{all_key_count, answer_of_rows-adds_up}
 use Rattle.count_laws.proofs.TermsWithin.{answer_of_rows-within, true_group_count}
@@ -90,7 +90,10 @@ module _ (request : Search) (shards : List (List PlacedRow)) (path : BucketPath)
       ∙ ap (λ o. option_map_or (λ a. sum_by (λ all. total_key_count all (kind_of a) (counted_rows all (kind_of a) (answered_rows request path all))) shards) o 0) (sym at)
 
   pub within : IsTermsByCount (out-Agg a).kind → AllByRecursion (IsWithinError (λ key. true_count shards request (path ++ (place, key) ∷ []))) (out-NodeAnswer (answer_of_rows a here)).buckets
-  within h = subst (λ f. AllByRecursion (IsWithinError f) (out-NodeAnswer (answer_of_rows a here)).buckets) (λ i key. group-counts h key i) (answer_of_rows-within a here h)
+  within h = subst (λ f. AllByRecursion (IsWithinError f) (out-NodeAnswer (answer_of_rows a here)).buckets) (λ i key. group-counts h key i) (answer_of_rows-within a here h).0
+
+  pub bound : IsTermsByCount (out-Agg a).kind → IsBoundOfAll (λ key. true_count shards request (path ++ (place, key) ∷ [])) (parts (whole_of_rows a here)).buckets (answer_of_rows a here)
+  bound h = subst (λ f. IsBoundOfAll f (parts (whole_of_rows a here)).buckets (answer_of_rows a here)) (λ i key. group-counts h key i) (answer_of_rows-within a here h).1
 
   pub adds_up : (min : ℕ) → minimum_of_terms (out-Agg a).kind ≡ Some min
       → returned_count (answer_of_rows a here) + other_count (answer_of_rows a here) + below_minimum_count min (parts (whole_of_rows a here)).buckets ≡ true_key_count shards request path place

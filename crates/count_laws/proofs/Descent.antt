@@ -1,6 +1,6 @@
 -- Along a path of returned buckets on which no terms were cut, the whole has at each level the wholes of the answers to the rows there.
-use Rattle.std.specs.Prelude.{◌≡◌, refl, ℕ, zero, suc, ◌+◌, ◌==◌, ◌&&◌, ◌||◌, Bool, true, false, T, List, [], ◌∷◌, map, filter_map, flat_map, sum_by, take, find, length, Option, Some, None, option_map, slice_get}
-use Rattle.std.specs.List.{AllByRecursion, list_all}
+use Rattle.std.specs.Prelude.{◌≡◌, refl, ℕ, zero, suc, ◌+◌, ◌==◌, ◌&&◌, ◌||◌, Bool, true, false, cond, T, List, [], ◌∷◌, map, filter_map, flat_map, sum_by, take, find, length, Option, Some, None, option_map, slice_get, unwrap_or}
+use Rattle.std.specs.List.{AllByRecursion, enumerate_from, list_all}
 use Rattle.std.specs.Option.{option_map_or}
 use Rattle.std.proofs.Common.{sym, ◌∙◌, ap, subst, arith, ⊎_elim}
 use Rattle.std.proofs.Math.Bool.{or-true}
@@ -14,6 +14,7 @@ use Rattle.agg_model.specs.declared.partial.Bucket.{Bucket}
 use Rattle.agg_model.specs.declared.partial.Node.{Node}
 use Rattle.agg_model.specs.declared.partial.Partial.{Partial}
 use Rattle.agg_model.specs.declared.partial.Node.TheVariants.{Keyed, Fixed}
+use Rattle.agg_model.specs.declared.answer.NodeAnswer.{NodeAnswer}
 use Rattle.agg_model.specs.declared.aggregation.Agg.{Agg, Agg', Row_of-Agg, end_of-Agg, more_of-Agg}
 use Rattle.agg_model.specs.declared.aggregation.CompositeSource.{CompositeSource}
 use Rattle.agg_model.specs.declared.aggregation.Search.{Search}
@@ -23,7 +24,7 @@ use Rattle.agg_evaluation.specs.CompositeKeys.{is_composite_of}
 use Rattle.agg_evaluation.specs.Folds.{fold_aggs}
 use Rattle.agg_evaluation.specs.KeyOrder.{key_eq, has_key}
 use Rattle.agg_evaluation.specs.Keys.{distinct_keys}
-use Rattle.agg_evaluation.specs.Orders.{bucket_key, composite_cmp}
+use Rattle.agg_evaluation.specs.Orders.{bucket_count, bucket_key, composite_cmp}
 use Rattle.agg_evaluation.specs.Rows.{PlacedRow, roots}
 use Rattle.agg_evaluation.specs.Groups.{all_keys, group, under}
 use Rattle.agg_evaluation.specs.Matching.{matched_roots}
@@ -32,37 +33,37 @@ use Rattle.agg_evaluation.specs.SearchFits.{Made, made_at, agg_fits, handed, sea
 use Rattle.agg_evaluation.specs.Shard.{Collector, collector_of, bucket_of, fixed_keys, node_of, page, shard_answer, shard_node}
 use Rattle.agg_evaluation.specs.Trees.{is_ascending}
 use Rattle.agg_evaluation.specs.TrueCounts.{BucketPath, aggs_at, children_of, group_in, listed, rows_at}
-use Rattle.agg_evaluation.specs.Whole.{Parts, parts, parts_at, whole_bucket, whole_by, whole_node, shape_of}
+use Rattle.agg_evaluation.specs.Whole.{Parts, Shape, by_key, from_start, a_number, children_at, parts, parts_at, whole_bucket, whole_by, whole_node, shape_of}
 use Rattle.agg_evaluation.proofs.Computing.{computing}
 use Rattle.agg_evaluation.proofs.KeyLists.{ascending-distinct_keys, has_key-distinct_keys}
 use Rattle.agg_evaluation.proofs.NodeForms.{out-Keyed, out-Fixed, out-Number}
 use Rattle.agg_evaluation.proofs.UnionLaws.{ascending-fixed_keys, has_key-append, keys-whole}
-use Rattle.agg_evaluation.proofs.WholeLaws.{Union, tree_buckets}
+use Rattle.agg_evaluation.proofs.WholeLaws.{Union, tree_buckets, with_key}
 use Rattle.list_laws.specs.Sorting.{sorted}
 use Rattle.list_laws.proofs.Booleans.{and_left, and_right, both, holds, true_is}
 use Rattle.list_laws.proofs.Lists.{filter_map-there, flat_map-map, map-flat_map, map-map, slice_get-enumerated, sum_by-map}
 use Rattle.list_laws.proofs.Options.{none_some}
 use Rattle.growth_laws.proofs.CompositeOrder.{beyond}
 use Rattle.growth_laws.proofs.PageKeys.{AreKeys, all-keys, page-keys}
-use Rattle.agg_spec.specs.Final.{finish_at, finisher_of}
+use Rattle.agg_spec.specs.Filling.{bucket_at}
+use Rattle.agg_spec.specs.Final.{Finisher, buckets_answer, empty_bucket, finish_at, finish_bucket, finisher, finisher_of}
 use Rattle.count_laws.specs.Paths.{answered_by_shard, is_uncut, is_uncut_at, nodes_at, nodes_below, returns, whole_of_shards}
+use Rattle.count_laws.specs.ReturnedPaths.{bucket_behind, is_returned_at}
 use Rattle.count_laws.specs.TermsSums.{whole_of_rows}
+use Rattle.count_laws.proofs.Chosen.{each-step, returns-metric}
 use Rattle.count_laws.proofs.Finished.{returns-buckets, sorted-mapped, take-mapped}
 use Rattle.count_laws.proofs.Nothing.{made-children}
-use Rattle.count_laws.proofs.Returned.{page-beyond, returned-in_page}
-use Rattle.count_laws.proofs.Steps.{Answer, Handed, HasWhole, below-bucket, find-whole}
+use Rattle.count_laws.proofs.Returned.{has-sorted, page-beyond, returned-in_page}
+use Rattle.count_laws.proofs.ShardBounds.{no-bucket}
+use Rattle.count_laws.proofs.Steps.{Answer, Handed, HasWhole, below-bucket, count-whole, find-whole}
 use Rattle.count_laws.proofs.WholeGroups.{HasAll, all_keys-have_all, keys-have_all, outside, uncut-has_all}
 
-each-of : {A : Type 0} (P : A → Type 0) → ((x : A) → P x) → (xs : List A) → AllByRecursion P xs
+pub each-of : {A : Type 0} (P : A → Type 0) → ((x : A) → P x) → (xs : List A) → AllByRecursion P xs
 each-of P h [] = tt
 each-of P h (x ∷ xs) = (h x, each-of P h xs)
 
-pub each-step : {A : Type 0} (P Q : A → Type 0) → ((x : A) → P x → Q x) → (xs : List A) → AllByRecursion P xs → AllByRecursion Q xs
-each-step P Q f [] h = tt
-each-step P Q f (x ∷ xs) h = (f x h.0, each-step P Q f xs h.1)
-
 -- numbers that add up to nothing
-each-zero : {A : Type 0} (f : A → ℕ) (xs : List A) → sum_by f xs ≡ 0 → AllByRecursion (λ x. f x ≡ 0) xs
+pub each-zero : {A : Type 0} (f : A → ℕ) (xs : List A) → sum_by f xs ≡ 0 → AllByRecursion (λ x. f x ≡ 0) xs
 each-zero f [] e = tt
 each-zero f (x ∷ xs) e = (omega (arith, e, sum_by-cons f x xs), each-zero f xs (omega (arith, e, sum_by-cons f x xs)))
 
@@ -94,6 +95,65 @@ all-found p (k ∷ ks) h q e =
     ⊎_elim (λ (f : key_eq q k ≡ true). ap p (Rattle.agg_evaluation.proofs.KeyLists.key_eq-exact q k (holds _ f)) ∙ true_is _ (and_left _ _ h))
     (λ (f : key_eq q k ≡ false). all-found p ks (and_right _ _ h) q (ap (λ b. b || has_key q ks) (sym f) ∙ e)) (cases_Bool (key_eq q k))
 
+-- a key among the first of a list stands in the list
+take-has : (q : Key) (n : ℕ) (ks : List Key) → has_key q (take n ks) ≡ true → has_key q ks ≡ true
+take-has q zero ks e = absurd (subst T (sym e) tt)
+take-has q (suc n) [] e = absurd (subst T (sym e) tt)
+take-has q (suc n) (k ∷ ks) e =
+    elim (key_eq q k) as (λ b. (b || has_key q (take n ks)) ≡ true → (b || has_key q ks) ≡ true) [
+      | true ↦ λ f. refl
+      | false ↦ λ f. take-has q n ks f
+    ] e
+
+find-absent : (ws : List Union) (bs : List Bucket) (q : Key) (ks : List Key) → has_key q ks ≡ false → find (λ b. key_eq q (bucket_key b)) (map (whole_bucket ws bs) ks) ≡ None
+find-absent ws bs q [] e = refl
+find-absent ws bs q (k ∷ ks) e =
+    elim (key_eq q k) as (λ b. (b || has_key q ks) ≡ false → cond b (Some (whole_bucket ws bs k)) (find (λ b. key_eq q (bucket_key b)) (map (whole_bucket ws bs) ks)) ≡ None) [
+      | true ↦ λ f. absurd (subst T f tt)
+      | false ↦ λ f. find-absent ws bs q ks f
+    ] e
+
+-- the keys of a whole, by its shape
+abbrev pub keys_at : Shape → Kind → List Bucket → List Key
+keys_at by_key k bs = distinct_keys (map bucket_key bs)
+keys_at from_start k bs = fixed_keys k
+keys_at a_number k bs = []
+
+pub whole-are : (ws : List Union) (k : Kind) (shape : Shape) (ts : List Node) → (parts (whole_by ws k shape ts)).buckets ≡ map (whole_bucket ws (tree_buckets ts)) (keys_at shape k (tree_buckets ts))
+whole-are ws k by_key ts = ap (λ l. (parts_at l).buckets) (out-Keyed (map (whole_bucket ws (tree_buckets ts)) (distinct_keys (map bucket_key (tree_buckets ts)))) _ _ _)
+whole-are ws k from_start ts = ap (λ l. (parts_at l).buckets) (out-Fixed (map (whole_bucket ws (tree_buckets ts)) (fixed_keys k)))
+whole-are ws k a_number ts = ap (λ l. (parts_at l).buckets) (out-Number _)
+
+-- what an aggregation finishes is the whole of its trees
+mutual
+  pub finisher-whole : (a : Agg) → (finisher a).whole ≡ whole_node a
+  finisher-whole (Agg' name k n children) = ap (λ ws. whole_by ws k (shape_of k)) (finishers-whole children)
+
+  finishers-whole : {n : _} (children : Row_of-Agg n) → map (λ (f : Finisher). f.whole) (fold_aggs finisher_of children) ≡ fold_aggs (λ a. whole_by a.children a.kind (shape_of a.kind)) children
+  finishers-whole end_of-Agg = refl
+  finishers-whole (more_of-Agg a rest) = λ i. finisher-whole a i ∷ finishers-whole rest i
+
+-- below an empty bucket stand the wholes of no trees
+wholes-none : (j : ℕ) {n : _} (children : Row_of-Agg n) → map (λ (f : Finisher). f.whole []) (fold_aggs finisher_of children) ≡ map (λ c. c.1 (children_at [] c.0)) (enumerate_from j (fold_aggs (λ a. whole_by a.children a.kind (shape_of a.kind)) children))
+wholes-none j end_of-Agg = refl
+wholes-none j (more_of-Agg a rest) = λ i. finisher-whole a i [] ∷ wholes-none (j + 1) rest i
+
+pub finishers-listed : {n : _} (children : Row_of-Agg n) → map finisher (listed children) ≡ fold_aggs finisher_of children
+finishers-listed end_of-Agg = refl
+finishers-listed (more_of-Agg a rest) = ap (λ fs. finisher a ∷ fs) (finishers-listed rest)
+
+-- a bucket of no documents over some nodes, and the whole of the buckets of a key
+abbrev empty_over : Key → List Node → Bucket
+empty_over q nodes = record { key = q; count = 0; covered = 0; children = nodes }
+
+abbrev whole_over : List Union → Key → List Bucket → Bucket
+whole_over ws q same = record {
+  key = q;
+  count = sum_by bucket_count same;
+  covered = sum_by (λ b. b.covered) same;
+  children = map (λ c. c.1 (children_at same c.0)) (enumerate_from 0 ws);
+}
+
 -- what stands below the bucket of a key in a node's buckets
 abbrev below : Key → Parts → List Node
 below q p = option_map_or (λ b. b.children) (find (λ b. key_eq q (bucket_key b)) p.buckets) []
@@ -104,6 +164,9 @@ module _ (m : Mapping) (context : ℕ) (name : List ℕ) {n : _} (children : Row
 
   abbrev unions : List Union
   unions = fold_aggs (λ a. whole_by a.children a.kind (shape_of a.kind)) children
+
+  abbrev finishers : List Finisher
+  finishers = fold_aggs finisher_of children
 
   module _ (k : Kind) (fit : T (list_all (λ (c : Made). c.fits false (handed context k)) (fold_aggs (made_at m) children))) where
     abbrev counted : Handed → List PlacedRow
@@ -142,32 +205,59 @@ module _ (m : Mapping) (context : ℕ) (name : List ℕ) {n : _} (children : Row
     fixed-are : (bs : List Bucket) → (parts (Fixed bs)).buckets ≡ bs
     fixed-are bs = ap (λ l. (parts_at l).buckets) (out-Fixed bs)
 
-    -- the node of the whole
+    -- the node of the whole, and its answer
     abbrev united : Node
     united = whole_by unions k (shape_of k) (map tree ss)
 
-    abbrev Below : Type 0
-    Below = T (((parts united).cut == 0) && (has_key q (map bucket_key (parts united).buckets) && returns q (finish_at name (fold_aggs finisher_of children) k (parts united)))) → Answer (listed children) (below q (parts united)) groups
+    abbrev final_answer : NodeAnswer
+    final_answer = finish_at name finishers k (parts united)
 
-    there-of : T (((parts united).cut == 0) && (has_key q (map bucket_key (parts united).buckets) && returns q (finish_at name (fold_aggs finisher_of children) k (parts united)))) → has_key q (map bucket_key (parts united).buckets) ≡ true
-    there-of h = true_is _ (and_left (has_key q (map bucket_key (parts united).buckets)) (returns q (finish_at name (fold_aggs finisher_of children) k (parts united))) (and_right ((parts united).cut == 0) (has_key q (map bucket_key (parts united).buckets) && returns q (finish_at name (fold_aggs finisher_of children) k (parts united))) h))
+    -- no term was cut, and the answer returns a bucket of the key
+    abbrev IsReturned : Type 0
+    IsReturned = T (((parts united).cut == 0) && returns q final_answer)
 
-    returned-of : T (((parts united).cut == 0) && (has_key q (map bucket_key (parts united).buckets) && returns q (finish_at name (fold_aggs finisher_of children) k (parts united)))) → returns q (finish_at name (fold_aggs finisher_of children) k (parts united)) ≡ true
-    returned-of h = true_is _ (and_right (has_key q (map bucket_key (parts united).buckets)) (returns q (finish_at name (fold_aggs finisher_of children) k (parts united))) (and_right ((parts united).cut == 0) (has_key q (map bucket_key (parts united).buckets) && returns q (finish_at name (fold_aggs finisher_of children) k (parts united))) h))
+    uncut-of : IsReturned → (parts united).cut ≡ 0
+    uncut-of h = eqb_yes (and_left ((parts united).cut == 0) (returns q final_answer) h)
 
-    uncut-of : T (((parts united).cut == 0) && (has_key q (map bucket_key (parts united).buckets) && returns q (finish_at name (fold_aggs finisher_of children) k (parts united)))) → (parts united).cut ≡ 0
-    uncut-of h = eqb_yes (and_left ((parts united).cut == 0) (has_key q (map bucket_key (parts united).buckets) && returns q (finish_at name (fold_aggs finisher_of children) k (parts united))) h)
+    returned-of : IsReturned → returns q final_answer ≡ true
+    returned-of h = true_is _ (and_right ((parts united).cut == 0) (returns q final_answer) h)
+
+    -- the keys of the whole
+    abbrev whole_keys : List Key
+    whole_keys = keys_at (shape_of k) k buckets
+
+    -- each shard has the whole group of the key, and where the whole has no bucket of it no shard has one
+    record Found : Type 0 where
+      each : AllByRecursion Whole ss
+      absent : has_key q whole_keys ≡ false → with_key q buckets ≡ []
 
     -- the parts of the whole are buckets of some keys
     among-of : (ks : List Key) → (parts united).buckets ≡ map (whole_bucket unions buckets) ks → has_key q (map bucket_key (parts united).buckets) ≡ true → has_key q ks ≡ true
     among-of ks is there = sym (ap (λ bs. has_key q (map bucket_key bs)) is ∙ ap (has_key q) (keys-whole unions buckets ks)) ∙ there
 
-    by-fixed : (parts united).buckets ≡ map (whole_bucket unions buckets) (fixed_keys k) → ((s : Handed) → (parts (tree s)).buckets ≡ map (bucket_of true s.0 (roots s.0) k (cs s) (counted s)) (fixed_keys k)) → Below
-    by-fixed is are h =
-        stands (parts united) (fixed_keys k) is (there-of h) (fixed-whole (fixed_keys k) (ascending-fixed_keys k) are (among-of (fixed_keys k) is (there-of h)))
+    by-fixed : whole_keys ≡ fixed_keys k → ((s : Handed) → (parts (tree s)).buckets ≡ map (bucket_of true s.0 (roots s.0) k (cs s) (counted s)) (fixed_keys k))
+        → final_answer ≡ buckets_answer name (map (finish_bucket finishers None) (parts united).buckets) → IsReturned → Found
+    by-fixed same are answered h =
+        let has : has_key q (map bucket_key (parts united).buckets) ≡ true = sym (ap (returns q) answered ∙ returns-buckets name finishers q (parts united).buckets) ∙ returned-of h in
+        let there : has_key q whole_keys ≡ true = among-of whole_keys (whole-are unions k (shape_of k) (map tree ss)) has in
+        record {
+          each = fixed-whole (fixed_keys k) (ascending-fixed_keys k) are (ap (has_key q) (sym same) ∙ there);
+          absent = λ e. absurd (true≢false (sym there ∙ e));
+        }
 
-    by-number : (parts united).buckets ≡ [] → Below
-    by-number is h = absurd (subst T (sym (sym (ap (λ bs. has_key q (map bucket_key bs)) is) ∙ there-of h)) tt)
+    by-number : returns q final_answer ≡ false → IsReturned → Found
+    by-number none h = absurd (true≢false (sym (returned-of h) ∙ none))
+
+    -- the bucket behind a returned one is the whole of all buckets of its key
+    bucket-found : Found → bucket_at (empty_bucket finishers) (parts united).buckets q ≡ whole_bucket unions buckets q
+    bucket-found f = ap (λ bs. bucket_at (empty_bucket finishers) bs q) (whole-are unions k (shape_of k) (map tree ss)) ∙ by (has_key q whole_keys) refl
+      where
+        by : (b : Bool) → has_key q whole_keys ≡ b → bucket_at (empty_bucket finishers) (map (whole_bucket unions buckets) whole_keys) q ≡ whole_bucket unions buckets q
+        by true e = ap (λ o. unwrap_or o (empty_bucket finishers q)) (find-whole unions buckets q whole_keys e)
+        by false e =
+            ap (λ o. unwrap_or o (empty_bucket finishers q)) (find-absent unions buckets q whole_keys e)
+            ∙ ap (empty_over q) (wholes-none 0 children)
+            ∙ ap (whole_over unions q) (sym (f.absent e))
 
   module _ (sources : List CompositeSource) (size : ℕ) (after : Option Key) (fit : T (list_all (λ (c : Made). c.fits false (handed context (kind.Composite sources size after))) (fold_aggs (made_at m) children))) where
     abbrev pub k : Kind
@@ -231,44 +321,91 @@ module _ (m : Mapping) (context : ℕ) (name : List ℕ) {n : _} (children : Row
         absurd (true≢false (sym (returned-in_page sources size after q (all_of s) union_keys (all-keys s.0 sources size after s.1) are-union (λ j g. in_union j ∙ sub j g) union-beyond there first e) ∙ absent)))
         (λ (e : has_key q (all_of s) ≡ false). outside s.0 k (cs s) s.1 q e) (cases_Bool (has_key q (all_of s)))))) ss (each-within page_of ss)
 
-    by-composite : Below k fit
+    by-composite : IsReturned k fit → Found k fit
     by-composite h =
-        let there = among-of k fit union_keys union-are (there-of k fit h) in
-        stands k fit (parts (united k fit)) union_keys union-are (there-of k fit h) (composite-whole there (first-keys (returned-of k fit h)))
+        let first = first-keys (returned-of k fit h) in
+        let there : has_key q union_keys ≡ true = sym (has-sorted (composite_cmp sources) q union_keys) ∙ take-has q size (sorted (composite_cmp sources) union_keys) first in
+        record { each = composite-whole there first; absent = λ e. absurd (true≢false (sym there ∙ e)) }
 
-  below-kind : (k : Kind) (fit : T (list_all (λ (c : Made). c.fits false (handed context k)) (fold_aggs (made_at m) children))) → Below k fit
-  below-kind (kind.Composite sources size after) fit h = by-composite sources size after fit h
-  below-kind (kind.Terms field size shard_size min_doc_count order include exclude missing show_error) fit h =
+  -- buckets by the keys of rows
+  absent-key : (bs : List Bucket) → has_key q (distinct_keys (map bucket_key bs)) ≡ false → with_key q bs ≡ []
+  absent-key bs e = no-bucket q bs (sym (has_key-distinct_keys q (map bucket_key bs)) ∙ e)
+
+  found : (k : Kind) (fit : T (list_all (λ (c : Made). c.fits false (handed context k)) (fold_aggs (made_at m) children))) → IsReturned k fit → Found k fit
+  found (kind.Composite sources size after) fit h = by-composite sources size after fit h
+  found (kind.Terms field size shard_size min_doc_count order include exclude missing show_error) fit h =
       let k = kind.Terms field size shard_size min_doc_count order include exclude missing show_error in
       let bs = buckets k fit in
       let ks = distinct_keys (map bucket_key bs) in
       let cuts : sum_by (λ t. (parts t).cut) (map (tree k fit) ss) ≡ 0 = sym (ap (λ l. (parts_at l).cut) (out-Keyed (map (whole_bucket unions bs) ks) _ _ _)) ∙ uncut-of k fit h in
-      stands k fit (parts (united k fit)) ks (keyed-are k fit (map (whole_bucket unions bs) ks) _ _ _) (there-of k fit h)
-      (each-step (λ s. (parts (tree k fit s)).cut ≡ 0) (Whole k fit) (λ s e. uncut-has_all s.0 k (cs s) s.1 q (map (λ c. c.kind) (cs s)) shard_size order e) ss
-      (each-zero (λ s. (parts (tree k fit s)).cut) ss (sym (sum_by-map (λ t. (parts t).cut) (tree k fit) ss) ∙ cuts)))
-  below-kind (kind.Histogram field interval offset min_doc_count extended hard keyed order missing) fit h =
+      record {
+        each = each-step (λ s. (parts (tree k fit s)).cut ≡ 0) (Whole k fit) (λ s e. uncut-has_all s.0 k (cs s) s.1 q (map (λ c. c.kind) (cs s)) shard_size order e) ss
+            (each-zero (λ s. (parts (tree k fit s)).cut) ss (sym (sum_by-map (λ t. (parts t).cut) (tree k fit) ss) ∙ cuts));
+        absent = absent-key bs;
+      }
+  found (kind.Histogram field interval offset min_doc_count extended hard keyed order missing) fit h =
       let k = kind.Histogram field interval offset min_doc_count extended hard keyed order missing in
-      let bs = buckets k fit in
-      let ks = distinct_keys (map bucket_key bs) in
-      stands k fit (parts (united k fit)) ks (keyed-are k fit (map (whole_bucket unions bs) ks) _ _ _) (there-of k fit h)
-      (each-of (Whole k fit) (λ s. subst (HasAll s.0 k (cs s) s.1 q) (sym (keyed-are k fit (map (bucket_of true s.0 (roots s.0) k (cs s) s.1) (all_keys s.0 k s.1)) 0 0 0)) (all_keys-have_all s.0 k (cs s) s.1 q)) ss)
-  below-kind (kind.Filters names filters other) fit h = by-fixed (kind.Filters names filters other) fit (fixed-are (kind.Filters names filters other) fit _) (λ s. fixed-are (kind.Filters names filters other) fit _) h
-  below-kind (kind.Filter query) fit h = by-fixed (kind.Filter query) fit (fixed-are (kind.Filter query) fit _) (λ s. fixed-are (kind.Filter query) fit _) h
-  below-kind (kind.Missing field) fit h = by-fixed (kind.Missing field) fit (fixed-are (kind.Missing field) fit _) (λ s. fixed-are (kind.Missing field) fit _) h
-  below-kind kind.Global fit h = by-fixed kind.Global fit (fixed-are kind.Global fit _) (λ s. fixed-are kind.Global fit _) h
-  below-kind (kind.Nested inner) fit h = by-fixed (kind.Nested inner) fit (fixed-are (kind.Nested inner) fit _) (λ s. fixed-are (kind.Nested inner) fit _) h
-  below-kind (kind.ReverseNested outer) fit h = by-fixed (kind.ReverseNested outer) fit (fixed-are (kind.ReverseNested outer) fit _) (λ s. fixed-are (kind.ReverseNested outer) fit _) h
-  below-kind (kind.Sum field missing) fit h = by-number (kind.Sum field missing) fit (ap (λ l. (parts_at l).buckets) (out-Number _)) h
-  below-kind (kind.Min field missing) fit h = by-number (kind.Min field missing) fit (ap (λ l. (parts_at l).buckets) (out-Number _)) h
-  below-kind (kind.Max field missing) fit h = by-number (kind.Max field missing) fit (ap (λ l. (parts_at l).buckets) (out-Number _)) h
-  below-kind (kind.Avg field missing) fit h = by-number (kind.Avg field missing) fit (ap (λ l. (parts_at l).buckets) (out-Number _)) h
-  below-kind (kind.ValueCount field missing) fit h = by-number (kind.ValueCount field missing) fit (ap (λ l. (parts_at l).buckets) (out-Number _)) h
+      record {
+        each = each-of (Whole k fit) (λ s. subst (HasAll s.0 k (cs s) s.1 q) (sym (keyed-are k fit (map (bucket_of true s.0 (roots s.0) k (cs s) s.1) (all_keys s.0 k s.1)) 0 0 0)) (all_keys-have_all s.0 k (cs s) s.1 q)) ss;
+        absent = absent-key (buckets k fit);
+      }
+  found (kind.Filters names filters other) fit h = by-fixed (kind.Filters names filters other) fit refl (λ s. fixed-are (kind.Filters names filters other) fit _) refl h
+  found (kind.Filter query) fit h = by-fixed (kind.Filter query) fit refl (λ s. fixed-are (kind.Filter query) fit _) refl h
+  found (kind.Missing field) fit h = by-fixed (kind.Missing field) fit refl (λ s. fixed-are (kind.Missing field) fit _) refl h
+  found kind.Global fit h = by-fixed kind.Global fit refl (λ s. fixed-are kind.Global fit _) refl h
+  found (kind.Nested inner) fit h = by-fixed (kind.Nested inner) fit refl (λ s. fixed-are (kind.Nested inner) fit _) refl h
+  found (kind.ReverseNested outer) fit h = by-fixed (kind.ReverseNested outer) fit refl (λ s. fixed-are (kind.ReverseNested outer) fit _) refl h
+  found (kind.Sum field missing) fit h = by-number (kind.Sum field missing) fit (returns-metric name q _) h
+  found (kind.Min field missing) fit h = by-number (kind.Min field missing) fit (returns-metric name q _) h
+  found (kind.Max field missing) fit h = by-number (kind.Max field missing) fit (returns-metric name q _) h
+  found (kind.Avg field missing) fit h = by-number (kind.Avg field missing) fit (returns-metric name q _) h
+  found (kind.ValueCount field missing) fit h = by-number (kind.ValueCount field missing) fit (returns-metric name q _) h
+
+  module _ (k : Kind) (fit : T (list_all (λ (c : Made). c.fits false (handed context k)) (fold_aggs (made_at m) children))) where
+    -- what stands below a returned bucket that the whole has
+    pub below-kind : T (((parts (united k fit)).cut == 0) && (has_key q (map bucket_key (parts (united k fit)).buckets) && returns q (final_answer k fit)))
+        → Answer (listed children) (below q (parts (united k fit))) (groups k fit)
+    below-kind h =
+        let uncut = (parts (united k fit)).cut == 0 in
+        let has = has_key q (map bucket_key (parts (united k fit)).buckets) in
+        let back = returns q (final_answer k fit) in
+        let both_hold = and_right uncut (has && back) h in
+        let f = found k fit (both uncut back (and_left uncut (has && back) h) (and_right has back both_hold)) in
+        stands k fit (parts (united k fit)) (whole_keys k fit) (whole-are unions k (shape_of k) (map (tree k fit) ss)) (true_is _ (and_left has back both_hold)) f.each
+
+    abbrev behind : Bucket
+    behind = bucket_at (empty_bucket finishers) (parts (united k fit)).buckets q
+
+    -- what stands below a returned bucket, also where a gap was filled
+    pub behind-kind : IsReturned k fit → Answer (listed children) behind.children (groups k fit)
+    behind-kind h =
+        let f = found k fit h in
+        subst (λ (b : Bucket). Answer (listed children) b.children (groups k fit)) (sym (bucket-found k fit f)) (below-bucket m (handed context k) k children fit q (tree k fit) ss f.each)
+
+    -- and how many rows it counts
+    pub behind-count : IsReturned k fit → bucket_count behind ≡ sum_by (λ s. length (group s.0 k (counted k fit s) q)) ss
+    behind-count h = let f = found k fit h in ap bucket_count (bucket-found k fit f) ∙ count-whole m (handed context k) k children fit q (tree k fit) ss f.each
 
 -- the nodes below a returned bucket of an aggregation of which no terms were cut
 pub below-whole : (m : Mapping) (top : Bool) (context : ℕ) (a : Agg) (q : Key) (ss : List Handed) → T (agg_fits m top context a) → T (is_uncut_at a (whole_of_rows a ss) q)
     → Answer (children_of a) (below q (parts (whole_of_rows a ss))) (map (λ s. (s.0, group_in s.0 a s.1 q)) ss)
 unfolding computing
 below-whole m top context (Agg' name k n children) q ss h = below-kind m context name children q ss k (made-children m [] k (fold_aggs (made_at m) children) top context h)
+
+-- those below the bucket behind a returned one
+pub behind-whole : (m : Mapping) (top : Bool) (context : ℕ) (a : Agg) (q : Key) (ss : List Handed) → T (agg_fits m top context a) → T (is_returned_at a (whole_of_rows a ss) q)
+    → Answer (children_of a) (bucket_behind a (whole_of_rows a ss) q).children (map (λ s. (s.0, group_in s.0 a s.1 q)) ss)
+unfolding computing
+behind-whole m top context (Agg' name k n children) q ss h returned =
+    subst (λ fs. Answer (listed children) (bucket_at (empty_bucket fs) (parts (whole_of_rows (Agg' name k n children) ss)).buckets q).children (map (λ s. (s.0, group s.0 k (under s.0 (roots s.0) k s.1) q)) ss)) (sym (finishers-listed children))
+    (behind-kind m context name children q ss k (made-children m [] k (fold_aggs (made_at m) children) top context h) returned)
+
+pub behind-counts : (m : Mapping) (top : Bool) (context : ℕ) (a : Agg) (q : Key) (ss : List Handed) → T (agg_fits m top context a) → T (is_returned_at a (whole_of_rows a ss) q)
+    → bucket_count (bucket_behind a (whole_of_rows a ss) q) ≡ sum_by (λ s. length (group_in s.0 a s.1 q)) ss
+unfolding computing
+behind-counts m top context (Agg' name k n children) q ss h returned =
+    subst (λ fs. bucket_count (bucket_at (empty_bucket fs) (parts (whole_of_rows (Agg' name k n children) ss)).buckets q) ≡ sum_by (λ s. length (group s.0 k (under s.0 (roots s.0) k s.1) q)) ss) (sym (finishers-listed children))
+    (behind-count m context name children q ss k (made-children m [] k (fold_aggs (made_at m) children) top context h) returned)
 
 -- the aggregations of a list are made for the mapping
 abbrev Fit : Mapping → Bool → ℕ → List Agg → Type 0
@@ -279,17 +416,17 @@ fit-at m top context [] j a h e = absurd (none_some a e)
 fit-at m top context (b ∷ aggs) zero a h e = subst (λ o. T (option_map_or (agg_fits m top context) o true)) e (and_left _ _ h)
 fit-at m top context (b ∷ aggs) (suc j) a h e = fit-at m top context aggs j a (and_right _ _ h) e
 
-fit-listed : (m : Mapping) (context : ℕ) {n : _} (children : Row_of-Agg n) → T (list_all (λ (c : Made). c.fits false context) (fold_aggs (made_at m) children)) → Fit m false context (listed children)
+pub fit-listed : (m : Mapping) (context : ℕ) {n : _} (children : Row_of-Agg n) → T (list_all (λ (c : Made). c.fits false context) (fold_aggs (made_at m) children)) → Fit m false context (listed children)
 fit-listed m context end_of-Agg h = tt
 fit-listed m context (more_of-Agg a rest) h = both _ _ (and_left _ _ h) (fit-listed m context rest (and_right _ _ h))
 
-abbrev kind_at : Agg → Kind
+abbrev pub kind_at : Agg → Kind
 kind_at (Agg' name k n children) = k
 
-fit-children : (m : Mapping) (top : Bool) (context : ℕ) (a : Agg) → T (agg_fits m top context a) → Fit m false (handed context (kind_at a)) (children_of a)
+pub fit-children : (m : Mapping) (top : Bool) (context : ℕ) (a : Agg) → T (agg_fits m top context a) → Fit m false (handed context (kind_at a)) (children_of a)
 fit-children m top context (Agg' name k n children) h = fit-listed m (handed context k) children (made-children m [] k (fold_aggs (made_at m) children) top context h)
 
-same-handed : (ss : List Handed) → map (λ s. (s.0, s.1)) ss ≡ ss
+pub same-handed : (ss : List Handed) → map (λ s. (s.0, s.1)) ss ≡ ss
 same-handed [] = refl
 same-handed (s ∷ ss) = ap (λ rest. s ∷ rest) (same-handed ss)
 

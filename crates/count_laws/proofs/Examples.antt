@@ -1,5 +1,5 @@
 -- The premises of the laws, met and missed. Field 2 is t, a keyword, and 1 is n, a long.
-use Rattle.std.specs.Prelude.{◌≡◌, refl, pos, true, false, List, [], ◌∷◌, map, None, codes}
+use Rattle.std.specs.Prelude.{◌≡◌, refl, pos, true, false, List, [], ◌∷◌, map, None, Some, codes}
 use Rattle.agg_model.specs.declared.key.Key.TheVariants as key
 use Rattle.agg_model.specs.declared.query.Query.TheVariants as query
 use Rattle.agg_model.specs.declared.aggregation.Kind.TheVariants as kind
@@ -8,11 +8,13 @@ use Rattle.agg_evaluation.specs.Rows.{PlacedRow, shard_rows}
 use Rattle.agg_evaluation.specs.TrueCounts.{true_count}
 use Rattle.agg_evaluation.specs.Whole.{parts}
 use Rattle.agg_evaluation.proofs.Computing.{computing}
-use Rattle.evaluation_laws.proofs.Samples.{numbers, words, flat, document, by_count, agg, search_of, source}
+use Rattle.evaluation_laws.proofs.Samples.{numbers, words, flat, document, bounds, by_count, by_key, agg, search_of, source}
 use Rattle.count_laws.specs.CompositeGroups.{answered_groups, composite_groups}
 use Rattle.agg_spec.specs.Pages.{search_after}
 use Rattle.count_laws.specs.Scans.{page_groups}
 use Rattle.count_laws.specs.Paths.{answer_of_shards, is_uncut, whole_of_shards}
+use Rattle.count_laws.specs.ReturnedPaths.{answers_at, is_returned, shows_all}
+use Rattle.count_laws.specs.TermsSums.{other_count, returned_count}
 
 -- what unfolds in an answer, beside the rest
 unfoldable answering : Unit {0}
@@ -84,3 +86,37 @@ three_pages : map (page_groups shards) (pages_of_one ∷ second_page ∷ last_pa
     ≡ ((key.Many (key.Word (codes "x") ∷ []), 1) ∷ []) ∷ ((key.Many (key.Word (codes "y") ∷ []), 2) ∷ []) ∷ [] ∷ []
 unfolding answering
 three_pages = refl
+
+-- a histogram from 3 on, whose first bucket no shard has, and terms below each
+abbrev from_three : Search
+from_three = search_of query.All (agg (codes "h") (kind.Histogram 1 1 0 0 (bounds (Some (pos 3)) None) (bounds None None) false by_key None) (agg (codes "t") (kind.Terms 2 1 1 1 by_count None [] None false) [] ∷ []) ∷ [])
+
+a_filled_bucket_is_returned : is_returned from_three.aggs (whole_of_shards from_three shards).nodes ((0, key.Whole (pos 3)) ∷ []) ≡ true
+unfolding answering
+a_filled_bucket_is_returned = refl
+
+no_shard_has_it : is_uncut from_three.aggs (whole_of_shards from_three shards).nodes ((0, key.Whole (pos 3)) ∷ []) ≡ false
+unfolding answering
+no_shard_has_it = refl
+
+nothing_stands_below_it : map returned_count (answers_at (answer_of_shards from_three shards).nodes ((0, key.Whole (pos 3)) ∷ [])) ≡ 0 ∷ []
+unfolding answering
+nothing_stands_below_it = refl
+
+-- below 4 the first shard returns x alone, and the answer leaves out y
+the_answer_leaves_out_one : map other_count (answers_at (answer_of_shards from_three shards).nodes ((0, key.Whole (pos 4)) ∷ [])) ≡ 1 ∷ []
+unfolding answering
+the_answer_leaves_out_one = refl
+
+-- an answer shows that no term was cut above its buckets, and where one was
+it_shows_no_cut_on_the_way : shows_all (answer_of_shards from_three shards).nodes ((0, key.Whole (pos 4)) ∷ []) ≡ true
+unfolding answering
+it_shows_no_cut_on_the_way = refl
+
+it_shows_a_cut : shows_all (answer_of_shards one_term shards).nodes ((0, key.Word (codes "x")) ∷ []) ≡ false
+unfolding answering
+it_shows_a_cut = refl
+
+a_key_that_is_not_returned : is_returned from_three.aggs (whole_of_shards from_three shards).nodes ((0, key.Whole (pos 9)) ∷ []) ≡ false
+unfolding answering
+a_key_that_is_not_returned = refl

@@ -1,18 +1,21 @@
--- The keys that an answer to a composite returns are the first of the whole in composite order.
-use Rattle.std.specs.Prelude.{◌≡◌, refl, ℕ, zero, suc, ◌||◌, true, false, if◌then◌else◌, List, [], ◌∷◌, map, take, Option, None, ℤ}
+-- Finished nodes and buckets, and the keys that an answer of buckets returns.
+use Rattle.std.specs.Prelude.{◌≡◌, refl, ℕ, zero, suc, ◌||◌, true, false, if◌then◌else◌, List, [], ◌∷◌, map, take, Option, Some, None, ℤ, slice_get}
 use Rattle.std.specs.List.{list_any}
 use Rattle.std.specs.declared.cmp.Ordering.{Ordering}
 use Rattle.std.specs.Ordering.{is_le}
 use Rattle.std.proofs.Common.{◌∙◌, ap}
 use Rattle.agg_model.specs.declared.key.Key.{Key}
+use Rattle.agg_model.specs.declared.aggregation.Agg.{Agg}
 use Rattle.agg_model.specs.declared.partial.Bucket.{Bucket}
+use Rattle.agg_model.specs.declared.partial.Node.{Node}
 use Rattle.agg_model.specs.declared.answer.BucketAnswer.{BucketAnswer, out-BucketAnswer, out-roll-BucketAnswer}
 use Rattle.agg_model.specs.declared.answer.BucketAnswer.TheOpen.{NodeAnswer-F, BucketAnswer-F}
 use Rattle.agg_model.specs.declared.answer.NodeAnswer.{NodeAnswer, out-NodeAnswer, out-roll-NodeAnswer}
 use Rattle.agg_evaluation.specs.KeyOrder.{key_eq, has_key}
 use Rattle.agg_evaluation.specs.Orders.{bucket_key}
 use Rattle.list_laws.specs.Sorting.{insert_sorted, sorted}
-use Rattle.agg_spec.specs.Final.{Finisher, buckets_answer, finish_bucket, finish_each, no_metric}
+use Rattle.list_laws.proofs.Options.{none_some}
+use Rattle.agg_spec.specs.Final.{Finisher, buckets_answer, finish_bucket, finish_each, finisher, no_metric}
 use Rattle.count_laws.specs.Paths.{returns}
 
 -- sorting by what a function gives sorts what it gives
@@ -56,3 +59,13 @@ buckets-are name bs = ap (λ (l : NodeAnswer-F BucketAnswer NodeAnswer). l.bucke
 pub returns-buckets : (name : List ℕ) (children : List Finisher) (q : Key) (bs : List Bucket) → returns q (buckets_answer name (map (finish_bucket children None) bs)) ≡ has_key q (map bucket_key bs)
 returns-buckets name children q bs =
     ap (list_any (λ b. key_eq q (out-BucketAnswer b).key)) (buckets-are name (map (finish_bucket children None) bs)) ∙ keys-finished children None q bs
+
+-- each node of an answer is finished of one of the whole
+pub finished-at : (aggs : List Agg) (ns : List Node) (j : ℕ) (a : Agg) (n : Node) → slice_get aggs j ≡ Some a → slice_get ns j ≡ Some n → slice_get (finish_each (map finisher aggs) ns) j ≡ Some ((finisher a).finish n)
+finished-at [] ns j a n at node = absurd (none_some a at)
+finished-at (b ∷ bs) [] j a n at node = absurd (none_some n node)
+finished-at (b ∷ bs) (m ∷ ms) zero a n at node =
+    let same_agg : b ≡ a = cc in
+    let same_node : m ≡ n = cc in
+    λ i. Some ((finisher (same_agg i)).finish (same_node i))
+finished-at (b ∷ bs) (m ∷ ms) (suc j) a n at node = finished-at bs ms j a n at node

@@ -3,17 +3,21 @@ pub mod NextPages
 mod Examples
 pub mod ScanLaws
 pub mod ScanPages
+pub mod Chosen
+pub mod EachCounted
 pub mod FirstKeys
 pub mod AtPaths
 pub mod Finished
 pub mod Descent
 pub mod Steps
+pub mod Reached
 pub mod Returned
 pub mod WholeGroups
 pub mod Nothing
 pub mod FallingCounts
 pub mod GroupSums
 pub mod ShardBounds
+pub mod Shown
 pub mod SumLaws
 pub mod TermsAddUp
 pub mod TermsBounds

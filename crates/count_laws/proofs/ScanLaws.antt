@@ -13,7 +13,6 @@ use Rattle.agg_model.specs.declared.answer.BucketAnswer.{out-BucketAnswer}
 use Rattle.agg_evaluation.specs.CompositeKeys.{is_composite_of}
 use Rattle.agg_evaluation.proofs.Computing.{computing}
 use Rattle.agg_spec.specs.Pages.{agg_after, last_key, search_after}
-use Rattle.agg_model.specs.declared.partial.Node.{Node}
 use Rattle.agg_model.specs.declared.answer.NodeAnswer.{NodeAnswer, out-NodeAnswer}
 use Rattle.agg_model.specs.declared.aggregation.Agg.{Agg, Agg'}
 use Rattle.agg_model.specs.declared.aggregation.Search.{Search}
@@ -26,7 +25,7 @@ use Rattle.agg_evaluation.specs.SearchFits.{agg_fits, kind_fits, made_at, search
 use Rattle.agg_evaluation.specs.TrueCounts.{kind_of, true_count}
 use Rattle.list_laws.proofs.Booleans.{and_left, and_right, true_is}
 use Rattle.list_laws.proofs.Options.{none_some}
-use Rattle.agg_spec.specs.Final.{finisher, finish_each}
+use Rattle.agg_spec.specs.Final.{finisher}
 use Rattle.count_laws.specs.CompositeGroups.{Group, answered_groups, composite_groups, group_answer, keys_after, matched_keys, page_size}
 use Rattle.count_laws.specs.Paths.{answer_of_shards, whole_of_shards}
 use Rattle.count_laws.specs.TermsSums.{whole_of_rows}
@@ -34,21 +33,12 @@ use Rattle.count_laws.proofs.AtPaths.{rows-one_more, some-same}
 use Rattle.count_laws.proofs.Descent.{answer-at-top, fit-at}
 use Rattle.count_laws.proofs.Nothing.{made-children, made-kind}
 use Rattle.count_laws.proofs.ScanPages.{are-every, page-groups}
-use Rattle.count_laws.proofs.Finished.{take-mapped}
+use Rattle.count_laws.proofs.Finished.{finished-at, take-mapped}
 use Rattle.count_laws.proofs.NextPages.{keys-behind}
 use Rattle.growth_laws.proofs.CompositeOrder.{beyond}
 use Rattle.list_laws.specs.Sorting.{sorted}
 use Rattle.list_laws.proofs.Lists.{map-map}
 use Rattle.agg_evaluation.specs.Orders.{composite_cmp}
-
-finished-at : (aggs : List Agg) (ns : List Node) (j : ℕ) (a : Agg) (n : Node) → slice_get aggs j ≡ Some a → slice_get ns j ≡ Some n → slice_get (finish_each (map finisher aggs) ns) j ≡ Some ((finisher a).finish n)
-finished-at [] ns j a n at node = absurd (none_some a at)
-finished-at (b ∷ bs) [] j a n at node = absurd (none_some n node)
-finished-at (b ∷ bs) (m ∷ ms) zero a n at node =
-    let same_agg : b ≡ a = cc in
-    let same_node : m ≡ n = cc in
-    λ i. Some ((finisher (same_agg i)).finish (same_node i))
-finished-at (b ∷ bs) (m ∷ ms) (suc j) a n at node = finished-at bs ms j a n at node
 
 -- the answer at the top, and so for each aggregation there
 pub answer-first : (request : Search) (shards : List (List PlacedRow)) (j : ℕ) (a : Agg) → slice_get request.aggs j ≡ Some a

@@ -38,7 +38,8 @@ use Rattle.growth_laws.proofs.CompositeOrder.{beyond}
 use Rattle.growth_laws.proofs.PageKeys.{AreKeys, all-keys, page-among, page-fewer}
 use Rattle.agg_spec.specs.Final.{Finisher, finish_at, finish_bucket, finisher_of}
 use Rattle.count_laws.specs.CompositeGroups.{Group, answered_groups, group_answer, matched_keys}
-use Rattle.count_laws.proofs.Descent.{all-found, all-keep, any-of, are-union, composite-whole, each-step, each-within, in_union, union-are, union-beyond, union_keys}
+use Rattle.count_laws.proofs.Chosen.{each-step}
+use Rattle.count_laws.proofs.Descent.{all-found, all-keep, any-of, are-union, composite-whole, each-within, in_union, union-are, union-beyond, union_keys}
 use Rattle.count_laws.proofs.Finished.{buckets-are, finished-is, take-mapped}
 use Rattle.count_laws.proofs.FirstKeys.{first-keys-same}
 use Rattle.count_laws.proofs.Returned.{has-sorted}

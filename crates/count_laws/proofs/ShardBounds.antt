@@ -22,6 +22,7 @@ use Rattle.list_laws.proofs.Lists.{sum_by-map}
 use Rattle.agg_evaluation.proofs.KeyLists.{filter-ascending, ascending-distinct_keys, has_key-distinct_keys}
 use Rattle.agg_evaluation.proofs.UnionLaws.{has_key-append}
 use Rattle.agg_evaluation.proofs.NodeForms.{out-Keyed}
+use Rattle.agg_evaluation.proofs.WholeLaws.{with_key}
 use Rattle.list_laws.proofs.Each.{sum_by-sorted}
 use Rattle.count_laws.proofs.FallingCounts.{AtMost, by_count, falls-sorted, behind_last}
 
@@ -47,6 +48,15 @@ absent_group all k q (row ∷ rows) e =
       | true ↦ λ no. absurd (subst T no tt)
       | false ↦ λ no. absent_group all k q rows no
     ] (sym (has_key-append q (keys all k row) (flat_map (keys all k) rows)) ∙ e)
+
+-- no bucket has a key that is not among their keys
+pub no-bucket : (q : Key) (bs : List Bucket) → has_key q (map bucket_key bs) ≡ false → with_key q bs ≡ []
+no-bucket q [] e = refl
+no-bucket q (b ∷ bs) e =
+    elim (key_eq q (bucket_key b)) as (λ c. (c || has_key q (map bucket_key bs)) ≡ false → cond c (b ∷ with_key q bs) (with_key q bs) ≡ []) [
+      | true ↦ λ f. absurd (subst T f tt)
+      | false ↦ λ f. no-bucket q bs f
+    ] e
 
 -- so many of each bucket of the key
 abbrev pub of_key : Key → (Bucket → ℕ) → Bucket → ℕ

@@ -1,5 +1,6 @@
--- By descending count the true count of each returned term lies between its count and that plus its error.
-use Rattle.std.specs.Prelude.{◌≡◌, ◌≤◌, ℕ, ◌+◌, ◌-◌, List, [], ◌∷◌, map, filter, flat_map, sum_by}
+-- By descending count the true count of each returned term lies between its count and that plus its error, and a term that no shard
+-- returned has at most the whole error.
+use Rattle.std.specs.Prelude.{◌≡◌, ◌≤◌, ℕ, ◌+◌, ◌-◌, false, List, [], ◌∷◌, map, filter, flat_map, sum_by}
 use Rattle.std.specs.List.{AllByRecursion}
 use Rattle.std.proofs.Common.{sym, ◌∙◌, ap, subst, arith}
 use Rattle.std.proofs.lemmas.List.Sums.{sum_by-cons}
@@ -7,14 +8,16 @@ use Rattle.agg_model.specs.declared.key.Key.{Key}
 use Rattle.agg_model.specs.declared.partial.Bucket.{Bucket}
 use Rattle.agg_model.specs.declared.partial.Node.{Node}
 use Rattle.agg_model.specs.declared.aggregation.Kind.{Kind}
-use Rattle.agg_evaluation.specs.KeyOrder.{key_eq}
+use Rattle.agg_evaluation.specs.KeyOrder.{key_eq, has_key}
 use Rattle.agg_evaluation.specs.Keys.{distinct_keys}
 use Rattle.agg_evaluation.specs.Orders.{bucket_key, bucket_count}
 use Rattle.agg_evaluation.specs.Whole.{Parts, parts, parts_at, whole_bucket, whole_by, by_key}
 use Rattle.list_laws.proofs.Lists.{sum_by-map, sum_by-flat_map}
+use Rattle.agg_evaluation.proofs.KeyLists.{has_key-distinct_keys}
 use Rattle.agg_evaluation.proofs.NodeForms.{out-Keyed}
+use Rattle.agg_evaluation.proofs.UnionLaws.{keys-whole}
 use Rattle.list_laws.proofs.Each.{each-map}
-use Rattle.count_laws.proofs.ShardBounds.{Bounds, of_key, sum_by-filter}
+use Rattle.count_laws.proofs.ShardBounds.{Bounds, no-bucket, of_key, sum_by-filter}
 
 -- a bucket of a whole, against the true count of its key
 pub record Within (true_count : Key → ℕ) (error : ℕ) (b : Bucket) : Type 0 where
@@ -68,3 +71,18 @@ module _ {S : Type 0} (tree : S → Node) (truth : S → Key → ℕ) (bounds : 
       subst (λ (p : Parts). AllByRecursion (Within (true_sum shards) p.error) p.buckets)
       (sym (ap parts_at (out-Keyed (map (whole_bucket cs all) ks) errors (sum_by (λ t. (parts t).full) trees) (sum_by (λ t. (parts t).cut) trees))))
       (each-map (Within (true_sum shards) errors) (whole_bucket cs all) ks within)
+
+  -- a term that no shard returned
+  pub whole_by-lost : (cs : List (List Node → Node)) (k : Kind) (shards : List S) (q : Key)
+      → let w = parts (whole_by cs k by_key (map tree shards)) in has_key q (map bucket_key w.buckets) ≡ false → true_sum shards q ≤ w.error
+  whole_by-lost cs k shards q absent =
+      let trees = map tree shards in
+      let all = flat_map (λ t. (parts t).buckets) trees in
+      let ks = distinct_keys (map bucket_key all) in
+      let errors = sum_by (λ t. (parts t).error) trees in
+      let is = ap parts_at (out-Keyed (map (whole_bucket cs all) ks) errors (sum_by (λ t. (parts t).full) trees) (sum_by (λ t. (parts t).cut) trees)) in
+      let among : has_key q (map bucket_key all) ≡ false =
+      sym (has_key-distinct_keys q (map bucket_key all)) ∙ sym (ap (λ (p : Parts). has_key q (map bucket_key p.buckets)) is ∙ ap (has_key q) (keys-whole cs all ks)) ∙ absent in
+      let none : sum_by bucket_count (filter (λ b. key_eq q (bucket_key b)) all) ≡ 0 = ap (sum_by bucket_count) (no-bucket q all among) in
+      subst (λ (p : Parts). true_sum shards q ≤ p.error) (sym is)
+      (omega (arith, none, in_all q bucket_count shards, high_sum q shards, sum_by-map (λ t. (parts t).error) tree shards))

@@ -8,6 +8,7 @@ use Rattle.std.proofs.Common.{sym, ◌∙◌, ap, subst, arith}
 use Rattle.std.proofs.Math.Bool.{or-true}
 use Rattle.std.proofs.lemmas.List.Sums.{sum_by-cons, sum_by-take-drop}
 use Rattle.agg_model.specs.declared.key.Key.{Key}
+use Rattle.agg_model.specs.declared.key.Key.TheVariants.{Null}
 use Rattle.agg_model.specs.declared.partial.Bucket.{Bucket}
 use Rattle.agg_model.specs.declared.aggregation.Kind.{Kind}
 use Rattle.agg_model.specs.declared.aggregation.Order.{Order}
@@ -25,7 +26,7 @@ use Rattle.agg_evaluation.proofs.NodeForms.{out-Keyed}
 use Rattle.agg_evaluation.proofs.UnionLaws.{has_key-append}
 use Rattle.agg_evaluation.proofs.WholeLaws.{with_key}
 use Rattle.list_laws.proofs.Lists.{filter-map, sum_by-map}
-use Rattle.list_laws.proofs.Each.{each-drop, each-sorted, sum_by-sorted}
+use Rattle.list_laws.proofs.Each.{each-drop, each-mapped, each-sorted, each-take, sum_by-sorted}
 use Rattle.count_laws.proofs.TermsTotals.{groups-count}
 
 -- a key that no row has, has no group
@@ -180,3 +181,17 @@ module _ (all : List PlacedRow) (k : Kind) (cs : List Collector) (counted : List
               (subst (λ bs. length bs ≤ 1) (sym here) (one_at_most (has_key q (all_keys all k counted)) (with_covered error (bucket q)))) ∙ here;
           none = outside;
         }
+
+-- each bucket of terms counts a row at least
+pub each-counted : (all : List PlacedRow) (k : Kind) (cs : List Collector) (counted : List PlacedRow) (kinds : List Kind) (shard_size : ℕ) (order : List Order)
+    → AllByRecursion (λ b. 1 ≤ bucket_count b) (parts (trimmed_node kinds shard_size order (total_key_count all k counted) (map (bucket_of true all (roots all) k cs counted) (all_keys all k counted)))).buckets
+each-counted all k cs counted kinds shard_size order =
+    let P : Bucket → Type 0 = (λ b. 1 ≤ bucket_count b) in
+    let q = Null in
+    let ks = all_keys all k counted in
+    let rows = positive-counts all k cs counted q ks (λ j e. group-present all k j counted (sym (has_key-distinct_keys j (flat_map (keys all k) counted)) ∙ e)) in
+    let first = each-take P shard_size (ordered all k cs counted q kinds shard_size order) (each-sorted P (bucket_cmp kinds order) (buckets all k cs counted q kinds shard_size order) rows) in
+    let e = error all k cs counted q kinds shard_size order in
+    subst (λ p. AllByRecursion P p.buckets) (sym (parts_are all k cs counted q kinds shard_size order))
+    (each-sorted P (λ a b. key_cmp (bucket_key a) (bucket_key b)) (map (with_covered e) (kept all k cs counted q kinds shard_size order))
+    (each-mapped P P (with_covered e) (λ b h. h) (kept all k cs counted q kinds shard_size order) first))

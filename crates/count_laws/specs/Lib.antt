@@ -2,5 +2,6 @@
 pub mod Scans
 pub mod CompositeGroups
 pub mod Paths
+pub mod ReturnedPaths
 pub mod TermsErrors
 pub mod TermsSums
