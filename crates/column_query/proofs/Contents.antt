@@ -33,7 +33,7 @@ same_content Boolean (scalar.Whole n) = refl
 same_content Boolean (scalar.Word w) = refl
 same_content Boolean (scalar.Flag b) = refl
 
-all_members : (p : Scalar → Bool) (vs : List Scalar) (v : Scalar) → list_all p vs ≡ true → In v vs → p v ≡ true
+pub all_members : (p : Scalar → Bool) (vs : List Scalar) (v : Scalar) → list_all p vs ≡ true → In v vs → p v ≡ true
 all_members p [] v all is = absurd is
 all_members p (x ∷ xs) v all is =
     let both = and_parts (p x) (list_all p xs) all in

@@ -12,6 +12,8 @@ pub mod PreparedCases
 pub mod Sizes
 pub mod Inserting
 pub mod Marking
+pub mod Searching
+pub mod Widths
 pub mod Ready
 pub mod QuerySizes
 pub mod Making

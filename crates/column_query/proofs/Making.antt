@@ -1,7 +1,7 @@
--- A query that is made for a shard's mapping looks at fields of the shard.
+-- A query that is made for a shard's mapping looks at fields of the shard, which is one that was built.
 use Rattle.std.proofs.Common.{◌≡◌, ℕ, true, List, length, ◌∙◌, ap}
 use Rattle.std.proofs.Math.Bool.{Bool-set}
-use Rattle.std.proofs.Math.Logic.{∥∥₁_elim}
+use Rattle.std.proofs.Math.Logic.{∥∥₁_elim, ∥∥₁_map, ∥∥₁_prop}
 use Rattle.std.proofs.lemmas.List.{length-map}
 use Rattle.agg_model.specs.declared.mapping.Field.{Field}
 use Rattle.agg_model.specs.declared.mapping.Mapping.{Mapping}
@@ -10,7 +10,7 @@ use Rattle.agg_model.specs.declared.row.Document.{Document}
 use Rattle.agg_evaluation.specs.Conditions.{looks_below}
 use Rattle.agg_evaluation.specs.QueryFits.{query_fits}
 use Rattle.agg_evaluation.proofs.QueriesFit.{fits_below}
-use Rattle.shard_columns.specs.Built.{IsBuiltFrom}
+use Rattle.shard_columns.specs.Built.{IsBuiltFrom, IsShard}
 use Rattle.shard_columns.specs.Columns.{Columns}
 use Rattle.column_query.specs.Made.{IsMadeFor, IsMade}
 
@@ -29,3 +29,9 @@ module _ (shard : Columns) (query : Query) where
 
   pub looks-made : IsMade shard query → Looks
   looks-made made = ∥∥₁_elim made (Bool-set _ _) (λ found. looks-for found.0 found.1)
+
+  pub shard-for : (context : ℕ) → IsMadeFor shard context query → IsShard shard
+  shard-for context made = ∥∥₁_map made (λ found. (found.0, found.1.0))
+
+  pub shard-made : IsMade shard query → IsShard shard
+  shard-made made = ∥∥₁_elim made ∥∥₁_prop (λ found. shard-for found.0 found.1)

@@ -1,14 +1,14 @@
 -- Prepared queries that say what the queries match.
-use Rattle.std.proofs.Common.{◌≡◌, refl, ℕ, ℤ, ◌+◌, ◌<◌, zero, suc, Bool, true, false, not, cond, List, [], ◌∷◌, ◌++◌, length, get_or, take, map, filter, Option, Some, inl, inr, sym, ◌∙◌, ap, subst, Vec, Global}
+use Rattle.std.proofs.Common.{◌≡◌, refl, ℕ, ℤ, ◌+◌, ◌<◌, ◌≤◌, zero, suc, Bool, true, false, not, cond, List, [], ◌∷◌, ◌++◌, length, get_or, take, map, filter, Option, Some, None, inl, inr, sym, ◌∙◌, ap, subst, arith, Vec, Global}
 use Rattle.std.specs.Prelude.{◌||◌, ◌&&◌, nat_le}
 use Rattle.std.specs.List.{list_any, list_all, slice_get}
 use Rattle.std.specs.declared.cmp.Ordering.{Ordering}
-use Rattle.std.specs.Ordering.{nat_cmp, int_cmp, is_eq}
+use Rattle.std.specs.Ordering.{nat_cmp, is_eq}
 use Rattle.std.specs.Cmp.Lexicographic.{slice_cmp, texts_ties}
 use Rattle.std.specs.Str.{bytes_eq}
 use Rattle.std.specs.BTreeSet.{BTreeSet, insert_key}
 use Rattle.std.proofs.lemmas.Bool.{ltb-true, and_parts}
-use Rattle.std.proofs.lemmas.Cmp.{alike_right, int_cmp_total, nat_list_cmp_total}
+use Rattle.std.proofs.lemmas.Cmp.{alike_right, nat_list_cmp_total}
 use Rattle.std.proofs.lemmas.List.{map-append, take_more}
 use Rattle.agg_model.specs.declared.row.Scalar.{Scalar}
 use Rattle.agg_model.specs.declared.query.Query.{Query}
@@ -23,11 +23,13 @@ use Rattle.shard_columns.specs.Columns.{Columns}
 use Rattle.shard_columns.specs.Dictionary.{words_of}
 use Rattle.column_query.specs.declared.bounds.Bound.{Bound}
 use Rattle.column_query.specs.declared.prepared.NumberTest.{NumberTest}
-use Rattle.column_query.specs.declared.prepared.NumberTest.TheVariants.{Is, Within}
+use Rattle.column_query.specs.declared.prepared.NumberTest.TheVariants.{Is, OneOf, Within}
+use Rattle.column_query.specs.declared.number_set.NumberSet.{NumberSet}
 use Rattle.column_query.specs.declared.prepared.Prepared.{Prepared}
 use Rattle.column_query.specs.declared.prepared.Prepared.TheVariants as prepared
 use Rattle.column_query.specs.Numbers.{number_of, numbers_of, within, IsHeld, StandsFor, BoundsAs}
-use Rattle.column_query.specs.Prepared.{is_among, within_all, passes_number, says, reads_below, reads_below_at, StandForAll, TestsFor, BoundAsAll, AddsNumber, HasIds, IsReady, AreReady}
+use Rattle.column_query.specs.NumberSets.{HasNumbers}
+use Rattle.column_query.specs.Prepared.{within_all, passes_number, says, reads_below, reads_below_at, StandForAll, TestsFor, BoundAsAll, AddsNumber, HasIds, IsReady, AreReady}
 use Rattle.agg_evaluation.specs.Conditions.{looks_below, looks_below_at}
 use Rattle.column_query.proofs.Lists.{any_mapped, all_mapped, count_mapped}
 use Rattle.column_query.proofs.Members.{In, place_of}
@@ -38,6 +40,10 @@ use Rattle.agg_evaluation.proofs.QueryFolds.{fold_query-Bool, fold_query-Nested}
 use Rattle.column_query.proofs.PreparedLevels.{fold_prepared-Nested}
 use Rattle.column_query.proofs.Cases as by_query
 use Rattle.column_query.proofs.PreparedCases as by_prepared
+
+none_mapped : {A B : Type 0} (f : A → B) (xs : List A) → length xs ≡ 0 → [] ≡ map f xs
+none_mapped f [] none = refl
+none_mapped f (x ∷ xs) none = absurd (omega (arith, none))
 
 any_same : {A : Type 0} (p q : A → Bool) (xs : List A) → ((x : A) → In x xs → p x ≡ q x) → list_any p xs ≡ list_any q xs
 any_same p q [] same = refl
@@ -59,12 +65,7 @@ row-at [] k r is = absurd (cc is)
 row-at (x ∷ xs) zero r is = let same : x ≡ r = cc is in same
 row-at (x ∷ xs) (suc k) r is = row-at xs k r is
 
--- ---- sets of numbers and of ids
-
-pub adds-number : (old new : List ℤ) (n : ℤ) → new ≡ insert_key int_cmp old n → AddsNumber old (Some n) new
-adds-number old new n is = record {
-  same = λ x. ap (λ (ks : List ℤ). is_among ks x) is ∙ any-insert_key int_cmp (λ (k : ℤ). is_eq (int_cmp x k)) (λ y z e. ap is_eq (alike_right int_cmp_total y z x e)) old n;
-}
+-- ---- sets of ids
 
 pub ids-none : HasIds [] []
 ids-none = record { same = λ id. refl }
@@ -97,6 +98,14 @@ module _ (rows : List PlacedRow) (field : ℕ) where
         ∙ (or_comm (key_eq (scalar_key v) (probe_key probe)) (list_any (λ p. key_eq (scalar_key v) (probe_key p)) (take n probes))
         ∙ sym (any_step (λ (p : Probe). key_eq (scalar_key v) (probe_key p)) probes n probe below is)));
   }
+
+  -- ---- a test for a list of values
+  pub tests-set : (probes : List Probe) (numbers : List ℤ) (set : NumberSet) → StandForAll rows field probes numbers → HasNumbers numbers set → TestsFor rows field probes (OneOf set)
+  tests-set probes numbers set stand has = record { same = λ v held. has.same (number v) ∙ stand.same v held }
+
+  -- where no row has a value, any test serves
+  pub tests-none : (probes : List Probe) (most : ℕ) → ((n : ℕ) → length (values_of field (row_of rows n)) ≤ most) → most ≡ 0 → TestsFor rows field probes (Is None)
+  tests-none probes most each none = record { same = λ v held. let low = held.1.1 in let few = each held.0 in absurd (omega (arith, low, few, none)) }
 
   pub bounds-none : BoundAsAll rows field [] []
   bounds-none = record { same = λ v held. refl }
@@ -195,6 +204,9 @@ module _ (shard : Columns) where
   map_same : {A B : Type 0} (f g : A → B) (xs : List A) → ((x : A) → In x xs → f x ≡ g x) → map f xs ≡ map g xs
   map_same f g [] same = refl
   map_same f g (x ∷ xs) same = λ i. same x (inl refl) i ∷ map_same f g xs (λ y is. same y (inr is)) i
+
+  pub no-roots : (q : Query) → length (roots rows) ≡ 0 → [] ≡ map (matches rows q) (roots rows)
+  no-roots q none = none_mapped (matches rows q) (roots rows) none
 
   pub said-roots : (q : Query) (p : Prepared) → IsReady shard q p → map (says rows p) (roots rows) ≡ map (matches rows q) (roots rows)
   said-roots q p ready = map_same (says rows p) (matches rows q) (roots rows) (λ r is. same-row q p ready r (In-filter _ rows r is))

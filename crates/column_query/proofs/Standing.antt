@@ -1,11 +1,13 @@
 -- Numbers that stand for what a query asks for.
 use Rattle.std.proofs.Common.{◌≡◌, refl, ℕ, Bool, true, false, List, Some, None, Contains, sym, ◌∙◌, ap, subst, ℤ, pos}
+use Rattle.std.specs.Prelude.{FitsSigned, IfSome, IfNone, option_map, Option}
 use Rattle.std.specs.List.{slice_get}
+use Rattle.std.specs.Int.{w64}
 use Rattle.std.specs.declared.cmp.Ordering.{Ordering}
 use Rattle.std.specs.declared.cmp.Ordering.TheVariants.{Less, Equal, Greater}
 use Rattle.std.specs.Ordering.{is_eq, int_cmp, bool_cmp, nat_cmp}
 use Rattle.std.specs.Cmp.Lexicographic.{slice_cmp}
-use Rattle.std.proofs.lemmas.Map.Lookups.{exact_bytes}
+use Rattle.std.proofs.lemmas.Map.Lookups.{exact_bytes, exact_signed}
 use Rattle.agg_model.specs.declared.row.Scalar.{Scalar}
 use Rattle.agg_model.specs.declared.row.Scalar.TheVariants as scalar
 use Rattle.agg_model.specs.declared.query.Probe.{Probe}
@@ -156,6 +158,23 @@ module _ (rows : List PlacedRow) (field : ℕ) where
 
   pub absent-stands : (w : List ℕ) → NoRowHas field w rows → Holds rows field Words → StandsFor rows field (probe.Word w) None
   absent-stands w absent holds = record { same = λ v held. absent_word w absent v held (holds.only v held) ∙ ap is_eq (value_cmp-is v (probe.Word w)) }
+
+  -- a word stands by its place in the dictionary, if it is there
+  pub word-stands : (w : List ℕ) (place : Option ℕ) → IfSome place (λ k. slice_get (words_of field rows) k ≡ Some w) → IfNone place (NoRowHas field w rows) → Holds rows field Words →
+      StandsFor rows field (probe.Word w) (option_map pos place)
+  word-stands w (Some k) found absent holds = ordered-stands (probe.Word w) (pos k) (word-ordered w k found holds)
+  word-stands w None found absent holds = absent-stands w absent holds
+
+  absent_whole : (n : ℤ) → (FitsSigned w64 n → ⊥) → ((z : ℤ) → IsHeld rows field (scalar.Whole z) → FitsSigned w64 z) → (v : Scalar) → IsHeld rows field v → is_content Wholes v ≡ true → false ≡ is_eq (value_cmp v (probe.Whole n))
+  absent_whole n outside fit (scalar.Whole m) held e = not_that (int_cmp m n) (λ tie. outside (subst (FitsSigned w64) (exact_signed m n tie) (fit m held)))
+  absent_whole n outside fit (scalar.Word w) held e = absurd (cc e)
+  absent_whole n outside fit (scalar.Flag b) held e = absurd (cc e)
+
+  -- and a whole number for itself, if it has no more bits than those of the rows
+  pub whole-stands : (n : ℤ) (number : Option ℤ) → IfSome number (λ m. m ≡ n) → IfNone number (FitsSigned w64 n → ⊥) → ((z : ℤ) → IsHeld rows field (scalar.Whole z) → FitsSigned w64 z) → Holds rows field Wholes →
+      StandsFor rows field (probe.Whole n) number
+  whole-stands n (Some m) is outside fit holds = subst (λ (k : ℤ). StandsFor rows field (probe.Whole n) (Some k)) (sym is) (ordered-stands (probe.Whole n) n (whole-ordered n holds))
+  whole-stands n None is outside fit holds = record { same = λ v held. absent_whole n outside fit v held (holds.only v held) ∙ ap is_eq (value_cmp-is v (probe.Whole n)) }
 
   absent_bound : (op : RangeOp) (w : List ℕ) → NoRowHas field w rows → (v : Scalar) → IsHeld rows field v → is_content Words v ≡ true →
       allows (without_equal op) (int_cmp (number v) (pos (place_among (words_of field rows) w))) ≡ allows op (value_cmp v (probe.Word w))

@@ -1,6 +1,7 @@
 -- The numbers that stand for the values of a field, in the order of the values: a whole number for itself, a word by its place
 -- among the words of the field, and a flag by 0 or 1.
 use Rattle.std.specs.Prelude.{◌≡◌, ℕ, ◌+◌, Bool, true, false, List, [], ◌∷◌, map, if◌then◌else◌, ℤ, pos, Option, Some, None, Contains}
+use Rattle.std.specs.List.{list_any}
 use Rattle.std.specs.Ordering.{nat_cmp, int_cmp, is_lt, is_eq}
 use Rattle.std.specs.Cmp.Lexicographic.{slice_cmp}
 use Rattle.agg_model.specs.declared.mapping.FieldKind.{FieldKind}
@@ -67,6 +68,10 @@ IsHeld rows field value = (n : ℕ) × Contains (values_of field (row_of rows n)
 abbrev pub is_number : Option ℤ → ℤ → Bool
 is_number (Some n) x = is_eq (int_cmp x n)
 is_number None x = false
+
+-- whether the number is one of these
+abbrev pub is_among : List ℤ → ℤ → Bool
+is_among numbers x = list_any (λ n. is_eq (int_cmp x n)) numbers
 
 abbrev pub within : Bound → ℤ → Bool
 within (bound.At op n) x = allows op (int_cmp x n)

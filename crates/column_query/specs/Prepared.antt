@@ -1,7 +1,7 @@
 -- What a prepared query says of a row.
-use Rattle.std.specs.Prelude.{◌≡◌, ℕ, ◌+◌, Bool, true, false, not, ◌&&◌, ◌||◌, Option, Vec, List, [], ◌∷◌, length, filter, map, nat_le, nat_lt, ℤ, pos, slice_index_or}
+use Rattle.std.specs.Prelude.{◌≡◌, ℕ, ◌+◌, Bool, true, not, ◌&&◌, ◌||◌, Option, Vec, List, [], ◌∷◌, length, filter, map, nat_le, nat_lt, ℤ}
 use Rattle.std.specs.List.{list_any, list_all}
-use Rattle.std.specs.Ordering.{nat_cmp, int_cmp, is_eq}
+use Rattle.std.specs.Ordering.{nat_cmp, is_eq}
 use Rattle.std.specs.Cmp.Lexicographic.{slice_cmp}
 use Rattle.std.specs.Str.{bytes_eq}
 use Rattle.std.specs.declared.alloc.Global.{Global}
@@ -15,30 +15,21 @@ use Rattle.agg_evaluation.specs.Rows.{PlacedRow, beneath, has_value, row_of}
 use Rattle.shard_columns.specs.Columns.{Columns}
 use Rattle.shard_columns.specs.Dictionary.{words_of}
 use Rattle.agg_model.specs.declared.row.Scalar.{Scalar}
-use Rattle.column_query.specs.Numbers.{number_of, numbers_of, is_number, within, IsHeld}
+use Rattle.column_query.specs.Numbers.{number_of, numbers_of, is_number, is_among, within, IsHeld}
+use Rattle.column_query.specs.NumberSets.{has_number}
 use Rattle.column_query.specs.declared.bounds.Bound.{Bound}
 use Rattle.column_query.specs.declared.prepared.NumberTest.{NumberTest}
-use Rattle.column_query.specs.declared.prepared.NumberTest.TheVariants.{Is, OneOf, Marked, Within}
+use Rattle.column_query.specs.declared.prepared.NumberTest.TheVariants.{Is, OneOf, Within}
 use Rattle.column_query.specs.declared.prepared.Prepared.{Prepared, Row_of-Prepared, end_of-Prepared, more_of-Prepared}
 use Rattle.column_query.specs.declared.prepared.Prepared.TheOpen.{Prepared-F}
 use Rattle.column_query.specs.declared.prepared.Prepared.TheVariants as prepared
 
--- whether the number is one of these
-abbrev pub is_among : List ℤ → ℤ → Bool
-is_among numbers x = list_any (λ n. is_eq (int_cmp x n)) numbers
-
 abbrev pub within_all : List Bound → ℤ → Bool
 within_all bounds x = list_all (λ bound. within bound x) bounds
 
--- whether the number is marked, of those from 0 on
-abbrev pub is_marked : List Bool → ℤ → Bool
-is_marked marks (pos n) = slice_index_or marks n false
-is_marked marks _ = false
-
 abbrev pub passes_number : NumberTest → ℤ → Bool
 passes_number (Is number) x = is_number number x
-passes_number (OneOf numbers) x = is_among numbers.keys x
-passes_number (Marked marks) x = is_marked marks.items x
+passes_number (OneOf numbers) x = has_number numbers x
 passes_number (Within bounds) x = within_all bounds.items x
 
 module _ {A : Type 0} (step : Prepared-F A → A) where
@@ -84,14 +75,6 @@ reads_below n = fold_prepared (reads_below_at n)
 -- the numbers stand for the probes among the values of the field
 pub record StandForAll (rows : List PlacedRow) (field : ℕ) (probes : List Probe) (numbers : List ℤ) : Type 0 where
   pub same : (v : Scalar) → IsHeld rows field v → is_among numbers (number_of (words_of field rows) v) ≡ list_any (λ probe. key_eq (scalar_key v) (probe_key probe)) probes
-
--- the marks stand for the probes among the values of the field
-pub record MarkAll (rows : List PlacedRow) (field : ℕ) (probes : List Probe) (marks : List Bool) : Type 0 where
-  pub same : (v : Scalar) → IsHeld rows field v → is_marked marks (number_of (words_of field rows) v) ≡ list_any (λ probe. key_eq (scalar_key v) (probe_key probe)) probes
-
--- the number, if there is one, is marked besides the others
-pub record AddsMark (old : List Bool) (number : Option ℤ) (new : List Bool) : Type 0 where
-  pub same : (x : ℤ) → is_marked new x ≡ (is_number number x || is_marked old x)
 
 -- the test stands for a list of values of the field
 pub record TestsFor (rows : List PlacedRow) (field : ℕ) (probes : List Probe) (test : NumberTest) : Type 0 where

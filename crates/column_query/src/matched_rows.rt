@@ -2,6 +2,7 @@
 ghost use Rattle.std.specs.Prelude.{◌≡◌, ◌<◌, length, true, map, slice_get, Some, IfOk};
 ghost use Rattle.agg_evaluation.specs.Matching.{matches};
 ghost use Rattle.agg_evaluation.specs.Rows.{roots};
+ghost use Rattle.shard_columns.specs.Built.{IsShard};
 ghost use Rattle.column_query.specs.Made.{IsMadeFor};
 ghost use Rattle.column_query.specs.Prepared.{reads_below, says};
 ghost use Rattle.agg_evaluation.specs.Conditions.{looks_below};
@@ -57,11 +58,17 @@ fn said(alloc: Global, shard: &Shard, query: &Prepared) -> Result<Bits, AllocErr
 }
 
 /// For each document of the shard, in the order of its roots, whether the query matches it, which looks at fields of the
-/// shard.
+/// shard. Without a document nothing is prepared.
 pub(crate) fn matched_roots(alloc: Global, shard: &Shard, query: &Query) -> Result<Bits, AllocError>
-    requires { looks_below (length shard.now.kinds) query.now ≡ true }
+    requires built { IsShard shard.now }
+    requires looks { looks_below (length shard.now.kinds) query.now ≡ true }
     ensures { IfOk result (λ bits. bits ≡ map (matches shard.now.rows query.now) (roots shard.now.rows)) }
 {
+    if shard.roots() == 0 {
+        return Ok(Bits {
+            bits: Vec::new(alloc),
+        });
+    }
     let prepared = prepare_query(alloc, shard, query)?;
     said(alloc, shard, &prepared)
 }

@@ -1,15 +1,16 @@
 //! Queries that are prepared once for a shard, before its rows are looked at: a word is looked up once in the dictionary of
 //! its field, and lists are sorted, so that a row costs its own values times the logarithm of a list.
-ghost use Rattle.std.specs.Prelude.{◌≡◌, ◌<◌, ℕ, length, filter, true, pos, IfSome, IfNone};
+ghost use Rattle.std.specs.Prelude.{◌≡◌, ◌<◌, length, filter, true, pos};
 ghost use Rattle.std.specs.List.{list_any, list_all};
 ghost use Rattle.std.specs.Ordering.{nat_cmp, is_eq};
 ghost use Rattle.std.specs.Cmp.Lexicographic.{slice_cmp};
 ghost use Rattle.agg_evaluation.specs.Rows.{row_of};
 ghost use Rattle.column_query.specs.Numbers.{numbers_of, flag_number};
-ghost use Rattle.column_query.specs.Prepared.{is_among as is_number_among, is_marked as is_place_marked, within_all as within_all_bounds, passes_number, says, reads_below};
+ghost use Rattle.column_query.specs.Prepared.{within_all as within_all_bounds, passes_number, says, reads_below};
 
 use crate::bounds::{Bound, allows_number};
 use crate::content::{Content, content_of_field};
+use crate::number_set::NumberSet;
 use agg_model::{Boxed, List};
 use shard_columns::Shard;
 use std::collections::BTreeSet;
@@ -18,10 +19,8 @@ use std::collections::BTreeSet;
 #[derive(Drop)]
 pub enum NumberTest {
     /// This number; none where no row has the value.
-    Is(Option<i128>),
-    OneOf(BTreeSet<i128>),
-    /// One of those from 0 on that are marked.
-    Marked(Vec<bool>),
+    Is(Option<i64>),
+    OneOf(NumberSet),
     /// All of these bounds allow it.
     Within(Vec<Bound>),
 }
@@ -53,56 +52,26 @@ pub enum Prepared {
     },
 }
 
-fn is_among(numbers: &BTreeSet<i128>, number: i128) -> bool
-    ensures { result ≡ is_number_among numbers.now.keys number }
-{
-    numbers.contains(&number)
-}
-
-/// The place with this number, of so many.
-pub(crate) fn place_below(number: i128, places: usize) -> Option<usize>
-    ensures within { IfSome result (λ n. n < places) }
-    ensures number { IfSome result (λ n. number ≡ pos n) }
-    ensures outside { IfNone result ((n : ℕ) → n < places → number ≡ pos n → ⊥) }
-{
-    match usize::try_from(number) {
-        Ok(place) if place < places => Some(place),
-        _ => None,
-    }
-}
-
-fn is_marked(marks: &[bool], number: i128) -> bool
-    ensures { result ≡ is_place_marked marks.now number }
-{
-    match place_below(number, marks.len()) {
-        Some(place) => marks[place],
-        None => false,
-    }
-}
-
 fn within_all(bounds: &[Bound], number: i128) -> bool
     ensures { result ≡ within_all_bounds bounds.now number }
 {
     bounds.iter().all(|bound| allows_number(*bound, number))
 }
 
-fn passes(test: &NumberTest, number: i128) -> bool
+fn passes(test: &NumberTest, number: i64) -> bool
     ensures { result ≡ passes_number test.now number }
 {
     match test {
         NumberTest::Is(wanted) => *wanted == Some(number),
-        NumberTest::OneOf(numbers) => is_among(numbers, number),
-        NumberTest::Marked(marks) => is_marked(marks.as_slice(), number),
-        NumberTest::Within(bounds) => within_all(bounds.as_slice(), number),
+        NumberTest::OneOf(numbers) => numbers.contains(number),
+        NumberTest::Within(bounds) => within_all(bounds.as_slice(), i128::from(number)),
     }
 }
 
 fn has_whole(numbers: &[i64], test: &NumberTest) -> bool
     ensures { result ≡ list_any (passes_number test.now) numbers.now }
 {
-    numbers
-        .iter()
-        .any(|number| passes(test, i128::from(*number)))
+    numbers.iter().any(|number| passes(test, *number))
 }
 
 fn has_ordinal(ordinals: &[u32], test: &NumberTest) -> bool
@@ -110,13 +79,13 @@ fn has_ordinal(ordinals: &[u32], test: &NumberTest) -> bool
 {
     ordinals
         .iter()
-        .any(|ordinal| passes(test, i128::from(*ordinal)))
+        .any(|ordinal| passes(test, i64::from(*ordinal)))
 }
 
 fn has_flag(flags: &[bool], test: &NumberTest) -> bool
     ensures { result ≡ list_any (λ b. passes_number test.now (flag_number b)) flags.now }
 {
-    flags.iter().any(|flag| passes(test, i128::from(*flag)))
+    flags.iter().any(|flag| passes(test, i64::from(*flag)))
 }
 
 // The values of the row are looked up once, and lent.

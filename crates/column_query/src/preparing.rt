@@ -1,24 +1,25 @@
 //! Preparing a query for a shard.
-ghost use Rattle.std.specs.Prelude.{◌≡◌, ◌<◌, length, true, IfOk, IfSome, IsTrue, OnOk};
+ghost use Rattle.std.specs.Prelude.{◌≡◌, ◌<◌, length, true, IfOk, OnOk};
 ghost use Rattle.std.specs.List.{list_all};
+ghost use Rattle.shard_columns.specs.Built.{IsShard};
 ghost use Rattle.column_query.specs.Made.{IsMade};
-ghost use Rattle.column_query.specs.Prepared.{AddsNumber, AddsMark, StandForAll, MarkAll, TestsFor, BoundAsAll, HasIds, IsReady, AreReady};
+ghost use Rattle.column_query.specs.Prepared.{AddsNumber, StandForAll, TestsFor, BoundAsAll, HasIds, IsReady, AreReady};
 ghost use Rattle.agg_evaluation.specs.Conditions.{looks_below};
 
 use crate::bounds::{Bound, bound_of};
-use crate::content::{Content, content_of_field};
+use crate::number_set::NumberSet;
 use crate::numbers::number_of_probe;
-use crate::prepared::{NumberTest, Prepared, place_below};
+use crate::prepared::{NumberTest, Prepared};
 use agg_model::{Boxed, List, Probe, Query, RangeTest, Text};
 use shard_columns::Shard;
 use std::alloc::{AllocError, Global};
 use std::collections::BTreeSet;
 
-fn put(numbers: &mut BTreeSet<i128>, number: Option<i128>) -> Result<(), AllocError>
-    ensures { OnOk result (AddsNumber numbers.old.keys number numbers.new.keys) }
+fn put(numbers: &mut Vec<i64>, number: Option<i64>) -> Result<(), AllocError>
+    ensures { OnOk result (AddsNumber numbers.old.items number numbers.new.items) }
 {
     if let Some(number) = number {
-        numbers.insert(number)?;
+        numbers.push(number)?;
     }
     Ok(())
 }
@@ -28,76 +29,34 @@ fn numbers_of(
     shard: &Shard,
     field: u32,
     probes: &[Probe],
-) -> Result<BTreeSet<i128>, AllocError>
-    requires { field < length shard.now.kinds }
-    ensures { IfOk result (λ set. StandForAll shard.now.rows field probes.now set.keys) }
+) -> Result<Vec<i64>, AllocError>
+    requires built { IsShard shard.now }
+    requires known { field < length shard.now.kinds }
+    ensures { IfOk result (λ numbers. StandForAll shard.now.rows field probes.now numbers.items) }
 {
-    let mut numbers = BTreeSet::new(alloc);
+    let mut numbers = Vec::with_capacity(alloc, probes.len())?;
     for probe in probes {
         put(&mut numbers, number_of_probe(shard, field, probe))?;
     }
     Ok(numbers)
 }
 
-// Marks the number, if there is one; false where it has no mark, and then nothing is marked.
-fn mark(marks: &mut Vec<bool>, number: Option<i128>) -> bool
-    ensures size { length marks.new.items ≡ length marks.old.items }
-    ensures adds { IsTrue result → AddsMark marks.old.items number marks.new.items }
-{
-    match number {
-        Some(number) => match place_below(number, marks.len()) {
-            Some(place) => {
-                marks[place] = true;
-                true
-            }
-            None => false,
-        },
-        None => true,
-    }
-}
-
-// A mark for each number from 0 to below `width`, set at those that are asked for; none where one of them lies elsewhere.
-fn marks_of(
-    alloc: Global,
-    shard: &Shard,
-    field: u32,
-    probes: &[Probe],
-    width: usize,
-) -> Result<Option<Vec<bool>>, AllocError>
-    requires { field < length shard.now.kinds }
-    ensures { IfOk result (λ found. IfSome found (λ marks. MarkAll shard.now.rows field probes.now marks.items)) }
-{
-    let mut marks = vec![in alloc; false; width]?;
-    for probe in probes {
-        if !mark(&mut marks, number_of_probe(shard, field, probe)) {
-            return Ok(None);
-        }
-    }
-    Ok(Some(marks))
-}
-
-// So many numbers may be marked for each value of a list, so that memory stays in proportion to the query.
-const NUMBERS_FOR_EACH: usize = 128;
-
-// Numbers near 0, as places of dictionaries are, are marked; others are a set.
+// Where no row has a value, none of the list is looked up.
 fn list_test(
     alloc: Global,
     shard: &Shard,
     field: u32,
     probes: &[Probe],
 ) -> Result<NumberTest, AllocError>
-    requires { field < length shard.now.kinds }
+    requires built { IsShard shard.now }
+    requires known { field < length shard.now.kinds }
     ensures { IfOk result (λ test. TestsFor shard.now.rows field probes.now test) }
 {
-    let most = probes.len().saturating_mul(NUMBERS_FOR_EACH);
-    let width = match content_of_field(shard, field) {
-        Content::Words => most.min(shard.words(field) as usize),
-        Content::Wholes | Content::Flags => most,
-    };
-    match marks_of(alloc, shard, field, probes, width)? {
-        Some(marks) => Ok(NumberTest::Marked(marks)),
-        None => Ok(NumberTest::OneOf(numbers_of(alloc, shard, field, probes)?)),
+    if shard.most_values(field) == 0 {
+        return Ok(NumberTest::Is(None));
     }
+    let numbers = numbers_of(alloc, shard, field, probes)?;
+    Ok(NumberTest::OneOf(NumberSet::of(alloc, numbers)?))
 }
 
 fn bounds_of(
@@ -132,7 +91,8 @@ fn prepare_all(
     shard: &Shard,
     queries: &List<Query>,
 ) -> Result<List<Prepared>, AllocError>
-    requires { list_all (looks_below (length shard.now.kinds)) queries.now ≡ true }
+    requires built { IsShard shard.now }
+    requires looks { list_all (looks_below (length shard.now.kinds)) queries.now ≡ true }
     ensures { IfOk result (λ prepared. AreReady shard.now queries.now prepared) }
 {
     let mut prepared = List::new(alloc);
@@ -149,7 +109,8 @@ pub(crate) fn prepare_query(
     shard: &Shard,
     query: &Query,
 ) -> Result<Prepared, AllocError>
-    requires { looks_below (length shard.now.kinds) query.now ≡ true }
+    requires built { IsShard shard.now }
+    requires looks { looks_below (length shard.now.kinds) query.now ≡ true }
     ensures { IfOk result (λ prepared. IsReady shard.now query.now prepared) }
 {
     match query {

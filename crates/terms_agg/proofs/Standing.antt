@@ -1,6 +1,7 @@
 -- Codes that stand for what a request names.
 use Rattle.std.proofs.Common.{◌≡◌, refl, ℕ, ◌<◌, zero, suc, Bool, true, false, List, [], length, Option, Some, None, sym, ◌∙◌, ap, subst, arith, ℤ, pos, negsuc, T}
 use mir.Val.{bool_byte}
+use Rattle.std.specs.Prelude.{IfSome, IfNone, option_map}
 use Rattle.std.specs.List.{slice_get}
 use Rattle.std.specs.Ordering.{int_cmp, is_eq}
 use Rattle.std.proofs.lemmas.Bool.{ltb-true}
@@ -121,3 +122,8 @@ module _ (field : ℕ) (rows : List PlacedRow) where
   pub stands-absent : (w : List ℕ) → NoRowHas field w rows → StandsFor hold.Words words (probe.Word w) None
   stands-absent w absent = stands_not hold.Words words (probe.Word w)
       (λ c code e. let there = word-there c w code (let same : word_at words c ≡ w = cc e in same) in no-place field rows w absent there.0 w there.1.1 refl)
+
+  -- a word by its place, if it has one
+  pub stands-named : (w : List ℕ) (ordinal : Option ℕ) → IfSome ordinal (λ o. slice_get words o ≡ Some w) → IfNone ordinal (NoRowHas field w rows) → StandsFor hold.Words words (probe.Word w) (option_map pos ordinal)
+  stands-named w (Some o) found absent = stands-word w o found
+  stands-named w None found absent = stands-absent w absent

@@ -1,9 +1,7 @@
 -- Codes: whole numbers that stand for the keys of a field in one shard. A whole number stands for itself, a word for its place
 -- among the words of the field, and false and true for 0 and 1 (Elasticsearch Reference 8, 'Terms aggregation', global ordinals).
 use Rattle.std.specs.Prelude.{ℕ, zero, ℤ, pos, negsuc, ◌++◌, ◌&&◌, Bool, true, false, not, nat_lt, List, [], length, slice_get, slice_index_or, option_to_list}
-use Rattle.std.specs.List.{list_any}
 use Rattle.std.specs.Option.{option_map_or}
-use Rattle.std.specs.Ordering.{int_cmp, is_eq}
 use Rattle.agg_model.specs.declared.key.Key.{Key}
 use Rattle.agg_model.specs.declared.key.Key.TheVariants as key
 use Rattle.agg_model.specs.declared.mapping.FieldKind.{FieldKind}
@@ -13,6 +11,8 @@ use Rattle.agg_model.specs.declared.row.Scalar.TheVariants as scalar
 use Rattle.shard_columns.specs.Columns.{Columns}
 use Rattle.shard_columns.specs.Dictionary.{words_of}
 use Rattle.shard_columns.specs.Values.{Words}
+use Rattle.column_query.specs.Numbers.{is_among}
+use Rattle.column_query.specs.NumberSets.{has_number}
 use Rattle.terms_agg.specs.declared.content.Content.{Content}
 use Rattle.terms_agg.specs.declared.content.Content.TheVariants as content
 use Rattle.terms_agg.specs.declared.code_sets.Codes.{Codes}
@@ -73,14 +73,10 @@ key_of shard p code = key_at (content_in shard p.field) (code_words shard p) cod
 abbrev pub is_code : Columns → PreparedTerms → ℤ → Bool
 is_code shard p code = is_code_at (content_in shard p.field) (length (code_words shard p)) code
 
-abbrev pub is_marked : List Bool → ℤ → Bool
-is_marked marks (pos n) = slice_index_or marks n false
-is_marked marks (negsuc n) = false
-
 -- whether the code is in the set
 abbrev pub has_code : Codes → ℤ → Bool
-has_code (codes.Ordinals marks) code = is_marked marks.items code
-has_code (codes.Numbers numbers) code = list_any (λ n. is_eq (int_cmp code n)) numbers.keys
+has_code (codes.Ordinals ordinals) code = has_number ordinals code
+has_code (codes.Numbers numbers) code = is_among numbers.keys code
 
 -- whether the prepared aggregation includes the code, and does not exclude it
 abbrev pub allows : PreparedTerms → ℤ → Bool

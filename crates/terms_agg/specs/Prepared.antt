@@ -1,8 +1,7 @@
 -- A terms aggregation that is prepared for a shard (Elasticsearch Reference 8, 'Terms aggregation').
-use Rattle.std.specs.Prelude.{◌≡◌, ℕ, ℤ, ◌<◌, ◌||◌, ◌++◌, Bool, true, false, List, length, map, filter, slice_get, Option, Some, None, option_to_list}
+use Rattle.std.specs.Prelude.{◌≡◌, ℕ, ℤ, ◌<◌, ◌++◌, Bool, true, false, List, length, map, filter, slice_get, Option, Some, option_to_list}
 use Rattle.std.specs.List.{list_all}
 use Rattle.std.specs.Option.{option_map_or}
-use Rattle.std.specs.Ordering.{int_cmp, is_eq}
 use Rattle.agg_model.specs.Options.{TermsOptions, terms_kind}
 use Rattle.agg_model.specs.ValueKeys.{scalar_key, probe_key}
 use Rattle.agg_model.specs.declared.key.Key.{Key}
@@ -15,11 +14,11 @@ use Rattle.agg_evaluation.specs.Keys.{distinct_keys, is_included}
 use Rattle.shard_columns.specs.Columns.{Columns}
 use Rattle.shard_columns.specs.Dictionary.{words_of}
 use Rattle.shard_columns.specs.Values.{Words}
+use Rattle.column_query.specs.Numbers.{is_number, is_among}
 use Rattle.terms_agg.specs.declared.content.Content.{Content}
 use Rattle.terms_agg.specs.declared.code_sets.Codes.{Codes}
-use Rattle.terms_agg.specs.declared.code_sets.Codes.TheVariants.{Ordinals, Numbers}
 use Rattle.terms_agg.specs.declared.prepared.PreparedTerms.{PreparedTerms}
-use Rattle.terms_agg.specs.Codes.{content_in, is_content, is_code_at, is_code, is_place, has_code, key_at, key_of, allows}
+use Rattle.terms_agg.specs.Codes.{content_in, is_content, is_code_at, is_code, has_code, key_at, key_of, allows}
 
 -- the field is one of the shard's, and what stands for a missing value is of its kind
 pub record IsTermsOf (shard : Columns) (field : ℕ) (missing : Option Scalar) : Type 0 where
@@ -31,28 +30,17 @@ abbrev pub IsTerms : Columns → Kind → Type 0
 IsTerms shard (kind.Terms field size shard_size min_doc_count order include exclude missing show_error) = IsTermsOf shard field missing
 IsTerms shard _ = ⊥
 
-abbrev pub is_number : Option ℤ → ℤ → Bool
-is_number (Some n) x = is_eq (int_cmp x n)
-is_number None x = false
-
 -- the number is the code of the key that the probe asks for, or there is none among these words
 pub record StandsFor (content : Content) (words : Words) (probe : Probe) (number : Option ℤ) : Type 0 where
   pub same : (c : ℤ) → is_code_at content (length words) c ≡ true → is_number number c ≡ key_eq (key_at content words c) (probe_key probe)
 
--- the set can tell these codes
-abbrev pub covers : Codes → ℤ → Bool
-covers (Ordinals marks) c = is_place (length marks.items) c
-covers (Numbers numbers) c = true
+-- the numbers are the codes of the keys that the probes ask for, of those that have codes
+pub record StandForEach (content : Content) (words : Words) (probes : List Probe) (numbers : List ℤ) : Type 0 where
+  pub same : (c : ℤ) → is_code_at content (length words) c ≡ true → is_among numbers c ≡ has_key (key_at content words c) (map probe_key probes)
 
 -- the set has the codes of the keys that the probes ask for
 pub record StandForAll (content : Content) (words : Words) (probes : List Probe) (set : Codes) : Type 0 where
-  pub all : (c : ℤ) → is_code_at content (length words) c ≡ true → covers set c ≡ true
   pub same : (c : ℤ) → is_code_at content (length words) c ≡ true → has_code set c ≡ has_key (key_at content words c) (map probe_key probes)
-
--- one more code
-pub record Adds (old new : Codes) (number : Option ℤ) : Type 0 where
-  pub covered : (c : ℤ) → covers new c ≡ covers old c
-  pub same : (c : ℤ) → covers old c ≡ true → has_code new c ≡ (is_number number c || has_code old c)
 
 -- the keys of these values, as a terms aggregation takes them
 abbrev pub keys_of_values : TermsOptions → List Scalar → List Key

@@ -119,7 +119,7 @@ fn excluded_codes(
 
 /// The terms aggregation, prepared for the shard. Its field is one of the shard's, and what stands for a missing value is of
 /// the field's kind. It takes time by the lengths of `include` and `exclude` times the logarithm of the dictionary's length,
-/// and where one of them is given for words, memory and time by the length of the dictionary.
+/// and memory by their lengths alone.
 pub fn prepare(alloc: Global, shard: &Shard, kind: &Kind) -> Result<PreparedTerms, AllocError>
     requires { IsTerms shard.now kind.now }
     ensures { IfOk result (λ p. IsReady shard.now kind.now p) }

@@ -4,8 +4,7 @@ use Rattle.agg_model.specs.declared.query.Probe.{Probe}
 use Rattle.shard_columns.specs.Dictionary.{words_of, NoRowHas}
 use Rattle.column_query.specs.declared.content.Content.TheVariants.{Words}
 use Rattle.column_query.specs.Numbers.{StandsFor}
-use Rattle.column_query.proofs.Standing.{differs, none-stands}
-use Rattle.column_query.proofs.Marking.{word-stands}
+use Rattle.column_query.proofs.Standing.{differs, none-stands, word-stands}
 use Rattle.column_query.proofs.numbers.place_of_probe.Goals as goal
 
 pub returns-in-Word : goal.returns-in-Word

@@ -12,34 +12,34 @@ use Rattle.column_query.proofs.preparing.+prepare_query.Goals as goal
 pub prepare_query-prepare_all-requires : goal.prepare_query-prepare_all-requires
 prepare_query-prepare_all-requires t c =
     let deeper = parts-less c.args.query.now c.in-Bool.must c.in-Bool.must_not c.in-Bool.should c.in-Bool.minimum c.in-Bool.is in
-    (omega (arith, c.decreases, deeper.0), (parts-look (length c.args.shard.now.kinds) c.args.query.now c.in-Bool.must c.in-Bool.must_not c.in-Bool.should c.in-Bool.minimum c.in-Bool.is c.requires).0)
+    (omega (arith, c.decreases, deeper.0), (c.requires.built, (parts-look (length c.args.shard.now.kinds) c.args.query.now c.in-Bool.must c.in-Bool.must_not c.in-Bool.should c.in-Bool.minimum c.in-Bool.is c.requires.looks).0))
 
 pub prepare_query-prepare_all-requires-in-Bool : goal.prepare_query-prepare_all-requires-in-Bool
 prepare_query-prepare_all-requires-in-Bool t c =
     let deeper = parts-less c.args.query.now c.in-Bool.must c.in-Bool.must_not c.in-Bool.should c.in-Bool.minimum c.in-Bool.is in
-    (omega (arith, c.decreases, deeper.1), (parts-look (length c.args.shard.now.kinds) c.args.query.now c.in-Bool.must c.in-Bool.must_not c.in-Bool.should c.in-Bool.minimum c.in-Bool.is c.requires).1)
+    (omega (arith, c.decreases, deeper.1), (c.requires.built, (parts-look (length c.args.shard.now.kinds) c.args.query.now c.in-Bool.must c.in-Bool.must_not c.in-Bool.should c.in-Bool.minimum c.in-Bool.is c.requires.looks).1))
 
 pub prepare_query-prepare_all-requires-in-Bool-2 : goal.prepare_query-prepare_all-requires-in-Bool-2
 prepare_query-prepare_all-requires-in-Bool-2 t c =
     let deeper = parts-less c.args.query.now c.in-Bool.must c.in-Bool.must_not c.in-Bool.should c.in-Bool.minimum c.in-Bool.is in
-    (omega (arith, c.decreases, deeper.2), (parts-look (length c.args.shard.now.kinds) c.args.query.now c.in-Bool.must c.in-Bool.must_not c.in-Bool.should c.in-Bool.minimum c.in-Bool.is c.requires).2)
+    (omega (arith, c.decreases, deeper.2), (c.requires.built, (parts-look (length c.args.shard.now.kinds) c.args.query.now c.in-Bool.must c.in-Bool.must_not c.in-Bool.should c.in-Bool.minimum c.in-Bool.is c.requires.looks).2))
 
 pub prepare_query-prepare_query-requires : goal.prepare_query-prepare_query-requires
 prepare_query-prepare_query-requires t c =
     let deeper = inner-less c.args.query.now c.in-Nested.path c.in-Nested.query c.in-Nested.is in
-    (omega (arith, c.decreases, deeper, ap size-Query c.get.ensures), rw c.get.ensures (inner-looks (length c.args.shard.now.kinds) c.args.query.now c.in-Nested.path c.in-Nested.query c.in-Nested.is c.requires))
+    (omega (arith, c.decreases, deeper, ap size-Query c.get.ensures), (c.requires.built, rw c.get.ensures (inner-looks (length c.args.shard.now.kinds) c.args.query.now c.in-Nested.path c.in-Nested.query c.in-Nested.is c.requires.looks)))
 
 pub prepare_query-returns-in-Term : goal.prepare_query-returns-in-Term
-prepare_query-returns-in-Term t c = ready-Term c.args.shard.now c.args.query.now c.in-Term.field c.in-Term.value c.number_of_probe.result c.in-Term.is c.requires c.number_of_probe.ensures
+prepare_query-returns-in-Term t c = ready-Term c.args.shard.now c.args.query.now c.in-Term.field c.in-Term.value c.number_of_probe.result c.in-Term.is c.requires.looks c.number_of_probe.ensures
 
 pub prepare_query-returns-in_ok-list_test-in-Terms : goal.prepare_query-returns-in_ok-list_test-in-Terms
 prepare_query-returns-in_ok-list_test-in-Terms t c =
-    ready-Terms c.args.shard.now c.args.query.now c.in-Terms.field c.in-Terms.values c.in_ok-list_test-in-Terms.field-0 c.in-Terms.is c.requires
+    ready-Terms c.args.shard.now c.args.query.now c.in-Terms.field c.in-Terms.values c.in_ok-list_test-in-Terms.field-0 c.in-Terms.is c.requires.looks
     (subst (λ (ps : List Probe). TestsFor c.args.shard.now.rows c.in-Terms.field ps c.in_ok-list_test-in-Terms.field-0) c.as_slice.ensures c.in_ok-list_test-in-Terms.ensures)
 
 pub prepare_query-returns-in_ok-bounds_of-in-Range : goal.prepare_query-returns-in_ok-bounds_of-in-Range
 prepare_query-returns-in_ok-bounds_of-in-Range t c =
-    ready-Range c.args.shard.now c.args.query.now c.in-Range.field c.in-Range.tests c.in_ok-bounds_of-in-Range.field-0 c.in-Range.is c.requires
+    ready-Range c.args.shard.now c.args.query.now c.in-Range.field c.in-Range.tests c.in_ok-bounds_of-in-Range.field-0 c.in-Range.is c.requires.looks
     (subst (λ (ts : List RangeTest). BoundAsAll c.args.shard.now.rows c.in-Range.field ts c.in_ok-bounds_of-in-Range.field-0.items) c.as_slice-in-Range.ensures c.in_ok-bounds_of-in-Range.ensures)
 
 pub prepare_query-returns-in_ok-ids_of-in-Ids : goal.prepare_query-returns-in_ok-ids_of-in-Ids

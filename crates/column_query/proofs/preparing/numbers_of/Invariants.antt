@@ -3,4 +3,4 @@ use Rattle.column_query.specs.Prepared.{StandForAll}
 use Rattle.column_query.proofs.preparing.numbers_of.Given as goal
 
 abbrev pub invariant-loop-probe : goal.invariant-loop-probe
-invariant-loop-probe l = StandForAll l.shard.rows l.field (take l.probe-index l.probes) l.numbers.keys
+invariant-loop-probe l = StandForAll l.shard.rows l.field (take l.probe-index l.probes) l.numbers.items
