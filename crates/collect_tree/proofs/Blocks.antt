@@ -8,7 +8,7 @@ use Rattle.agg_model.specs.declared.aggregation.Search.{Search}
 use Rattle.agg_model.specs.declared.partial.Node.{Node}
 use Rattle.agg_evaluation.specs.Cost.{cost, node_cost}
 use Rattle.agg_evaluation.specs.Rows.{PlacedRow, row_of}
-use Rattle.agg_evaluation.specs.Trace.{built, is_global, matched}
+use Rattle.agg_evaluation.specs.Trace.{built, is_global}
 use Rattle.growing_tree.proofs.Each.{after-all, after-next}
 use Rattle.growing_tree.specs.GatheredEach.{after_each, cost_after, counted_one, gathered_one}
 use Rattle.growth_laws.specs.Gathering.{counted, gathered}

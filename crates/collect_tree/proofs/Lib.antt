@@ -9,3 +9,4 @@ pub mod Composites
 pub mod Changes
 pub mod Blocks
 pub mod Listing
+pub mod RootlessShards

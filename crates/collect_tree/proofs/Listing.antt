@@ -8,7 +8,7 @@ use Rattle.std.proofs.lemmas.List.{get_or_append_left, get_or_push}
 use Rattle.std.proofs.lemmas.List.Elements.{All-push}
 use Rattle.agg_evaluation.specs.Matching.{matches}
 use Rattle.agg_evaluation.specs.Rows.{PlacedRow, roots, row_of}
-use Rattle.agg_evaluation.specs.Trace.{global_roots, is_global, matched}
+use Rattle.agg_evaluation.specs.Trace.{global_roots, is_global}
 use Rattle.agg_model.specs.declared.aggregation.Agg.{out-Agg}
 use Rattle.agg_model.specs.declared.aggregation.Search.{Search}
 use Rattle.growth_laws.specs.Amounts.{row_count}

@@ -26,7 +26,7 @@ use Rattle.shard_columns.specs.Made.{IsAggFor, IsSearchFor}
 use Rattle.fitting_laws.proofs.Aparts.{documents_apart}
 
 -- what holds of all holds of the one at a place
-at-place : {A : Type 0} (p : A → Bool) (xs : List A) (n : ℕ) (x : A) → list_all p xs ≡ true → slice_get xs n ≡ Some x → p x ≡ true
+pub at-place : {A : Type 0} (p : A → Bool) (xs : List A) (n : ℕ) (x : A) → list_all p xs ≡ true → slice_get xs n ≡ Some x → p x ≡ true
 at-place p [] zero x all here = none_some x here
 at-place p [] (suc n) x all here = none_some x here
 at-place p (y ∷ xs) zero x all here = ap p (sym (some_same y x here)) ∙ (and_parts (p y) (list_all p xs) all).0

@@ -1,5 +1,5 @@
 -- A task stays below its ceiling, and a ceiling is a number of 64 bits.
-use Rattle.std.specs.Prelude.{◌≡◌, refl, ℕ, ◌+◌, ◌*◌, ◌<◌, ◌≤◌, true, false, if◌then◌else◌, nat_lt, List, Some, None, map, sum_by}
+use Rattle.std.specs.Prelude.{◌≡◌, refl, ℕ, ◌+◌, ◌-◌, ◌*◌, ◌^◌, ◌<◌, ◌≤◌, true, false, if◌then◌else◌, min, nat_lt, List, Some, None, map, sum_by}
 use Rattle.std.proofs.Common.{ap, arith}
 use Rattle.std.proofs.lemmas.Bool.Decides.{nat_tests}
 use Rattle.agg_model.specs.declared.aggregation.Search.{Search}
@@ -53,3 +53,10 @@ module _ (shard : Columns) (search : Search) (made : IsSearchFor shard search) (
       let tree = tree-room 0 in
       let top = low in
       omega arith
+
+  -- they fit in 64 bits
+  pub empty-exact : (bytes : ℕ) → bytes ≡ min (sum_by node_cost (map empty_node search.aggs)) (2 ^ 64 - 1) → bytes ≡ cost (built search shard.rows 0)
+  empty-exact bytes is =
+      let same = ap (sum_by node_cost) (built-begins search shard.rows) in
+      let less = empty-low in
+      omega (arith, is, same, less)

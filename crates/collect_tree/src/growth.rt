@@ -1,9 +1,10 @@
 //! The trees of a task, which grow root by root, in blocks of roots.
-ghost use Rattle.std.specs.Prelude.{◌≡◌, ◌+◌, ◌<◌, ◌^◌, All, IfOk, OnOk, Some, length, map, replicate, slice_get, slice_index, sum_by, ℕ};
-ghost use Rattle.agg_evaluation.specs.Cost.{node_cost};
+ghost use Rattle.std.specs.Prelude.{◌≡◌, ◌+◌, ◌<◌, All, IfOk, OnOk, Some, length, map, replicate, slice_get, slice_index, sum_by, ℕ};
+ghost use Rattle.agg_evaluation.specs.Cost.{cost as cost_of};
 ghost use Rattle.agg_evaluation.specs.Counted.{IsApart};
 ghost use Rattle.agg_evaluation.specs.Rows.{row_of};
 ghost use Rattle.agg_evaluation.specs.Shard.{shard_answer};
+ghost use Rattle.agg_evaluation.specs.Trace.{built};
 ghost use Rattle.agg_evaluation.specs.Whole.{empty_node};
 ghost use Rattle.agg_model.specs.declared.aggregation.Agg.{Agg as AnyAgg};
 ghost use Rattle.agg_model.specs.declared.partial.Node.{Node as AnyNode};
@@ -19,8 +20,7 @@ ghost use Rattle.shard_columns.specs.Made.{IsAggFor, IsSearchFor};
 
 use crate::phase::Phase;
 use crate::top_tree::{TopTree, begin, collect, finish};
-use agg_model::{Agg, List, Node, Partial, Search};
-use partial_result::{cost, empty_nodes};
+use agg_model::{Agg, List, Node, Search};
 use shard_columns::Shard;
 use std::alloc::{AllocError, Global};
 
@@ -49,16 +49,6 @@ fn begin_trees(alloc: Global, shard: &Shard, aggs: &List<Agg>) -> Result<Vec<Top
         trees.push(tree)?;
     }
     Ok(trees)
-}
-
-/// What the trees over no root cost together.
-fn empty_bytes(alloc: Global, aggs: &List<Agg>) -> Result<u64, AllocError>
-    requires fits { sum_by node_cost (map empty_node aggs.now) < 2 ^ 64 }
-    ensures { IfOk result (λ bytes. bytes ≡ sum_by node_cost (map empty_node aggs.now)) }
-{
-    let nodes = empty_nodes(alloc, aggs)?;
-    let empty = Partial { hits: 0, nodes };
-    Ok(cost(&empty))
 }
 
 /// The roots of a block in each of the trees that collect them. What they add to the cost of all trees, and what they take from
@@ -171,14 +161,18 @@ fn finish_trees(
 }
 
 impl Growth {
-    /// The trees over no root. The search is made for the mapping of the shard.
-    pub(crate) fn begin(alloc: Global, shard: &Shard, search: &Search) -> Result<Growth, AllocError>
+    /// The trees over no root, which cost so many bytes. The search is made for the mapping of the shard.
+    pub(crate) fn begin(
+        alloc: Global,
+        shard: &Shard,
+        search: &Search,
+        bytes: u64,
+    ) -> Result<Growth, AllocError>
         requires made { IsSearchFor shard.now search.now }
-        requires ceiling { HasCeiling shard.now search.now }
+        requires bytes { bytes ≡ cost_of (built search.now shard.now.rows 0) }
         ensures { IfOk result (HasGrown shard.now search.now 0) }
     {
         let trees = begin_trees(alloc, shard, &search.aggs)?;
-        let bytes = empty_bytes(alloc, &search.aggs)?;
         Ok(Growth {
             alloc,
             trees,

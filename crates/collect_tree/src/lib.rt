@@ -6,6 +6,7 @@ mod charging;
 mod ending;
 mod growth;
 mod phase;
+mod rootless;
 mod running;
 mod top_tree;
 

@@ -1,53 +1,90 @@
 //! A task from its first charge to its answer.
-ghost use Rattle.std.specs.Prelude.{◌≡◌, ℕ, [], IfOk, map, take};
+ghost use Rattle.std.specs.Prelude.{◌≡◌, ◌+◌, ℕ, IfErr, IfOk, OnOk, map, take};
+ghost use Rattle.agg_evaluation.specs.Cost.{cost as cost_of};
 ghost use Rattle.agg_evaluation.specs.Matching.{matches};
 ghost use Rattle.agg_evaluation.specs.Rows.{roots};
 ghost use Rattle.agg_evaluation.specs.Shard.{shard_answer};
-ghost use Rattle.agg_evaluation.specs.Trace.{trace};
+ghost use Rattle.agg_evaluation.specs.Trace.{built, task_overhead, trace};
 ghost use Rattle.breaker_words.specs.Passes.{IsOf};
+ghost use Rattle.breaker_words.specs.declared.view.View.{View};
 ghost use Rattle.collect_tree.specs.Ends.{IfDone, IfMemory, IfRefused};
 ghost use Rattle.collect_tree.specs.Grown.{HasGrown};
-ghost use Rattle.collect_tree.specs.Room.{HasCeiling, HasRoom};
+ghost use Rattle.collect_tree.specs.Room.{HasRoom, HoldsTask};
+ghost use Rattle.collect_tree.specs.Stops.{StopsFrom};
 ghost use Rattle.growth_laws.specs.Amounts.{amounts};
 ghost use Rattle.shard_columns.specs.Made.{IsSearchFor};
+ghost use Rattle.task_charges.specs.Charged.{HasPaid};
 ghost use Rattle.task_charges.specs.Ended.{IsDone, IsGivenUp, IsRefused};
 
 use crate::charging::collect_and_finish;
 use crate::ending::{Stop, TaskEnd};
 use crate::growth::Growth;
+use crate::rootless::answer_at_once;
 use agg_model::costs::TASK_BYTES;
-use agg_model::{Search, Which};
+use agg_model::{Partial, Search};
 use breaker_words::{Pass, Trial, Words};
 use column_query::{Bits, matched};
+use growing_tree::empty_bytes;
 use shard_columns::Shard;
 use std::alloc::{AllocError, Global};
-use task_charges::begin;
+use task_charges::{begin, give_up};
 
-/// A task that has charged nothing and cannot go on: its pass stays as it is.
-fn not_begun(pass: &Pass)
-    requires rest { pass.now.view.trial ≡ Trial.Rest }
-    ensures { IsGivenUp pass.now.view pass.now.view [] }
-{
-    // All that was granted to a pass is a number of 64 bits.
-    let _at_request = pass.granted(Which::Request);
-    let _at_parent = pass.granted(Which::Parent);
-}
-
-/// The trees over no root, and for each root whether the query matches it.
-fn prepare(alloc: Global, shard: &Shard, search: &Search) -> Result<(Growth, Bits), AllocError>
+/// The trees over no root, which cost so many bytes, and for each root whether the query matches it.
+fn prepare(
+    alloc: Global,
+    shard: &Shard,
+    search: &Search,
+    bytes: u64,
+) -> Result<(Growth, Bits), AllocError>
     requires made { IsSearchFor shard.now search.now }
-    requires ceiling { HasCeiling shard.now search.now }
+    requires bytes { bytes ≡ cost_of (built search.now shard.now.rows 0) }
     ensures grown { IfOk result (λ r. HasGrown shard.now search.now 0 r.0) }
     ensures matched { IfOk result (λ r. r.1 ≡ map (matches shard.now.rows search.now.query) (roots shard.now.rows)) }
 {
-    let growth = Growth::begin(alloc, shard, search)?;
+    let growth = Growth::begin(alloc, shard, search, bytes)?;
     let bits = matched(alloc, shard, &search.query)?;
     Ok((growth, bits))
 }
 
+/// A task that holds what its empty trees cost, `bytes`, to its end: only now are they built.
+fn run_begun(
+    alloc: Global,
+    words: &Words,
+    pass: &mut Pass,
+    shard: &Shard,
+    search: &Search,
+    bytes: u64,
+) -> Result<Partial, Stop>
+    requires of { IsOf words.now pass.old }
+    requires rest { pass.old.view.trial ≡ Trial.Rest }
+    requires made { IsSearchFor shard.now search.now }
+    requires bytes { bytes ≡ cost_of (built search.now shard.now.rows 0) }
+    requires held { HoldsTask shard.now search.now (task_overhead + bytes) pass.old.view }
+
+    ensures answer { IfOk result (λ p. p ≡ shard_answer search.now shard.now.rows) }
+    ensures paid { OnOk result ((v : View) →
+        HasPaid words.now.limits v pass.old.view (take 1 (amounts search.now shard.now.rows)) →
+        HasPaid words.now.limits v pass.new.view (amounts search.now shard.now.rows)) }
+    ensures stopped { IfErr result (StopsFrom words.now.limits (amounts search.now shard.now.rows) 0
+        pass.old.view pass.new.view) }
+    ensures of { IsOf words.now pass.new }
+    ensures trial { pass.new.view.trial ≡ Trial.Rest }
+    ensures cap { pass.new.view.cap ≡ pass.old.view.cap }
+{
+    if shard.roots() == 0 {
+        return answer_at_once(alloc, words, pass, shard, search, bytes);
+    }
+    let held = TASK_BYTES + bytes;
+    let Ok((growth, roots)) = prepare(alloc, shard, search, bytes) else {
+        give_up(words, pass, held);
+        return Err(Stop::Memory);
+    };
+    collect_and_finish(words, pass, shard, search, &roots, growth)
+}
+
 /// What the shard answers to the search. The task holds what its trees cost at request and at the parent: it charges the empty
-/// trees with an overhead, and for each root, in order, what the root added; at the end it gives back the overhead and what the trees
-/// cost above the answer.
+/// trees with an overhead, before anything is built or prepared, and for each root, in order, what the root added; at the end it
+/// gives back the overhead and what the trees cost above the answer. A shard without roots answers its empty trees at once.
 ///
 /// The search is made for the mapping of the shard, and the pass has room for the task's ceiling. After a refusal, and after
 /// want of memory, nothing is held for the task any more.
@@ -76,14 +113,12 @@ pub fn run_task(
     ensures trial { pass.new.view.trial ≡ Trial.Rest }
     ensures cap { pass.new.view.cap ≡ pass.old.view.cap }
 {
-    let Ok((growth, roots)) = prepare(alloc, shard, search) else {
-        not_begun(pass);
-        return TaskEnd::Memory;
-    };
-    if let Err(tripped) = begin(words, pass, TASK_BYTES + growth.bytes) {
+    let bytes = empty_bytes(&search.aggs);
+    let held = TASK_BYTES + bytes;
+    if let Err(tripped) = begin(words, pass, held) {
         return TaskEnd::Refused(tripped);
     }
-    match collect_and_finish(words, pass, shard, search, &roots, growth) {
+    match run_begun(alloc, words, pass, shard, search, bytes) {
         Ok(answer) => TaskEnd::Done(answer),
         Err(Stop::Refused(tripped)) => TaskEnd::Refused(tripped),
         Err(Stop::Memory) => TaskEnd::Memory,

@@ -87,7 +87,7 @@ fn no_codes(alloc: Global, table: Table) -> Result<Places, AllocError>
 }
 
 // The number of the buckets of filters.
-pub(crate) fn count_of(filters: &List<Query>, other: &Option<Text>) -> Result<usize, AllocError>
+fn count_of(filters: &List<Query>, other: &Option<Text>) -> Result<usize, AllocError>
     ensures { IfOk result (λ n. n ≡ option_map_or (λ name. length filters.now + 1) other.now (length filters.now)) }
 {
     match other {

@@ -10,6 +10,7 @@ mod beneath_roots;
 mod chosen;
 mod coded;
 mod counted;
+mod empty_trees;
 mod finishing;
 mod frequent;
 mod gathering;
@@ -27,6 +28,7 @@ mod tree;
 mod with_trees;
 
 pub use beginning::{begin, begin_trees, bucket_bytes};
+pub use empty_trees::{child_bytes, empty_bytes};
 pub use finishing::{finish, finish_children};
 pub use gathering::{gather, gather_children};
 pub use in_turn::{count_each, gather_each};

@@ -1,17 +1,12 @@
 //! Aggregations, prepared for a shard.
 ghost use Rattle.std.specs.Prelude.{◌≡◌, All, IfOk, length};
-ghost use Rattle.agg_evaluation.specs.Cost.{node_cost};
-ghost use Rattle.agg_evaluation.specs.Whole.{empty_node};
 ghost use Rattle.filters_agg.specs.Filtering.{IsMadeFor};
 ghost use Rattle.shard_columns.specs.Built.{IsShard};
 ghost use Rattle.shard_columns.specs.Made.{IsAggFor};
-ghost use Rattle.growing_tree.specs.Readiness.{AreReadyFor, HasChildBytes, IsKindReady, IsReadyFor};
-ghost use Rattle.growing_tree.specs.Starting.{start_count as number_from_start};
+ghost use Rattle.growing_tree.specs.Readiness.{AreReadyFor, IsKindReady, IsReadyFor};
 
-use crate::beginning::count_of;
+use crate::empty_trees::{child_bytes, start_count};
 use crate::ready::{Ready, ReadyKind, Table};
-use crate::sums::{product, sum};
-use agg_model::costs::{BUCKET_BYTES, NODE_BYTES};
 use agg_model::{Agg, Kind, List};
 use filters_agg::prepare as prepare_filters;
 use histogram_agg::prepare as prepare_histogram;
@@ -54,49 +49,13 @@ fn prepare_kind(alloc: Global, shard: &Shard, kind: &Kind) -> Result<ReadyKind, 
     }
 }
 
-// The number of the buckets that exist from the start.
-fn start_count(kind: &Kind) -> Result<u64, AllocError>
-    ensures { IfOk result (λ n. n ≡ number_from_start kind.now) }
-{
-    match kind {
-        Kind::Filters { filters, other, .. } => {
-            let count = count_of(filters, other)?;
-            Ok(count as u64)
-        }
-        Kind::Filter { .. }
-        | Kind::Missing { .. }
-        | Kind::Global
-        | Kind::Nested { .. }
-        | Kind::ReverseNested { .. } => Ok(1),
-        Kind::Terms { .. }
-        | Kind::Histogram { .. }
-        | Kind::Composite { .. }
-        | Kind::Sum { .. }
-        | Kind::Min { .. }
-        | Kind::Max { .. }
-        | Kind::Avg { .. }
-        | Kind::ValueCount { .. } => Ok(0),
-    }
-}
-
-// The bytes of the tree over no row: the keys of its buckets cost none.
-fn empty_bytes(agg: &Agg, ready: &Ready) -> Result<u64, AllocError>
-    requires { HasChildBytes agg.now ready.now }
-    ensures { IfOk result (λ n. n ≡ node_cost (empty_node agg.now)) }
-{
-    let count = start_count(&agg.kind)?;
-    let bucket = sum(BUCKET_BYTES, ready.child_bytes)?;
-    let bytes = sum(NODE_BYTES, product(count, bucket)?)?;
-    Ok(bytes)
-}
-
 // How many buckets a tree of the aggregation may have; 2^64 - 1 where that is not known.
 fn most_buckets(shard: &Shard, kind: &Kind, ready: &ReadyKind) -> u64
     requires ready { IsKindReady shard.now kind.now ready.now }
 {
     match ready {
         ReadyKind::Single => 1,
-        ReadyKind::Filters(_) => start_count(kind).unwrap_or(u64::MAX),
+        ReadyKind::Filters(_) => start_count(kind),
         ReadyKind::Terms(terms) => code_count(shard, terms).unwrap_or(u64::MAX),
         ReadyKind::Histogram(_) | ReadyKind::Metric | ReadyKind::Composite => u64::MAX,
     }
@@ -127,18 +86,16 @@ fn prepare_within(alloc: Global, shard: &Shard, agg: &Agg, trees: u64) -> Result
     let buckets = most_buckets(shard, &agg.kind, &kind);
     let trees_below = trees.saturating_mul(buckets);
     let mut children = List::new(alloc);
-    let mut child_bytes = 0;
     for child in agg.children.as_slice() {
         let ready = prepare_within(alloc, shard, child, trees_below)?;
-        let bytes = empty_bytes(child, &ready)?;
-        child_bytes = sum(child_bytes, bytes)?;
         children.push(ready)?;
     }
+    let bytes = child_bytes(&agg.children)?;
     let table = table_of(&kind, buckets, trees);
     Ok(Ready {
         kind,
         table,
-        child_bytes,
+        child_bytes: bytes,
         children,
     })
 }

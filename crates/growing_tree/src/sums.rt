@@ -1,5 +1,5 @@
-//! Sums and products of counts and bytes.
-ghost use Rattle.std.specs.Prelude.{◌≡◌, ◌+◌, ◌*◌, IfOk};
+//! Sums of counts and bytes.
+ghost use Rattle.std.specs.Prelude.{◌≡◌, ◌+◌, IfOk};
 
 use std::alloc::AllocError;
 
@@ -8,11 +8,4 @@ pub(crate) fn sum(a: u64, b: u64) -> Result<u64, AllocError>
     ensures { IfOk result (λ s. s ≡ a + b) }
 {
     a.checked_add(b).ok_or(AllocError)
-}
-
-/// A product of counts or of bytes; one of more than 64 bits counts as want of memory.
-pub(crate) fn product(a: u64, b: u64) -> Result<u64, AllocError>
-    ensures { IfOk result (λ p. p ≡ a * b) }
-{
-    a.checked_mul(b).ok_or(AllocError)
 }

@@ -1,4 +1,4 @@
-use Rattle.std.proofs.Common.{◌≡◌, ◌+◌, ◌<◌, ℕ, List, ◌∙◌, ap, arith, length, get_or}
+use Rattle.std.proofs.Common.{◌≡◌, ◌+◌, ◌<◌, ℕ, ◌∙◌, ap, arith, length, get_or}
 use Rattle.std.proofs.lemmas.List.{get_or-set_other, get_or_read, length-set}
 use Rattle.collect_tree.proofs.Changes.{set-more}
 use Rattle.collect_tree.proofs.growth.add_up.Goals as goal

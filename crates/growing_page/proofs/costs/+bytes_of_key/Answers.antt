@@ -1,6 +1,6 @@
 use Rattle.std.proofs.Common.{refl, ◌∙◌, ap, sym, sum_by}
 use Rattle.agg_evaluation.specs.Cost.{key_bytes}
-use Rattle.growing_page.proofs.Starting.{key_bytes-Many}
+use Rattle.growing_page.proofs.KeyCosts.{key_bytes-Many}
 use Rattle.growing_page.proofs.costs.+bytes_of_key.Goals as goal
 
 pub loop-part-init : goal.loop-part-init

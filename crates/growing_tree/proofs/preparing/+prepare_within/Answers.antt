@@ -1,14 +1,10 @@
-use Rattle.std.proofs.Common.{◌<◌, List, length, map, get_or, ◌∙◌, ap, subst, arith}
-use Rattle.std.specs.Prelude.{sum_by}
+use Rattle.std.proofs.Common.{◌<◌, List, length, get_or, ◌∙◌, ap, subst, arith}
 use Rattle.std.proofs.lemmas.List.{length_push, take_all}
 use Rattle.agg_model.specs.declared.aggregation.Agg.{Agg, out-Agg}
-use Rattle.agg_evaluation.specs.Cost.{node_cost}
-use Rattle.agg_evaluation.specs.Whole.{empty_node}
 use Rattle.filters_agg.proofs.MadeAggs.{kind-made, child-made}
 use Rattle.growing_tree.specs.Readiness.{AreReadyFor}
 use Rattle.growing_tree.specs.declared.ready.Ready.{Ready}
-use Rattle.growing_tree.proofs.Levels.{level-ready}
-use Rattle.growing_tree.proofs.ReadyLaws.{bytes-more, child-smaller, made-ready, ready-more}
+use Rattle.growing_tree.proofs.ReadyLaws.{child-smaller, made-ready, ready-more}
 use Rattle.growing_tree.proofs.preparing.+prepare_within.Goals as goal
 
 pub prepare_within-requires : goal.prepare_within-requires
@@ -20,9 +16,6 @@ prepare_within-requires t c =
     let within : i < length (out-Agg agg).children = subst (λ (cs : List Agg). i < length cs) children c.loop-child-test.true in
     let is = c.child-item.is ∙ ap (λ (cs : List Agg). get_or cs i child) children in
     (omega (arith, c.decreases, child-smaller agg i child within is), (c.requires.built, child-made c.args.shard.now agg i child c.requires.made within is))
-
-pub empty_bytes-requires : goal.empty_bytes-requires
-empty_bytes-requires t c = (level-ready c.args.shard.now c.child-item.result c.in_ok-ready.ready c.in_ok-ready.ensures.ready).child_bytes
 
 pub loop-child-preserved : goal.loop-child-preserved
 loop-child-preserved t c =
@@ -38,9 +31,6 @@ loop-child-preserved t c =
           let grown = ap (λ (rs : List Ready). length rs) pushed in
           let one = length_push c.loop-child.children c.in_ok-ready.ready in
           omega (arith, before.many);
-      bytes =
-          let more = bytes-more items i child c.loop-child-test.true c.child-item.is in
-          omega (arith, before.bytes, c.in_ok-bytes.ensures, c.in_ok-child_bytes.ensures);
     }
     )
 
@@ -53,8 +43,7 @@ returns t c =
     let items = c.as_slice-child-items.result.now in
     let all = take_all c.loop-child.child-index items c.loop-child-test.false ∙ c.as_slice-child-items.ensures in
     record {
-      ready = made-ready shard c.args.agg.now (record { kind = c.loop-child.kind-1; table = c.table_of-table.result; child_bytes = c.loop-child.child_bytes; children = c.loop-child.children }) c.loop-child.invariant.kind
-          (c.loop-child.invariant.bytes ∙ ap (λ (xs : List Agg). sum_by node_cost (map empty_node xs)) all)
+      ready = made-ready shard c.args.agg.now (record { kind = c.loop-child.kind-1; table = c.table_of-table.result; child_bytes = c.in_ok-bytes.bytes; children = c.loop-child.children }) c.loop-child.invariant.kind c.in_ok-bytes.ensures
           (omega (arith, c.loop-child.invariant.many, c.loop-child-test.false, c.loop-child.auto.child-index-end, ap (λ (xs : List Agg). length xs) c.as_slice-child-items.ensures))
           (subst (λ (xs : List Agg). AreReadyFor shard xs c.loop-child.children) all c.loop-child.invariant.ready);
     }

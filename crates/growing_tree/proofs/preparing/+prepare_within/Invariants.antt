@@ -1,8 +1,5 @@
-use Rattle.std.proofs.Common.{◌≡◌, length, map, take}
-use Rattle.std.specs.Prelude.{sum_by}
+use Rattle.std.proofs.Common.{◌≡◌, length, take}
 use Rattle.agg_model.specs.declared.aggregation.Agg.{out-Agg, size-Agg}
-use Rattle.agg_evaluation.specs.Cost.{node_cost}
-use Rattle.agg_evaluation.specs.Whole.{empty_node}
 use Rattle.growing_tree.specs.Readiness.{AreReadyFor, IsKindReady}
 use Rattle.growing_tree.proofs.preparing.+prepare_within.Given as goal
 
@@ -11,7 +8,6 @@ invariant-loop-child l = record {
   kind : IsKindReady l.shard (out-Agg l.agg).kind l.kind;
   ready : AreReadyFor l.shard (take l.child-index l.child-items) l.children;
   many : length l.children ≡ l.child-index;
-  bytes : l.child_bytes ≡ sum_by node_cost (map empty_node (take l.child-index l.child-items));
 }
 
 abbrev pub decreases-prepare_within : goal.decreases-prepare_within
