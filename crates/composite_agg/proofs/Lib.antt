@@ -13,7 +13,8 @@ pub mod InRuns
 pub mod RunOrder
 pub mod RunSteps
 mod PageExample
-mod OnlyKeys
+mod Turning
+mod Shown
 mod LaterKeys
 mod WordPlaces
 mod CodedSpots

@@ -245,11 +245,6 @@ pub no_items : {A : Type 0} (xs : List A) → length xs ≡ 0 → xs ≡ []
 no_items [] e = refl
 no_items (x ∷ xs) e = absurd (omega (arith, e))
 
--- a list that is as long with another behind it
-pub none_behind : {A : Type 0} (xs ys : List A) → length (xs ++ ys) ≡ length xs → ys ≡ []
-none_behind [] ys e = no_items ys e
-none_behind (x ∷ xs) ys e = none_behind xs ys (omega (arith, e))
-
 -- the keys of a source are the distinct parts, or null
 all_pass : (p : Key → Bool) (ks : List Key) → AllByRecursion (λ k. p k ≡ true) ks → filter p ks ≡ ks
 all_pass p [] all = refl

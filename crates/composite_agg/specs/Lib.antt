@@ -1,6 +1,7 @@
 -- Keys and pages of composites.
 pub mod Sources
 pub mod Parts
+pub mod Odometer
 pub mod InOrder
 pub mod FirstPages
 pub mod PageCodes

@@ -148,7 +148,7 @@ fn place_of_word(shard: &Shard, field: u32, word: &[u8], guess: &mut u32) -> Opt
 }
 
 // The outcome of a comparison, by the direction of a source.
-fn directed_by(descending: bool, ordering: Ordering) -> Ordering
+pub(crate) fn directed_by(descending: bool, ordering: Ordering) -> Ordering
     ensures { result ≡ directed descending ordering }
 {
     if descending {
@@ -188,10 +188,11 @@ fn compare_only_part(
 }
 
 // The order of a key and a part.
-fn compare_part(key: &Key, part: Part) -> Ordering
+pub(crate) fn compare_part(key: &Key, part: Part) -> Ordering
     ensures { result ≡ key_cmp key.now (key_of_part part.entry) }
 {
     match part {
+        Part::Null => compare_keys(key, &Key::Null),
         Part::Whole(number) => compare_keys(key, &Key::Whole(number)),
         Part::Flag(flag) => compare_keys(key, &Key::Flag(flag)),
         Part::Word(word) => compare_word(key, word),

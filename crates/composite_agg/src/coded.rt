@@ -10,10 +10,12 @@ ghost use Rattle.shard_columns.specs.Built.{IsShard};
 use crate::behind::only_ordinal;
 use crate::keyed::HasKey;
 use crate::lasts::Lasts;
+use crate::odometer::{Combinations, Wheel};
+use crate::parts::Part;
 use crate::places::is_before;
 use crate::runs::{Spot, find_spot};
-use agg_model::{CompositeSource, Key, Kind, List};
-use bucket_order::compare_composites;
+use crate::sought::Sought;
+use agg_model::{CompositeSource, Kind, List};
 use shard_columns::Shard;
 use std::cmp::Ordering;
 
@@ -42,64 +44,68 @@ fn number_of_whole(number: i128) -> u64 {
     }
 }
 
-// The number of the part of a row's key at a source: the place of a word in the dictionary of the field, or what a number
-// gives. They mostly rise in the order of the source.
-fn number_of_part(shard: &Shard, row: u32, source: &CompositeSource, part: &Key) -> u64
+// The number of a part of a row at a source: the place of a word in the dictionary of the field, or what a number gives. They
+// mostly rise in the order of the source.
+fn number_of_part(shard: &Shard, row: u32, source: &CompositeSource, part: Part) -> u64
     requires built { IsShard shard.now }
     requires in_range { row < length shard.now.rows }
 {
     let number = match part {
-        Key::Whole(number) => number_of_whole(*number),
-        Key::Flag(flag) => u64::from(*flag),
-        Key::Word(word) => {
+        Part::Whole(number) => number_of_whole(number),
+        Part::Flag(flag) => u64::from(flag),
+        Part::Word(word) => {
             let place = match only_ordinal(shard, row, source) {
                 Some(own) => Some(own),
-                None => shard.find_word(source.field, word.as_str().as_bytes()),
+                None => shard.find_word(source.field, word.as_bytes()),
             };
             u64::from(place.unwrap_or(0))
         }
-        Key::Null | Key::Fixed(_) | Key::Many(_) => 0,
+        Part::Null => 0,
     };
     if source.descending { !number } else { number }
 }
 
-// The number of the part of a row's key at this place, 0 where it has none.
+// The number of the part that the wheel at this place shows, 0 where there is none.
 fn number_at(
     shard: &Shard,
     row: u32,
-    sources: &List<CompositeSource>,
-    parts: &List<Key>,
+    sources: &[CompositeSource],
+    wheels: &[Wheel],
     place: usize,
 ) -> u64
     requires built { IsShard shard.now }
     requires in_range { row < length shard.now.rows }
 {
-    match (sources.get(place), parts.get(place)) {
-        (Some(source), Some(part)) => number_of_part(shard, row, source, part),
+    match (sources.get(place), wheels.get(place)) {
+        (Some(source), Some(wheel)) => number_of_part(shard, row, source, wheel.part),
         _ => 0,
     }
 }
 
-/// The code of a key that a row has. Codes of keys in the order of the sources seldom fall, and keys whose first two parts are
-/// the same have one.
-pub fn code_of(shard: &Shard, row: u32, kind: &Kind, key: &Key) -> Code
+/// The code of the combination of a row that is chosen. Codes of keys in the order of the sources seldom fall, and keys whose
+/// first two parts are the same have one.
+pub fn code_of(shard: &Shard, row: u32, kind: &Kind, combinations: &Combinations) -> Code
     requires built { IsShard shard.now }
     requires in_range { row < length shard.now.rows }
 {
-    match (kind, key) {
-        (Kind::Composite { sources, .. }, Key::Many(parts)) => Code {
-            first: number_at(shard, row, sources, parts, 0),
-            second: number_at(shard, row, sources, parts, 1),
-        },
+    match kind {
+        Kind::Composite { sources, .. } => {
+            let sources = sources.as_slice();
+            let wheels = combinations.wheels.as_slice();
+            Code {
+                first: number_at(shard, row, sources, wheels, 0),
+                second: number_at(shard, row, sources, wheels, 1),
+            }
+        }
         _ => Code::default(),
     }
 }
 
 // Whether an item comes before a key of this code: only among items of the same code is a key read.
-fn is_coded_before<T: HasCode>(
+fn is_coded_before<T: HasCode, K: Sought>(
     sources: &List<CompositeSource>,
     item: &T,
-    key: &Key,
+    key: &K,
     code: Code,
 ) -> bool {
     match item.code().cmp(&code) {
@@ -109,10 +115,10 @@ fn is_coded_before<T: HasCode>(
     }
 }
 
-fn ends_coded_before<T: HasCode>(
+fn ends_coded_before<T: HasCode, K: Sought>(
     sources: &List<CompositeSource>,
     items: &[T],
-    key: &Key,
+    key: &K,
     code: Code,
 ) -> bool {
     match items.last() {
@@ -122,11 +128,11 @@ fn ends_coded_before<T: HasCode>(
 }
 
 // The run in which a key stands or would stand: the one that the codes of the last items tell, unless it ends before the key.
-fn guess_run<T: HasCode>(
+fn guess_run<T: HasCode, K: Sought>(
     sources: &List<CompositeSource>,
     runs: &[Vec<T>],
     lasts: &Lasts,
-    key: &Key,
+    key: &K,
     code: Code,
 ) -> usize {
     let run = lasts.run_of(code);
@@ -137,11 +143,11 @@ fn guess_run<T: HasCode>(
 }
 
 // Where the codes say that a key stands.
-fn guess_spot<T: HasCode>(
+fn guess_spot<T: HasCode, K: Sought>(
     sources: &List<CompositeSource>,
     runs: &[Vec<T>],
     lasts: &Lasts,
-    key: &Key,
+    key: &K,
     code: Code,
 ) -> Spot {
     let run = guess_run(sources, runs, lasts, key, code);
@@ -156,17 +162,17 @@ fn guess_spot<T: HasCode>(
 
 // What the item at a spot tells of a key: that it has the key, or that one with the key would stand between it and its neighbour
 // before it in the run; none where it tells neither.
-fn told_at<T: HasKey>(
+fn told_at<T: HasKey, K: Sought>(
     sources: &List<CompositeSource>,
     runs: &[Vec<T>],
-    key: &Key,
+    key: &K,
     spot: Spot,
 ) -> Option<Result<Spot, Spot>>
     requires order { IsInOrder T.key_of sources.now (in_runs runs.now) }
     requires parts { IsTrue (list_all (λ x. is_composite_of (length sources.now) (T.key_of x)) (in_runs runs.now)) }
-    requires key_parts { IsTrue (is_composite_of (length sources.now) key.now) }
-    ensures found { IfSome result (λ told. IfOk told (IsSpotOf T.key_of runs.now key.now)) }
-    ensures absent { IfSome result (λ told. IfErr told (IsGapFor T.key_of sources.now runs.now key.now)) }
+    requires key_parts { IsTrue (is_composite_of (length sources.now) (K.sought key.now)) }
+    ensures found { IfSome result (λ told. IfOk told (IsSpotOf T.key_of runs.now (K.sought key.now))) }
+    ensures absent { IfSome result (λ told. IfErr told (IsGapFor T.key_of sources.now runs.now (K.sought key.now))) }
 {
     if spot.run >= runs.len() {
         return None;
@@ -175,7 +181,7 @@ fn told_at<T: HasKey>(
     if spot.at >= run.len() {
         return None;
     }
-    match compare_composites(sources, run[spot.at].key(), key) {
+    match key.compare(sources, run[spot.at].key()) {
         Ordering::Equal => Some(Ok(spot)),
         Ordering::Greater if spot.at > 0 && is_before(sources, run[spot.at - 1].key(), key) => {
             Some(Err(spot))
@@ -186,19 +192,19 @@ fn told_at<T: HasKey>(
 
 /// The same as `find_spot`, with the key's code and those of the last items. Where the codes tell the spot it takes one
 /// comparison of keys or two, and else the binary search by keys.
-pub fn find_spot_by<T: HasCode>(
+pub fn find_spot_by<T: HasCode, K: Sought>(
     sources: &List<CompositeSource>,
     runs: &[Vec<T>],
     lasts: &Lasts,
-    key: &Key,
+    key: &K,
     code: Code,
 ) -> Result<Spot, Spot>
     requires order { IsInOrder T.key_of sources.now (in_runs runs.now) }
     requires filled { AreFilled runs.now }
     requires parts { IsTrue (list_all (λ x. is_composite_of (length sources.now) (T.key_of x)) (in_runs runs.now)) }
-    requires key_parts { IsTrue (is_composite_of (length sources.now) key.now) }
-    ensures found { IfOk result (IsSpotOf T.key_of runs.now key.now) }
-    ensures absent { IfErr result (IsGapFor T.key_of sources.now runs.now key.now) }
+    requires key_parts { IsTrue (is_composite_of (length sources.now) (K.sought key.now)) }
+    ensures found { IfOk result (IsSpotOf T.key_of runs.now (K.sought key.now)) }
+    ensures absent { IfErr result (IsGapFor T.key_of sources.now runs.now (K.sought key.now)) }
 {
     let guess = guess_spot(sources, runs, lasts, key, code);
     match told_at(sources, runs, key, guess) {

@@ -16,6 +16,7 @@ use std::alloc::{AllocError, Global};
 /// A part of a composite key, with a word lent by the shard.
 #[derive(Clone, Copy)]
 pub enum Part<'a> {
+    Null,
     Whole(i128),
     Word(&'a str),
     Flag(bool),
@@ -54,7 +55,7 @@ fn is_same(a: Option<Part>, b: Option<Part>) -> bool
         (Some(Part::Whole(m)), Some(Part::Whole(n))) => m == n,
         (Some(Part::Word(v)), Some(Part::Word(w))) => v == w,
         (Some(Part::Flag(p)), Some(Part::Flag(q))) => p == q,
-        (None, None) => true,
+        (Some(Part::Null), Some(Part::Null)) | (None, None) => true,
         _ => false,
     }
 }
@@ -88,6 +89,7 @@ pub fn key_of(alloc: Global, part: Part) -> Result<Key, AllocError>
     ensures { IfOk result (λ k. k ≡ key_of_part part.entry) }
 {
     match part {
+        Part::Null => Ok(Key::Null),
         Part::Whole(number) => Ok(Key::Whole(number)),
         Part::Word(word) => Ok(Key::Word(Text::of(alloc, word)?)),
         Part::Flag(flag) => Ok(Key::Flag(flag)),

@@ -4,12 +4,13 @@ ghost use Rattle.std.specs.Prelude.{is_some, nat_le, option_copied, option_map, 
 ghost use Rattle.std.specs.List.{insert, last_or, list_all};
 ghost use Rattle.agg_evaluation.specs.CompositeKeys.{is_composite_of};
 ghost use Rattle.composite_agg.specs.InOrder.{IsInOrder, all_before, all_behind, is_kept_out};
+ghost use Rattle.composite_page.specs.Pages.{is_beyond_any};
 ghost use Rattle.composite_agg.specs.Runs.{AreFilled, IsGapFor, IsSpotOf, IsWithin, in_runs, place_in};
 
 use crate::keyed::HasKey;
-use crate::places::{ends_before, find};
+use crate::places::{ends_before, find, is_before};
+use crate::sought::Sought;
 use agg_model::{CompositeSource, Key, List};
-use composite_page::is_beyond_key;
 use std::alloc::{AllocError, Global};
 
 /// A run of so many items is parted into two.
@@ -43,10 +44,14 @@ fn last_key_of<T: HasKey>(items: &[T]) -> Option<&Key>
 }
 
 // Whether a key comes after all items, by one comparison with the last.
-fn comes_last<T: HasKey>(sources: &List<CompositeSource>, runs: &[Vec<T>], key: &Key) -> bool
+fn comes_last<T: HasKey, K: Sought>(
+    sources: &List<CompositeSource>,
+    runs: &[Vec<T>],
+    key: &K,
+) -> bool
     requires order { IsInOrder T.key_of sources.now (in_runs runs.now) }
     requires filled { AreFilled runs.now }
-    ensures { result ≡ all_before T.key_of sources.now key.now (in_runs runs.now) }
+    ensures { result ≡ all_before T.key_of sources.now (K.sought key.now) (in_runs runs.now) }
 {
     match runs.last() {
         Some(run) => ends_before(sources, run.as_slice(), key),
@@ -56,30 +61,40 @@ fn comes_last<T: HasKey>(sources: &List<CompositeSource>, runs: &[Vec<T>], key: 
 
 /// Whether a key has no place in a page of at most `size` items, of which `held` is the number: it does not come after `after`,
 /// or it comes after all of a full page. Most keys do the latter, so that is tried first, by one comparison with the last.
-pub fn is_outside<T: HasKey>(
+pub fn is_outside<T: HasKey, K: Sought>(
     sources: &List<CompositeSource>,
     size: u32,
     after: &Option<Key>,
     held: usize,
     runs: &[Vec<T>],
-    key: &Key,
+    key: &K,
 ) -> bool
     requires order { IsInOrder T.key_of sources.now (in_runs runs.now) }
     requires filled { AreFilled runs.now }
     requires held { held ≡ length (in_runs runs.now) }
-    ensures { result ≡ is_kept_out T.key_of sources.now size after.now (in_runs runs.now) key.now }
+    ensures { result ≡ is_kept_out T.key_of sources.now size after.now (in_runs runs.now) (K.sought key.now) }
 {
-    (held >= size as usize && comes_last(sources, runs, key)) || !is_beyond_key(sources, key, after)
+    (held >= size as usize && comes_last(sources, runs, key)) || !is_beyond(sources, after, key)
+}
+
+// Whether the key that is looked for comes after another one; none is given where all are after it.
+fn is_beyond<K: Sought>(sources: &List<CompositeSource>, after: &Option<Key>, key: &K) -> bool
+    ensures { result ≡ is_beyond_any sources.now after.now (K.sought key.now) }
+{
+    match after {
+        Some(after) => is_before(sources, after, key),
+        None => true,
+    }
 }
 
 // The run to which a key belongs, by binary search over the last items.
-fn run_of<T: HasKey>(sources: &List<CompositeSource>, runs: &[Vec<T>], key: &Key) -> usize
+fn run_of<T: HasKey, K: Sought>(sources: &List<CompositeSource>, runs: &[Vec<T>], key: &K) -> usize
     requires order { IsInOrder T.key_of sources.now (in_runs runs.now) }
     requires filled { AreFilled runs.now }
     requires some { 0 < length runs.now }
     ensures within { result < length runs.now }
-    ensures before { IsTrue (all_before T.key_of sources.now key.now (in_runs (take result runs.now))) }
-    ensures behind { IsTrue (all_behind T.key_of sources.now key.now (in_runs (drop (result + 1) runs.now))) }
+    ensures before { IsTrue (all_before T.key_of sources.now (K.sought key.now) (in_runs (take result runs.now))) }
+    ensures behind { IsTrue (all_behind T.key_of sources.now (K.sought key.now) (in_runs (drop (result + 1) runs.now))) }
 {
     let before = runs.partition_point(|run| ends_before(sources, run.as_slice(), key));
     if before < runs.len() {
@@ -90,17 +105,17 @@ fn run_of<T: HasKey>(sources: &List<CompositeSource>, runs: &[Vec<T>], key: &Key
 }
 
 /// The spot of the item that has the key, by binary search, or else where one with the key would stand.
-pub fn find_spot<T: HasKey>(
+pub fn find_spot<T: HasKey, K: Sought>(
     sources: &List<CompositeSource>,
     runs: &[Vec<T>],
-    key: &Key,
+    key: &K,
 ) -> Result<Spot, Spot>
     requires order { IsInOrder T.key_of sources.now (in_runs runs.now) }
     requires filled { AreFilled runs.now }
     requires parts { IsTrue (list_all (λ x. is_composite_of (length sources.now) (T.key_of x)) (in_runs runs.now)) }
-    requires key_parts { IsTrue (is_composite_of (length sources.now) key.now) }
-    ensures found { IfOk result (IsSpotOf T.key_of runs.now key.now) }
-    ensures absent { IfErr result (IsGapFor T.key_of sources.now runs.now key.now) }
+    requires key_parts { IsTrue (is_composite_of (length sources.now) (K.sought key.now)) }
+    ensures found { IfOk result (IsSpotOf T.key_of runs.now (K.sought key.now)) }
+    ensures absent { IfErr result (IsGapFor T.key_of sources.now runs.now (K.sought key.now)) }
 {
     if runs.is_empty() {
         return Err(Spot { run: 0, at: 0 });

@@ -1,5 +1,5 @@
 -- A page as what a shard answers, and what one row makes of it.
-use Rattle.std.specs.Prelude.{◌≡◌, refl, true, false, ◌||◌, if◌then◌else◌, T, List, [], ◌∷◌, ◌++◌, ◌+◌, length, map, sum_by}
+use Rattle.std.specs.Prelude.{◌≡◌, refl, true, false, ◌||◌, if◌then◌else◌, T, List, [], ◌∷◌, ◌+◌, length, map, sum_by}
 use Rattle.std.specs.List.{list_all}
 use Rattle.std.specs.Ordering.{is_le}
 use Rattle.std.proofs.Common.{sym, ◌∙◌, ap}
@@ -64,12 +64,6 @@ cut-page a e bs =
     ∙ cut-keyed (map (fold_agg cutter_at) (out-Agg a).children) (out-Agg a).kind e bs
 
 -- ---- one row
-
--- one more key
-pub groups-more : (rows : List PlacedRow) (gs : List Gatherer) (k : Kind) (ks : List Key) (q : Key) (bs : List Bucket)
-    → put_groups (λ j. rows) gs k (ks ++ q ∷ []) bs ≡ kept_buckets k (put_rows gs rows q (put_groups (λ j. rows) gs k ks bs))
-groups-more rows gs k [] q bs = refl
-groups-more rows gs k (j ∷ ks) q bs = groups-more rows gs k ks q (kept_buckets k (put_rows gs rows j bs))
 
 -- the same rows for each of the keys
 groups-same : (f g : Key → List PlacedRow) (gs : List Gatherer) (k : Kind) (ks : List Key) (bs : List Bucket) → ((q : Key) → has_key q ks ≡ true → f q ≡ g q) → put_groups f gs k ks bs ≡ put_groups g gs k ks bs

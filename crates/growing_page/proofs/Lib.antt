@@ -1,5 +1,5 @@
 pub mod Kept
-pub mod Starting
+pub mod KeyCosts
 pub mod Putting
 pub mod Moves
 mod Changes

@@ -12,6 +12,7 @@ ghost use Rattle.agg_evaluation.specs.Rows.{row_of};
 ghost use Rattle.agg_evaluation.specs.Shard.{sorted_by_key};
 ghost use Rattle.composite_agg.specs.FirstPages.{empty_page, is_composite};
 ghost use Rattle.composite_agg.specs.InOrder.{IsInOrder};
+ghost use Rattle.composite_agg.specs.Odometer.{chosen_key, keys_left};
 ghost use Rattle.composite_agg.specs.Runs.{AreFilled, IsGapFor, IsSpotOf, in_runs};
 ghost use Rattle.composite_agg.specs.Sources.{IsComposite};
 ghost use Rattle.growing_tree.specs.Readiness.{AreReadyFor};
@@ -27,7 +28,7 @@ use agg_model::{Agg, Key, Kind, List};
 use composite_agg::coded::{Code, code_of, find_spot_by};
 use composite_agg::lasts::run_length;
 use composite_agg::runs::{Spot, enter, is_outside, last_key};
-use composite_agg::{are_behind, keys};
+use composite_agg::{Combinations, are_behind};
 use growing_tree::{Ready, begin_trees, gather_children};
 use shard_columns::Shard;
 use std::alloc::{AllocError, Global};
@@ -49,20 +50,23 @@ fn size_of_composite(kind: &Kind) -> u32
     }
 }
 
-// Whether the page lets no bucket of the key in.
-fn is_refused_by(kind: &Kind, page: &Page, key: &Key) -> bool
+// Whether the page lets no bucket of the combination that is chosen in.
+fn is_refused_by(kind: &Kind, page: &Page, combinations: &Combinations) -> bool
     requires composite { IsTrue (is_composite kind.now) }
     requires order { IsInOrder held_key (sources_of kind.now) (buckets_of page.now) }
     requires filled { AreFilled page.now.runs.items }
     requires held { page.now.held ≡ length (buckets_of page.now) }
-    ensures { result ≡ is_refused (empty_page kind.now) (buckets_of page.now) key.now }
+    ensures { result ≡ is_refused (empty_page kind.now) (buckets_of page.now) (chosen_key combinations.now) }
 {
     match kind {
         Kind::Composite {
             sources,
             size,
             after,
-        } => is_outside(sources, *size, after, page.held, page.runs.as_slice(), key),
+        } => {
+            let runs = page.runs.as_slice();
+            is_outside(sources, *size, after, page.held, runs, combinations)
+        }
         _ => unreachable!(),
     }
 }
@@ -94,31 +98,32 @@ fn are_all_refused(
     }
 }
 
-// The spot of the bucket of a key, or else where one would stand.
-fn find(kind: &Kind, page: &Page, key: &Key, code: Code) -> Result<Spot, Spot>
+// The spot of the bucket of the combination that is chosen, or else where one would stand.
+fn find(kind: &Kind, page: &Page, combinations: &Combinations, code: Code) -> Result<Spot, Spot>
     requires composite { IsTrue (is_composite kind.now) }
     requires order { IsInOrder held_key (sources_of kind.now) (buckets_of page.now) }
     requires filled { AreFilled page.now.runs.items }
     requires parts { T (list_all (λ h. is_composite_of (length (sources_of kind.now)) (held_key h)) (buckets_of page.now)) }
-    requires key_parts { IsTrue (is_composite_of (length (sources_of kind.now)) key.now) }
-    ensures found { IfOk result (IsSpotOf held_key page.now.runs.items key.now) }
-    ensures absent { IfErr result (IsGapFor held_key (sources_of kind.now) page.now.runs.items key.now) }
+    requires key_parts { IsTrue (is_composite_of (length (sources_of kind.now)) (chosen_key combinations.now)) }
+    ensures found { IfOk result (IsSpotOf held_key page.now.runs.items (chosen_key combinations.now)) }
+    ensures absent { IfErr result (IsGapFor held_key (sources_of kind.now) page.now.runs.items (chosen_key combinations.now)) }
 {
     match kind {
         Kind::Composite { sources, .. } => {
-            find_spot_by(sources, page.runs.as_slice(), &page.lasts, key, code)
+            let runs = page.runs.as_slice();
+            find_spot_by(sources, runs, &page.lasts, combinations, code)
         }
         _ => unreachable!(),
     }
 }
 
-// The code of a key of these rows, which all have it.
-fn code_for(shard: &Shard, rows: &[u32], kind: &Kind, key: &Key) -> Code
+// The code of a combination of these rows, which all have it.
+fn code_for(shard: &Shard, rows: &[u32], kind: &Kind, combinations: &Combinations) -> Code
     requires built { IsShard shard.now }
     requires in_range { All (λ n. n < length shard.now.rows) rows.now }
 {
     match rows {
-        [row, ..] => code_of(shard, *row, kind, key),
+        [row, ..] => code_of(shard, *row, kind, combinations),
         [] => Code::default(),
     }
 }
@@ -191,8 +196,8 @@ fn bytes_of(left: Option<Held>) -> u64
     }
 }
 
-// Puts rows at one of their keys.
-fn put_key(
+// Puts rows at the combination that is chosen. Its key is built where a bucket of it enters, and else not.
+fn put_chosen(
     alloc: Global,
     agg: &Agg,
     ready: &List<Ready>,
@@ -200,36 +205,37 @@ fn put_key(
     rows: &[u32],
     spare: &mut Vec<Vec<i64>>,
     page: &mut Page,
-    key: Key,
+    combinations: &Combinations,
 ) -> Result<Change, AllocError>
     requires ready { AreReadyFor shard.now (out-Agg agg.now).children ready.now }
     requires built { IsShard shard.now }
     requires apart { IsApart shard.now.rows }
     requires in_range { All (λ n. n < length shard.now.rows) rows.now }
     requires composite { IsTrue (is_composite (out-Agg agg.now).kind) }
-    requires parts { IsTrue (is_composite_of (length (sources_of (out-Agg agg.now).kind)) key) }
+    requires parts { IsTrue (is_composite_of (length (sources_of (out-Agg agg.now).kind)) (chosen_key combinations.now)) }
     requires page { IsPageOf (out-Agg agg.now).kind (decoders shard.now ready.now) page.old }
     ensures buckets { OnOk result (sorted_by_key (shown_all (decoders shard.now ready.now) (buckets_of page.new))
-        ≡ kept_buckets (out-Agg agg.now).kind (put_rows (gatherers shard.now (out-Agg agg.now).children) (rows_at shard.now rows.now) key
+        ≡ kept_buckets (out-Agg agg.now).kind (put_rows (gatherers shard.now (out-Agg agg.now).children) (rows_at shard.now rows.now) (chosen_key combinations.now)
         (sorted_by_key (shown_all (decoders shard.now ready.now) (buckets_of page.old))))) }
     ensures page { OnOk result (IsPageOf (out-Agg agg.now).kind (decoders shard.now ready.now) page.new) }
     ensures cost { IfOk result (λ change. sum_by bucket_bytes (shown_all (decoders shard.now ready.now) (buckets_of page.new)) + change.removed
         ≡ sum_by bucket_bytes (shown_all (decoders shard.now ready.now) (buckets_of page.old)) + change.added) }
 {
-    if is_refused_by(&agg.kind, page, &key) {
+    if is_refused_by(&agg.kind, page, combinations) {
         return Ok(Change {
             added: 0,
             removed: 0,
         });
     }
-    let code = code_for(shard, rows, &agg.kind, &key);
-    match find(&agg.kind, page, &key, code) {
+    let code = code_for(shard, rows, &agg.kind, combinations);
+    match find(&agg.kind, page, combinations, code) {
         Ok(spot) => {
             let bucket = &mut page.runs[spot.run][spot.at];
             let added = grow(alloc, &agg.children, ready, shard, rows, spare, bucket)?;
             Ok(Change { added, removed: 0 })
         }
         Err(spot) => {
+            let key = combinations.key(alloc)?;
             let bucket = new_bucket(alloc, &agg.children, ready, shard, rows, spare, key, code)?;
             let added = bucket.bytes;
             let size = size_of_composite(&agg.kind);
@@ -244,8 +250,8 @@ fn put_key(
     }
 }
 
-// Puts rows at their keys, one after another.
-fn put_keys(
+// Puts rows at the combination that is chosen, and at those behind it.
+fn put_combinations(
     alloc: Global,
     agg: &Agg,
     ready: &List<Ready>,
@@ -253,28 +259,25 @@ fn put_keys(
     rows: &[u32],
     spare: &mut Vec<Vec<i64>>,
     page: &mut Page,
-    keys: List<Key>,
+    mut combinations: Combinations,
 ) -> Result<Change, AllocError>
     requires ready { AreReadyFor shard.now (out-Agg agg.now).children ready.now }
     requires built { IsShard shard.now }
     requires apart { IsApart shard.now.rows }
     requires in_range { All (λ n. n < length shard.now.rows) rows.now }
     requires composite { IsTrue (is_composite (out-Agg agg.now).kind) }
-    requires parts { IsTrue (list_all (is_composite_of (length (sources_of (out-Agg agg.now).kind))) keys) }
+    requires parts { T (list_all (is_composite_of (length (sources_of (out-Agg agg.now).kind))) (keys_left combinations)) }
     requires page { IsPageOf (out-Agg agg.now).kind (decoders shard.now ready.now) page.old }
     ensures buckets { OnOk result (sorted_by_key (shown_all (decoders shard.now ready.now) (buckets_of page.new))
-        ≡ put_groups (λ q. rows_at shard.now rows.now) (gatherers shard.now (out-Agg agg.now).children) (out-Agg agg.now).kind keys
-        (sorted_by_key (shown_all (decoders shard.now ready.now) (buckets_of page.old)))) }
+        ≡ put_groups (λ q. rows_at shard.now rows.now) (gatherers shard.now (out-Agg agg.now).children) (out-Agg agg.now).kind
+        (keys_left combinations.entry) (sorted_by_key (shown_all (decoders shard.now ready.now) (buckets_of page.old)))) }
     ensures page { OnOk result (IsPageOf (out-Agg agg.now).kind (decoders shard.now ready.now) page.new) }
     ensures cost { IfOk result (λ change. sum_by bucket_bytes (shown_all (decoders shard.now ready.now) (buckets_of page.new)) + change.removed
         ≡ sum_by bucket_bytes (shown_all (decoders shard.now ready.now) (buckets_of page.old)) + change.added) }
 {
-    let mut change = Change {
-        added: 0,
-        removed: 0,
-    };
-    for key in keys.into_vec() {
-        let more = put_key(alloc, agg, ready, shard, rows, spare, page, key)?;
+    let mut change = put_chosen(alloc, agg, ready, shard, rows, spare, page, &combinations)?;
+    'behind: while combinations.advance() {
+        let more = put_chosen(alloc, agg, ready, shard, rows, spare, page, &combinations)?;
         change = Change {
             added: sum_of(change.added, more.added)?,
             removed: sum_of(change.removed, more.removed)?,
@@ -306,18 +309,35 @@ fn put_row(
     ensures cost { IfOk result (λ change. node_cost (page_node (decoders shard.now ready.now) page.new) + change.removed
         ≡ node_cost (page_node (decoders shard.now ready.now) page.old) + change.added) }
 {
-    let keys = keys(alloc, shard, row, &agg.kind)?;
-    let one = [row];
-    let change = put_keys(alloc, agg, ready, shard, one.as_slice(), spare, page, keys)?;
-    Ok(change)
+    match Combinations::of_row(alloc, shard, row, &agg.kind)? {
+        Some(combinations) => {
+            let one = [row];
+            let change = put_combinations(
+                alloc,
+                agg,
+                ready,
+                shard,
+                one.as_slice(),
+                spare,
+                page,
+                combinations,
+            )?;
+            Ok(change)
+        }
+        None => Ok(Change {
+            added: 0,
+            removed: 0,
+        }),
+    }
 }
 
 /// The page with one more row that the composite counts, and what that makes of its cost. The row has at most 65,536 keys. After
 /// want of memory nothing is said of the page.
 ///
-/// A key outside the page takes one comparison with the last bucket of a full one, mostly before it is built. Any other is found in the logarithm of the
-/// page. One that enters moves the buckets behind it in its run, which are fewer than 64; where a run becomes so long it is
-/// parted, which moves the runs behind it, of 32 buckets or more each.
+/// A key outside the page takes one comparison with the last bucket of a full one. Any other is found in the logarithm of the
+/// page, and is built only where a bucket of it enters: beside the page the row's parts alone take memory. A bucket that enters
+/// moves those behind it in its run, which are fewer than 64; where a run becomes so long it is parted, which moves the runs
+/// behind it, of 32 buckets or more each.
 pub fn gather_root(
     alloc: Global,
     agg: &Agg,

@@ -21,11 +21,11 @@ returns-in-Equal-clause-found g c =
     let within = c.if-spot-runs.false in
     let is_run = c.index-runs-spot.is in
     let below : s.at < length run.items = search rules in
-    let tie : page_cmp sources (g.T.HasKey.key_of x) c.args.key.now ≡ Equal = search rules in
+    let tie : page_cmp sources (g.T.HasKey.key_of x) (g.K.Sought.sought c.args.key.now) ≡ Equal = search rules in
     let among = among-is rs s.run s.at run x within is_run below c.index.ensures in
     let each = at (λ z. is_composite_of (length sources) (g.T.HasKey.key_of z)) (in_runs rs) (place_in rs s.run s.at) x (among-below rs s.run s.at run x within is_run below c.index.ensures) (holds _ c.requires.parts) in
     let parts = true_is _ (subst (λ z. T (is_composite_of (length sources) (g.T.HasKey.key_of z))) among each) in
-    spot-of g.T.HasKey.key_of rs c.args.key.now s run x within is_run below c.index.ensures (tied sources (g.T.HasKey.key_of x) c.args.key.now parts c.requires.key_parts tie)
+    spot-of g.T.HasKey.key_of rs (g.K.Sought.sought c.args.key.now) s run x within is_run below c.index.ensures (tied sources (g.T.HasKey.key_of x) (g.K.Sought.sought c.args.key.now) parts c.requires.key_parts tie)
 
 -- the item comes behind the key, and its neighbour before it
 pub returns-in-Greater-clause-absent : goal.returns-in-Greater-clause-absent
@@ -33,7 +33,7 @@ returns-in-Greater-clause-absent g c =
     let sources = c.args.sources.now in
     let rs = c.args.runs.now in
     let s = c.args.spot in
-    let k = c.args.key.now in
+    let k = g.K.Sought.sought c.args.key.now in
     let x = c.index-then-spot-gt0.result.now in
     let y = c.index.result.now in
     let run = c.index-runs-spot.result in

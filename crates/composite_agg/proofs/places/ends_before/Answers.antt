@@ -8,8 +8,8 @@ use Rattle.composite_agg.proofs.places.ends_before.Goals as goal
 
 pub returns-in-Some : goal.returns-in-Some
 returns-in-Some g c =
-    let p = (λ (x : g.row.T.Denot). is_lt (page_cmp c.args.sources.now (g.T.HasKey.key_of x) c.args.key.now)) in
+    let p = (λ (x : g.row.T.Denot). is_lt (page_cmp c.args.sources.now (g.T.HasKey.key_of x) (g.K.Sought.sought c.args.key.now))) in
     let xs = c.args.items.now in
     let some : 0 < length xs = omega (arith, c.in-Some.ensures.item.3.0) in
     let last = last-get xs some ∙ sym c.last.ensures.value ∙ ap option_copied c.in-Some.is in
-    c.is_before.ensures ∙ ap (λ k. is_lt (page_cmp c.args.sources.now k c.args.key.now)) c.key.ensures ∙ sym (ap (λ o. option_map_or p o true) last)
+    c.is_before.ensures ∙ ap (λ k. is_lt (page_cmp c.args.sources.now k (g.K.Sought.sought c.args.key.now))) c.key.ensures ∙ sym (ap (λ o. option_map_or p o true) last)

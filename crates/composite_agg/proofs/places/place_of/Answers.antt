@@ -9,9 +9,9 @@ use Rattle.composite_agg.proofs.places.place_of.Goals as goal
 
 pub returns : goal.returns
 returns g c =
-    let p = (λ (x : g.row.T.Denot). is_lt (page_cmp c.args.sources.now (g.T.HasKey.key_of x) c.args.key.now)) in
+    let p = (λ (x : g.row.T.Denot). is_lt (page_cmp c.args.sources.now (g.T.HasKey.key_of x) (g.K.Sought.sought c.args.key.now))) in
     let xs = c.args.items.now in
-    let point = IsPartitionPoint-from_clause p xs _ c.partition_point.ensures.partitioned (parted g.T.HasKey.key_of c.args.sources.now c.args.key.now xs c.requires) (λ a r f k. search rules) in
+    let point = IsPartitionPoint-from_clause p xs _ c.partition_point.ensures.partitioned (parted g.T.HasKey.key_of c.args.sources.now (g.K.Sought.sought c.args.key.now) xs c.requires) (λ a r f k. search rules) in
     record {
       within = c.partition_point.ensures.bound;
       before = true_is _ (front_all p xs c.partition_point.result c.partition_point.ensures.bound (λ k d below. point.0 k d (omega arith) below));

@@ -12,9 +12,9 @@ use Rattle.composite_agg.proofs.runs.comes_last.Goals as goal
 
 pub returns-in-Some : goal.returns-in-Some
 returns-in-Some g c =
-    let p = (λ (x : g.row.T.Denot). is_lt (page_cmp c.args.sources.now (g.T.HasKey.key_of x) c.args.key.now)) in
+    let p = (λ (x : g.row.T.Denot). is_lt (page_cmp c.args.sources.now (g.T.HasKey.key_of x) (g.K.Sought.sought c.args.key.now))) in
     let rs = c.args.runs.now in
     let some : 0 < length rs = omega (arith, c.in-Some.ensures.item.3.0) in
     let last = last-get rs some ∙ sym c.last.ensures.value ∙ ap option_copied c.in-Some.is in
     c.ends_before.ensures ∙ ap (λ xs. option_map_or p (last_or None xs) true) c.as_slice.ensures.value
-    ∙ sym (last-decides g.T.HasKey.key_of c.args.sources.now c.args.key.now (in_runs rs) c.requires.order ∙ ap (λ o. option_map_or p o true) (last-of-runs rs c.requires.filled c.in-Some.run'.now last))
+    ∙ sym (last-decides g.T.HasKey.key_of c.args.sources.now (g.K.Sought.sought c.args.key.now) (in_runs rs) c.requires.order ∙ ap (λ o. option_map_or p o true) (last-of-runs rs c.requires.filled c.in-Some.run'.now last))

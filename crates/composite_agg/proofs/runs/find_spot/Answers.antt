@@ -33,7 +33,7 @@ returns-in-Ok-clause-found g c =
     let run = c.index-runs-run.result in
     let within = c.run_of-run.ensures.within in
     let items = c.as_slice.ensures.value ∙ ap (λ v. v.items) c.index-runs-run.is in
-    let found = subst (λ xs. (i < length xs) × ((d : _) → g.T.HasKey.key_of (get_or xs i d) ≡ c.args.key.now)) items c.in-Ok.ensures.found in
+    let found = subst (λ xs. (i < length xs) × ((d : _) → g.T.HasKey.key_of (get_or xs i d) ≡ (g.K.Sought.sought c.args.key.now))) items c.in-Ok.ensures.found in
     let lt : (d : _) → i < length (get_or rs r d).items = (λ d. subst (λ v. i < length v.items) (get_or_default rs r run d within) found.0) in
     record {
       place = record { there = within; fits = λ d. let below = lt d in omega (arith, below) };
@@ -49,8 +49,8 @@ returns-in-Err-clause-absent g c =
     let i = c.in-Err.at in
     let run = c.index-runs-run.result in
     let within = c.run_of-run.ensures.within in
-    let first = (λ (x : g.row.T.Denot). is_lt (page_cmp c.args.sources.now (g.T.HasKey.key_of x) c.args.key.now)) in
-    let later = (λ (x : g.row.T.Denot). is_lt (page_cmp c.args.sources.now c.args.key.now (g.T.HasKey.key_of x))) in
+    let first = (λ (x : g.row.T.Denot). is_lt (page_cmp c.args.sources.now (g.T.HasKey.key_of x) (g.K.Sought.sought c.args.key.now))) in
+    let later = (λ (x : g.row.T.Denot). is_lt (page_cmp c.args.sources.now (g.K.Sought.sought c.args.key.now) (g.T.HasKey.key_of x))) in
     let items = c.as_slice.ensures.value ∙ ap (λ v. v.items) c.index-runs-run.is in
     let absent = subst (λ xs. (i ≤ length xs) × IsTrue (list_all first (take i xs)) × IsTrue (list_all later (drop i xs))) items c.in-Err.ensures.absent in
     let behind = subst (λ n. T (list_all later (in_runs (drop n rs)))) (add-one r) (holds _ c.run_of-run.ensures.behind) in
