@@ -9,26 +9,25 @@ use Rattle.agg_model.specs.declared.aggregation.Kind.{Kind}
 use Rattle.agg_model.specs.declared.aggregation.Kind.TheVariants as kind
 use Rattle.agg_spec.specs.BucketCount.{greatest_count}
 use Rattle.agg_spec.specs.GapCount.{Plan, plan_each, below_empty}
-use Rattle.final_reduce.specs.Counts.{planned_from, below_from, nothing_from}
-use Rattle.final_reduce.specs.Planned.{planned_below, member_number}
+use Rattle.final_reduce.specs.Counts.{tally_from, below_from, nothing_from, tally_below, member_number}
 
-pub planned_from-min : (k : ℕ) (ps : List Plan) (ns : List Node) → planned_from (min k greatest_count) ps ns ≡ min (k + plan_each ps ns) greatest_count
-planned_from-min k [] ns = omega arith
-planned_from-min k (p ∷ ps) [] = omega arith
-planned_from-min k (p ∷ ps) (n ∷ ns) =
+pub tally_from-min : (k : ℕ) (ps : List Plan) (ns : List Node) → tally_from (min k greatest_count) ps ns ≡ min (k + plan_each ps ns) greatest_count
+tally_from-min k [] ns = omega arith
+tally_from-min k (p ∷ ps) [] = omega arith
+tally_from-min k (p ∷ ps) (n ∷ ns) =
     let step : min (min k greatest_count + min (p.count n) greatest_count) greatest_count ≡ min (k + p.count n) greatest_count = omega arith in
-    ap (λ m. planned_from m ps ns) step ∙ planned_from-min (k + p.count n) ps ns
+    ap (λ m. tally_from m ps ns) step ∙ tally_from-min (k + p.count n) ps ns
     ∙ (let more : min ((k + p.count n) + plan_each ps ns) greatest_count ≡ min (k + (p.count n + plan_each ps ns)) greatest_count = omega arith in more)
 
-pub below_from-min : (ps : List Plan) (k : ℕ) (bs : List Bucket) → below_from ps (min k greatest_count) bs ≡ min (k + planned_below ps bs) greatest_count
+pub below_from-min : (ps : List Plan) (k : ℕ) (bs : List Bucket) → below_from ps (min k greatest_count) bs ≡ min (k + tally_below ps bs) greatest_count
 below_from-min ps k [] = omega arith
 below_from-min ps k (b ∷ bs) =
     let step : min (min k greatest_count + min (plan_each ps b.children) greatest_count) greatest_count ≡ min (k + plan_each ps b.children) greatest_count = omega arith in
-    let more : min ((k + plan_each ps b.children) + planned_below ps bs) greatest_count ≡ min (k + planned_below ps (b ∷ bs)) greatest_count = omega (arith, sum_by-cons (λ (b : Bucket). plan_each ps b.children) b bs) in
+    let more : min ((k + plan_each ps b.children) + tally_below ps bs) greatest_count ≡ min (k + tally_below ps (b ∷ bs)) greatest_count = omega (arith, sum_by-cons (λ (b : Bucket). plan_each ps b.children) b bs) in
     ap (λ m. below_from ps m bs) step ∙ below_from-min ps (k + plan_each ps b.children) bs ∙ more
 
 -- no children, no buckets below
-pub none-below : (bs : List Bucket) → planned_below [] bs ≡ 0
+pub none-below : (bs : List Bucket) → tally_below [] bs ≡ 0
 none-below [] = refl
 none-below (b ∷ bs) = omega (arith, sum_by-cons (λ (b : Bucket). plan_each [] b.children) b bs, none-below bs)
 

@@ -1,15 +1,15 @@
 -- What holds of the buckets of a histogram, and of each empty one, holds of all buckets that it has with its gaps filled.
-use Rattle.std.specs.Prelude.{◌≡◌, refl, ℕ, ◌==◌, nat_le, Bool, true, false, cond, List, [], ◌∷◌, map, Some, unwrap_or, find}
+use Rattle.std.specs.Prelude.{◌≡◌, refl, ℕ, ◌==◌, Bool, true, false, cond, List, [], ◌∷◌, map, Some, unwrap_or, find}
 use Rattle.std.specs.List.{list_all}
 use Rattle.std.proofs.lemmas.Bool.{and_parts, and_from}
 use Rattle.agg_model.specs.declared.key.Key.{Key}
 use Rattle.agg_model.specs.declared.partial.Bucket.{Bucket}
 use Rattle.agg_model.specs.declared.aggregation.Bounds.{Bounds}
 use Rattle.agg_evaluation.specs.KeyOrder.{key_eq}
-use Rattle.agg_evaluation.specs.Orders.{bucket_key, bucket_count}
-use Rattle.agg_spec.specs.Filling.{bucket_at, filled, filled_keys, frequent}
+use Rattle.agg_evaluation.specs.Orders.{bucket_key}
+use Rattle.agg_spec.specs.Filling.{bucket_at, filled_keys}
+use Rattle.final_reduce.specs.Standing.{with_gaps}
 use Rattle.final_reduce.specs.Steps.{key_numbers}
-use Rattle.final_reduce.proofs.SelectLaws.{list_all-filter}
 
 module _ (passes : Bucket → Bool) (empty : Key → Bucket) (empties : (key : Key) → passes (empty key) ≡ true) where
   bucket_at-passes : (bs : List Bucket) → list_all passes bs ≡ true → (key : Key) → passes (bucket_at empty bs key) ≡ true
@@ -25,9 +25,9 @@ module _ (passes : Bucket → Bool) (empty : Key → Bucket) (empties : (key : K
   each-passes bs all [] = refl
   each-passes bs all (key ∷ keys) = and_from _ _ (bucket_at-passes bs all key) (each-passes bs all keys)
 
-  pub filled-passes : (interval offset m : ℕ) (extended hard : Bounds) (bs : List Bucket) → list_all passes bs ≡ true → list_all passes (filled empty interval offset m extended hard bs) ≡ true
-  filled-passes interval offset m extended hard bs all =
-      elim (m == 0) as (λ b. list_all passes (cond b (map (bucket_at empty bs) (filled_keys interval offset extended hard (key_numbers bs))) (frequent m bs)) ≡ true) [
+  pub gaps-pass : (interval offset m : ℕ) (extended hard : Bounds) (bs : List Bucket) → list_all passes bs ≡ true → list_all passes (with_gaps empty interval offset m extended hard bs) ≡ true
+  gaps-pass interval offset m extended hard bs all =
+      elim (m == 0) as (λ b. list_all passes (cond b (map (bucket_at empty bs) (filled_keys interval offset extended hard (key_numbers bs))) bs) ≡ true) [
         | true ↦ each-passes bs all (filled_keys interval offset extended hard (key_numbers bs))
-        | false ↦ list_all-filter passes (λ b. nat_le m (bucket_count b)) bs all
+        | false ↦ all
       ]

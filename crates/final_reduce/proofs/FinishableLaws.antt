@@ -1,11 +1,11 @@
 -- A node that can be finished, opened by one level.
-use Rattle.std.specs.Prelude.{◌≡◌, refl, ℕ, ◌+◌, ◌<◌, ◌^◌, nat_lt, nat_le, Bool, true, ◌&&◌, List, [], map, sum_by, Option, None}
-use Rattle.std.proofs.Common.{sym, ◌∙◌, ap, ◌⊎◌, inl, inr}
-use Rattle.std.proofs.lemmas.Bool.{and_parts, false≢true, ltb-true}
+use Rattle.std.specs.Prelude.{◌≡◌, refl, ℕ, ◌+◌, ◌<◌, ◌^◌, nat_lt, nat_le, Bool, true, ◌&&◌, List, [], ◌∷◌, map, sum_by, Option}
+use Rattle.std.proofs.Common.{sym, ◌∙◌, ap, ◌⊎◌, inl, inr, arith}
+use Rattle.std.proofs.lemmas.Bool.{and_parts, false≢true, ltb-true, lt-ltb}
+use Rattle.std.proofs.lemmas.List.Sums.{sum_by-take-drop}
 use Rattle.agg_model.specs.declared.row.Scalar.{Scalar}
-use Rattle.agg_model.specs.declared.query.Probe.{Probe}
-use Rattle.agg_model.specs.declared.aggregation.Order.{Order}
-use Rattle.agg_model.specs.declared.aggregation.Bounds.{Bounds}
+use Rattle.agg_model.specs.declared.query.Query.{Query}
+use Rattle.agg_model.specs.declared.partial.Metric.{Metric}
 use Rattle.agg_model.specs.declared.aggregation.CompositeSource.{CompositeSource}
 use Rattle.agg_model.specs.declared.aggregation.Kind.{Kind}
 use Rattle.agg_model.specs.declared.aggregation.Kind.TheVariants as kind
@@ -14,19 +14,25 @@ use Rattle.agg_model.specs.declared.key.Key.{Key}
 use Rattle.agg_model.specs.declared.partial.Bucket.{Bucket}
 use Rattle.agg_model.specs.declared.partial.Node.{Node, out-Node}
 use Rattle.agg_model.specs.declared.partial.Node.TheOpen.{Node-F}
+use Rattle.agg_model.specs.declared.partial.Node.TheVariants.{Keyed, Fixed}
 use Rattle.agg_model.specs.declared.aggregation.Agg.{Agg, out-Agg}
 use Rattle.agg_model.specs.declared.aggregation.Agg.TheOpen.{Agg-F}
 use Rattle.agg_evaluation.specs.Shard.{fixed_keys}
 use Rattle.agg_evaluation.specs.Trees.{is_ascending, is_tree_at, have_children, pass_each}
 use Rattle.agg_evaluation.specs.Whole.{Shape, by_key, from_start, a_number, shape_of, Parts, parts, parts_at}
-use Rattle.agg_spec.specs.Final.{Finisher, finisher, finisher_of, finish_at, finish_bucket, buckets_answer, metric_answer}
+use Rattle.agg_spec.specs.Final.{Finisher, metric_answer}
+use Rattle.agg_spec.specs.Filling.{frequent}
+use Rattle.bucket_order.specs.Kinds.{child_kinds, kind_of}
 use Rattle.agg_evaluation.specs.Finishable.{is_finishable, is_finishable_at, fits_at, terms_fit, has_histogram_keys}
 use Rattle.agg_evaluation.specs.Conditions.{has_interval, has_intervals}
-use Rattle.final_reduce.specs.Planned.{has_composite_keys, returned_at}
+use Rattle.final_reduce.specs.Standing.{Cutter, Form, ranked, spaced, paged, beyond_at, builder, builder_of, built_at, can_return, cut_at, cut_bucket, cut_keyed, cutter, cutter_of, form_of, is_standing, is_standing_at, ordered_terms, plain_answer, returned_at, stands_at}
+use Rattle.list_laws.proofs.Each.{sum_by-sorted}
 use Rattle.final_reduce.proofs.SelectLaws.{list_all-map, list_all-take, list_all-filter}
 use Rattle.bucket_order.proofs.SameOrder.{list_all-sorted}
+use Rattle.list_laws.proofs.Sums.{sum_by-filter}
 use Rattle.std.specs.List.{list_all}
 use Rattle.agg_evaluation.proofs.AggFolds.{fold_agg-level}
+use Rattle.agg_evaluation.proofs.NodeForms.{out-Keyed, out-Fixed}
 
 pub children_pass : (tests : List (Node → Bool)) (fixed : List Key) (shape : Shape) (n : Node-F Node Bucket) → is_tree_at tests fixed shape n ≡ true → have_children tests (parts_at n).buckets ≡ true
 children_pass tests fixed by_key (Node-F.Keyed buckets error full cut) h = (and_parts _ _ h).1
@@ -57,48 +63,128 @@ opened a n h =
     let both = and_parts _ _ (sym (is_finishable-level a n) ∙ h) in
     (children_pass (map is_finishable (out-Agg a).children) (fixed_keys (out-Agg a).kind) (shape_of (out-Agg a).kind) (out-Node n) both.0, both.1)
 
--- an aggregation's answer is that of its kind
-pub finish_is : (a : Agg) (n : Node) → (finisher a).finish n ≡ finish_at (out-Agg a).name (map finisher (out-Agg a).children) (out-Agg a).kind (parts n)
-finish_is a n = ap (λ (f : Finisher). f.finish n) (fold_agg-level finisher_of a)
-
 pub counts_fit : (p : Parts) → terms_fit p ≡ true → (p.cut + sum_by bucket_count p.buckets < 2 ^ 64) × (p.error < 2 ^ 63)
 counts_fit p h =
     let both = and_parts (nat_lt (p.cut + sum_by bucket_count p.buckets) (2 ^ 64)) _ h in
     (ltb-true _ _ both.0, ltb-true _ _ (and_parts (nat_lt p.error (2 ^ 63)) _ both.1).0)
 
+-- what the choice of buckets asks
+pub can_return-of : (k : Kind) (p : Parts) → fits_at k p ≡ true → can_return (form_of k) p.buckets ≡ true
+can_return-of (kind.Terms a b c d o i e m s) p h = let fit = counts_fit p h in lt-ltb (sum_by bucket_count p.buckets) (2 ^ 64) (omega (arith, fit.0))
+can_return-of (kind.Composite s n a) p h = h
+can_return-of _ p h = refl
+
+-- what the shards cut and the terms that are left out are a number together
+pub other-fits : (kinds : List Kind) (k : Kind) (p : Parts) → fits_at k p ≡ true → p.cut < 2 ^ 64 → p.cut + beyond_at kinds (form_of k) p.buckets < 2 ^ 64
+other-fits kinds (kind.Terms f size ss m order i x ms sh) p h low =
+    let fit = counts_fit p h in
+    let terms = ordered_terms kinds m order p.buckets in
+    omega (
+      arith,
+      fit.0,
+      sum_by-take-drop bucket_count terms size,
+      sum_by-sorted (bucket_cmp kinds order) bucket_count (frequent m p.buckets),
+      sum_by-filter bucket_count (λ b. nat_le m (bucket_count b)) p.buckets,
+    )
+other-fits kinds _ p h low = omega arith
+
+-- a level of what stands
+pub cutter-level : (a : Agg) (n : Node) → (cutter a).cut n ≡ cut_at (map cutter (out-Agg a).children) (form_of (out-Agg a).kind) n
+cutter-level a n = ap (λ (c : Cutter). c.cut n) (fold_agg-level cutter_of a)
+
+cutter-kind : (a : Agg) → (cutter a).kind ≡ kind_of a
+cutter-kind a = ap (λ (c : Cutter). c.kind) (fold_agg-level cutter_of a)
+
+pub kinds_of_cutters : (aggs : List Agg) → map (λ (c : Cutter). c.kind) (map cutter aggs) ≡ child_kinds aggs
+kinds_of_cutters [] = refl
+kinds_of_cutters (a ∷ rest) = λ i. cutter-kind a i ∷ kinds_of_cutters rest i
+
+-- and of the answer that is made of it
+pub builder-level : (a : Agg) (n : Node) → (builder a).finish n ≡ built_at (out-Agg a).name (map builder (out-Agg a).children) (form_of (out-Agg a).kind) (parts n)
+builder-level a n = ap (λ (f : Finisher). f.finish n) (fold_agg-level builder_of a)
+
+builder-kind : (a : Agg) → (builder a).kind ≡ kind_of a
+builder-kind a = ap (λ (f : Finisher). f.kind) (fold_agg-level builder_of a)
+
+pub kinds_of_builders : (aggs : List Agg) → map (λ (f : Finisher). f.kind) (map builder aggs) ≡ child_kinds aggs
+kinds_of_builders [] = refl
+kinds_of_builders (a ∷ rest) = λ i. builder-kind a i ∷ kinds_of_builders rest i
+
+is_standing-level : (a : Agg) (n : Node) → is_standing a n ≡ is_standing_at (map is_standing (out-Agg a).children) (form_of (out-Agg a).kind) n
+is_standing-level a n = ap (λ (test : Node → Bool). test n) (fold_agg-level (λ (b : Agg-F (Node → Bool)) (m : Node). is_standing_at b.children (form_of b.kind) m) a)
+
+pub standing-opened : (a : Agg) (n : Node) → is_standing a n ≡ true → (have_children (map is_standing (out-Agg a).children) (parts n).buckets ≡ true) × (stands_at (form_of (out-Agg a).kind) (parts n) ≡ true)
+standing-opened a n h = and_parts _ _ (sym (is_standing-level a n) ∙ h)
+
+-- the keys of what stands
+pub keys-stand : (k : Kind) (p : Parts) → stands_at (form_of k) p ≡ true → has_histogram_keys k p.buckets ≡ true
+keys-stand (kind.Histogram a b c d x y s o m) p h = (and_parts (has_histogram_keys (kind.Histogram a b c d x y s o m) p.buckets) _ h).0
+keys-stand _ p h = refl
+
+-- what stands of a node with keys, of one with buckets from the start, and of a number
+pub keyed-cut : (cs : List Cutter) (tests : List (Node → Bool)) (k : Kind) (n : Node) (bs : List Bucket) (error full cut : ℕ)
+    → is_tree_at tests (fixed_keys k) (shape_of k) (Node-F.Keyed bs error full cut) ≡ true → cut_at cs (form_of k) n ≡ cut_keyed cs (form_of k) (parts n)
+keyed-cut cs tests (kind.Terms f size ss m order i x ms sh) n bs error full cut h = refl
+keyed-cut cs tests (kind.Histogram f i o m x y kd order ms) n bs error full cut h = refl
+keyed-cut cs tests (kind.Composite sources size after) n bs error full cut h = refl
+keyed-cut cs tests _ n bs error full cut h = absurd (false≢true h)
+
+pub fixed-cut : (cs : List Cutter) (tests : List (Node → Bool)) (k : Kind) (n : Node) (bs : List Bucket)
+    → is_tree_at tests (fixed_keys k) (shape_of k) (Node-F.Fixed bs) ≡ true → cut_at cs (form_of k) n ≡ Fixed (map (cut_bucket cs) (parts n).buckets)
+fixed-cut cs tests (kind.Filters names filters other) n bs h = refl
+fixed-cut cs tests (kind.Filter q) n bs h = refl
+fixed-cut cs tests (kind.Missing f) n bs h = refl
+fixed-cut cs tests kind.Global n bs h = refl
+fixed-cut cs tests (kind.Nested c) n bs h = refl
+fixed-cut cs tests (kind.ReverseNested c) n bs h = refl
+fixed-cut cs tests _ n bs h = absurd (false≢true h)
+
+pub number-cut : (cs : List Cutter) (tests : List (Node → Bool)) (k : Kind) (n : Node) (m : Metric)
+    → is_tree_at tests (fixed_keys k) (shape_of k) (Node-F.Number m) ≡ true → cut_at cs (form_of k) n ≡ n
+number-cut cs tests (kind.Sum f missing) n m h = refl
+number-cut cs tests (kind.Min f missing) n m h = refl
+number-cut cs tests (kind.Max f missing) n m h = refl
+number-cut cs tests (kind.Avg f missing) n m h = refl
+number-cut cs tests (kind.ValueCount f missing) n m h = refl
+number-cut cs tests _ n m h = absurd (false≢true h)
+
+pub tree-opened : (a : Agg) (n : Node) → is_finishable a n ≡ true → is_tree_at (map is_finishable (out-Agg a).children) (fixed_keys (out-Agg a).kind) (shape_of (out-Agg a).kind) (out-Node n) ≡ true
+tree-opened a n h = (and_parts _ (fits_at (out-Agg a).kind (parts n)) (sym (is_finishable-level a n) ∙ h)).0
+
+-- buckets without children, below which nothing is cut
+pub leaves-stand : (bs : List Bucket) → have_children [] bs ≡ true → map (cut_bucket []) bs ≡ bs
+leaves-stand [] pass = refl
+leaves-stand (b ∷ bs) pass =
+    let parts = and_parts (pass_each [] b.children) (have_children [] bs) pass in
+    λ i. record { key = b.key; count = b.count; covered = b.covered; children = none b.children parts.0 i } ∷ leaves-stand bs parts.1 i
+  where
+    none : (ns : List Node) → pass_each [] ns ≡ true → [] ≡ ns
+    none [] h = refl
+    none (n ∷ ns) h = absurd (false≢true h)
+
 -- a metric's kind has its number alone
 pub metric_is : (name : List ℕ) (finishers : List Finisher) (p : Parts) (k : Kind)
     → (((f : ℕ) × (m : Option Scalar) × (k ≡ kind.Sum f m)) ⊎ (((f : ℕ) × (m : Option Scalar) × (k ≡ kind.Min f m)) ⊎ (((f : ℕ) × (m : Option Scalar) × (k ≡ kind.Max f m))
     ⊎ (((f : ℕ) × (m : Option Scalar) × (k ≡ kind.Avg f m)) ⊎ ((f : ℕ) × (m : Option Scalar) × (k ≡ kind.ValueCount f m))))))
-    → finish_at name finishers k p ≡ metric_answer name p.metrics
-metric_is name fs p k (inl w) = ap (λ j. finish_at name fs j p) w.2
-metric_is name fs p k (inr (inl w)) = ap (λ j. finish_at name fs j p) w.2
-metric_is name fs p k (inr (inr (inl w))) = ap (λ j. finish_at name fs j p) w.2
-metric_is name fs p k (inr (inr (inr (inl w)))) = ap (λ j. finish_at name fs j p) w.2
-metric_is name fs p k (inr (inr (inr (inr w)))) = ap (λ j. finish_at name fs j p) w.2
+    → built_at name finishers (form_of k) p ≡ metric_answer name p.metrics
+metric_is name fs p k (inl w) = ap (λ j. built_at name fs (form_of j) p) w.2
+metric_is name fs p k (inr (inl w)) = ap (λ j. built_at name fs (form_of j) p) w.2
+metric_is name fs p k (inr (inr (inl w))) = ap (λ j. built_at name fs (form_of j) p) w.2
+metric_is name fs p k (inr (inr (inr (inl w)))) = ap (λ j. built_at name fs (form_of j) p) w.2
+metric_is name fs p k (inr (inr (inr (inr w)))) = ap (λ j. built_at name fs (form_of j) p) w.2
 
--- a kind that is none of these has its buckets alone
+-- these kinds have the buckets that stand
 pub plain_is : (name : List ℕ) (finishers : List Finisher) (p : Parts) (k : Kind)
-    → ((a b c d : ℕ) (o : List Order) (i : Option (List Probe)) (e : List Probe) (m : Option Scalar) (s : Bool) → k ≡ kind.Terms a b c d o i e m s → ⊥)
-    → ((a b c d : ℕ) (x y : Bounds) (s : Bool) (o : List Order) (m : Option Scalar) → k ≡ kind.Histogram a b c d x y s o m → ⊥)
-    → ((s : List CompositeSource) (n : ℕ) (a : Option Key) → k ≡ kind.Composite s n a → ⊥)
-    → ((f : ℕ) (m : Option Scalar) → k ≡ kind.Sum f m → ⊥) → ((f : ℕ) (m : Option Scalar) → k ≡ kind.Min f m → ⊥) → ((f : ℕ) (m : Option Scalar) → k ≡ kind.Max f m → ⊥)
-    → ((f : ℕ) (m : Option Scalar) → k ≡ kind.Avg f m → ⊥) → ((f : ℕ) (m : Option Scalar) → k ≡ kind.ValueCount f m → ⊥)
-    → finish_at name finishers k p ≡ buckets_answer name (map (finish_bucket finishers None) p.buckets)
-plain_is name fs p (kind.Terms a b c d o i e m s) no_terms no_histogram no_composite no_sum no_min no_max no_avg no_count = absurd (no_terms a b c d o i e m s refl)
-plain_is name fs p (kind.Histogram a b c d x y s o m) no_terms no_histogram no_composite no_sum no_min no_max no_avg no_count = absurd (no_histogram a b c d x y s o m refl)
-plain_is name fs p (kind.Filters a b c) no_terms no_histogram no_composite no_sum no_min no_max no_avg no_count = refl
-plain_is name fs p (kind.Filter q) no_terms no_histogram no_composite no_sum no_min no_max no_avg no_count = refl
-plain_is name fs p (kind.Missing f) no_terms no_histogram no_composite no_sum no_min no_max no_avg no_count = refl
-plain_is name fs p kind.Global no_terms no_histogram no_composite no_sum no_min no_max no_avg no_count = refl
-plain_is name fs p (kind.Nested c) no_terms no_histogram no_composite no_sum no_min no_max no_avg no_count = refl
-plain_is name fs p (kind.ReverseNested c) no_terms no_histogram no_composite no_sum no_min no_max no_avg no_count = refl
-plain_is name fs p (kind.Composite s n a) no_terms no_histogram no_composite no_sum no_min no_max no_avg no_count = absurd (no_composite s n a refl)
-plain_is name fs p (kind.Sum f m) no_terms no_histogram no_composite no_sum no_min no_max no_avg no_count = absurd (no_sum f m refl)
-plain_is name fs p (kind.Min f m) no_terms no_histogram no_composite no_sum no_min no_max no_avg no_count = absurd (no_min f m refl)
-plain_is name fs p (kind.Max f m) no_terms no_histogram no_composite no_sum no_min no_max no_avg no_count = absurd (no_max f m refl)
-plain_is name fs p (kind.Avg f m) no_terms no_histogram no_composite no_sum no_min no_max no_avg no_count = absurd (no_avg f m refl)
-plain_is name fs p (kind.ValueCount f m) no_terms no_histogram no_composite no_sum no_min no_max no_avg no_count = absurd (no_count f m refl)
+    → (((s : List CompositeSource) × (n : ℕ) × (a : Option Key) × (k ≡ kind.Composite s n a)) ⊎ (((ns : Option (List (List ℕ))) × (qs : List Query) × (o : Option (List ℕ)) × (k ≡ kind.Filters ns qs o))
+    ⊎ (((q : Query) × (k ≡ kind.Filter q)) ⊎ (((f : ℕ) × (k ≡ kind.Missing f)) ⊎ ((k ≡ kind.Global) ⊎ (((c : ℕ) × (k ≡ kind.Nested c)) ⊎ ((c : ℕ) × (k ≡ kind.ReverseNested c))))))))
+    → built_at name finishers (form_of k) p ≡ plain_answer name finishers p.buckets
+plain_is name fs p k (inl w) = ap (λ j. built_at name fs (form_of j) p) w.3
+plain_is name fs p k (inr (inl w)) = ap (λ j. built_at name fs (form_of j) p) w.3
+plain_is name fs p k (inr (inr (inl w))) = ap (λ j. built_at name fs (form_of j) p) w.1
+plain_is name fs p k (inr (inr (inr (inl w)))) = ap (λ j. built_at name fs (form_of j) p) w.1
+plain_is name fs p k (inr (inr (inr (inr (inl w))))) = ap (λ j. built_at name fs (form_of j) p) w
+plain_is name fs p k (inr (inr (inr (inr (inr (inl w)))))) = ap (λ j. built_at name fs (form_of j) p) w.1
+plain_is name fs p k (inr (inr (inr (inr (inr (inr w)))))) = ap (λ j. built_at name fs (form_of j) p) w.1
 
 abbrev intervals : Agg-F Bool → Bool
 intervals a = has_interval a.kind && list_all (λ has. has) a.children
@@ -113,35 +199,20 @@ pub no_keys : (k : Kind) → has_histogram_keys k [] ≡ true
 no_keys (kind.Histogram a b c d x y s o m) = refl
 no_keys _ = refl
 
--- the keys of a node's buckets
-pub keys_fit : (k : Kind) (p : Parts) → fits_at k p ≡ true → (has_histogram_keys k p.buckets ≡ true) × (has_composite_keys k p.buckets ≡ true)
-keys_fit (kind.Histogram a b c d x y s o m) p h = (h, refl)
-keys_fit (kind.Composite s n a) p h = (refl, h)
-keys_fit _ p h = (refl, refl)
-
--- a kind that is none of these returns all its buckets
-pub all_returned : (kinds : List Kind) (bs : List Bucket) (k : Kind)
-    → ((a b c d : ℕ) (o : List Order) (i : Option (List Probe)) (e : List Probe) (m : Option Scalar) (s : Bool) → k ≡ kind.Terms a b c d o i e m s → ⊥)
-    → ((a b c d : ℕ) (x y : Bounds) (s : Bool) (o : List Order) (m : Option Scalar) → k ≡ kind.Histogram a b c d x y s o m → ⊥)
-    → ((s : List CompositeSource) (n : ℕ) (a : Option Key) → k ≡ kind.Composite s n a → ⊥) → returned_at kinds k bs ≡ bs
-all_returned kinds bs (kind.Terms a b c d o i e m s) no_terms no_histogram no_composite = absurd (no_terms a b c d o i e m s refl)
-all_returned kinds bs (kind.Histogram a b c d x y s o m) no_terms no_histogram no_composite = absurd (no_histogram a b c d x y s o m refl)
-all_returned kinds bs (kind.Composite s n a) no_terms no_histogram no_composite = absurd (no_composite s n a refl)
-all_returned kinds bs _ no_terms no_histogram no_composite = refl
-
--- where buckets exist by key, they ascend
-pub ascending-opened : (a : Agg) (n : Node) → is_finishable a n ≡ true → shape_of (out-Agg a).kind ≡ by_key → is_ascending (map bucket_key (parts n).buckets) ≡ true
-ascending-opened a n h is =
-    let both = and_parts (is_tree_at (map is_finishable (out-Agg a).children) (fixed_keys (out-Agg a).kind) (shape_of (out-Agg a).kind) (out-Node n)) _ (sym (is_finishable-level a n) ∙ h) in
-    ascending_of (map is_finishable (out-Agg a).children) (fixed_keys (out-Agg a).kind) (out-Node n) (ap (λ s. is_tree_at (map is_finishable (out-Agg a).children) (fixed_keys (out-Agg a).kind) s (out-Node n)) (sym is) ∙ both.0)
-
 -- the returned buckets have children that pass where all have
-pub returned-pass : (tests : List (Node → Bool)) (kinds : List Kind) (k : Kind) (bs : List Bucket) → have_children tests bs ≡ true → have_children tests (returned_at kinds k bs) ≡ true
-returned-pass tests kinds (kind.Terms f size ss m order i x ms sh) bs h =
+pub returned-pass : (tests : List (Node → Bool)) (kinds : List Kind) (form : Form) (bs : List Bucket) → have_children tests bs ≡ true → have_children tests (returned_at kinds form bs) ≡ true
+returned-pass tests kinds (ranked t) bs h =
     let passes = λ (b : Bucket). pass_each tests b.children in
-    list_all-take passes size _ (list_all-sorted passes (bucket_cmp kinds order) _ (list_all-filter passes (λ b. nat_le m (bucket_count b)) bs h))
-returned-pass tests kinds (kind.Histogram f i o m x y kd order ms) bs h = list_all-filter (λ (b : Bucket). pass_each tests b.children) (λ b. nat_le m (bucket_count b)) bs h
-returned-pass tests kinds (kind.Composite sources size after) bs h =
+    list_all-take passes t.size _ (list_all-sorted passes (bucket_cmp kinds t.order) _ (list_all-filter passes (λ b. nat_le t.min_doc_count (bucket_count b)) bs h))
+returned-pass tests kinds (spaced o) bs h = list_all-filter (λ (b : Bucket). pass_each tests b.children) (λ b. nat_le o.min_doc_count (bucket_count b)) bs h
+returned-pass tests kinds (paged sources size) bs h =
     let passes = λ (b : Bucket). pass_each tests b.children in
     list_all-take passes size _ (list_all-sorted passes (λ a b. composite_cmp sources (bucket_key a) (bucket_key b)) bs h)
 returned-pass tests kinds _ bs h = h
+
+-- the parts of a node that is taken apart
+pub keyed-parts : (n : Node) (bs : List Bucket) (error full cut : ℕ) → n ≡ Keyed bs error full cut → parts n ≡ parts_at (Node-F.Keyed bs error full cut)
+keyed-parts n bs error full cut is = ap parts is ∙ ap parts_at (out-Keyed bs error full cut)
+
+pub fixed-parts : (n : Node) (bs : List Bucket) → n ≡ Fixed bs → parts n ≡ parts_at (Node-F.Fixed bs)
+fixed-parts n bs is = ap parts is ∙ ap parts_at (out-Fixed bs)

@@ -1,6 +1,6 @@
 -- Starts of intervals, and how many steps of an interval lead from one number to another.
-use Rattle.std.specs.Prelude.{◌≡◌, refl, ℕ, suc, ◌+◌, ◌-◌, ◌<◌, ◌/◌, ℤ, pos, negsuc, ◌+ℤ◌, ◌-ℤ◌, ◌*ℤ◌, ◌≤ℤ◌, ◌<ℤ◌, int_le, true, cond, unsigned_abs}
-use Rattle.std.specs.Int.{int_div_euclid, int_rem_euclid}
+use Rattle.std.specs.Prelude.{◌≡◌, refl, ℕ, suc, ◌+◌, ◌-◌, ◌<◌, ◌/◌, ℤ, pos, negsuc, ◌+ℤ◌, ◌-ℤ◌, ◌≤ℤ◌, ◌<ℤ◌, int_le, true, cond, unsigned_abs}
+use Rattle.std.specs.Int.{int_div_euclid}
 use Rattle.std.proofs.Common.{sym, ◌∙◌, ap, arith, ⊎_elim}
 use Rattle.std.proofs.lemmas.Bool.{cases_lt}
 use Rattle.std.proofs.Math.Nat.{div-eq_of_lt, div-eq-sub-div}
@@ -16,19 +16,6 @@ above_by k g h = by_difference (g -ℤ k) refl
     by_difference : (z : ℤ) → g -ℤ k ≡ z → (d : ℕ) × (g ≡ k +ℤ pos d)
     by_difference (pos d) e = (d, omega (arith, ints))
     by_difference (negsuc d) e = absurd (omega (arith, ints))
-
--- the quotient that rounds down, and its remainder
-pub euclid : (x : ℤ) (d : ℕ) → 0 < d → (int_div_euclid x (pos d) *ℤ pos d) +ℤ int_rem_euclid x (pos d) ≡ x
-euclid (pos a) d h = omega (arith, ints)
-euclid (negsuc a) d h = omega (arith, ints)
-
-pub rem-low : (x : ℤ) (d : ℕ) → 0 < d → pos 0 ≤ℤ int_rem_euclid x (pos d)
-rem-low (pos a) d h = omega (arith, ints)
-rem-low (negsuc a) d h = omega (arith, ints)
-
-pub rem-high : (x : ℤ) (d : ℕ) → 0 < d → int_rem_euclid x (pos d) <ℤ pos d
-rem-high (pos a) d h = omega (arith, ints)
-rem-high (negsuc a) d h = omega (arith, ints)
 
 module _ (interval offset : ℕ) (positive : 0 < interval) where
   abbrev pub start : ℤ → ℤ
@@ -72,6 +59,15 @@ module _ (interval offset : ℕ) (positive : 0 < interval) where
   -- the first start from a number on
   pub first-from : (n : ℤ) → n ≤ℤ key_from interval offset n
   first-from n = let high = above (n +ℤ pos (interval - 1)) in omega (arith, ints)
+
+  -- where a number is a start it is the first from it on, and else the next start is
+  pub from-start : (n : ℤ) → start n ≡ n → key_from interval offset n ≡ n
+  from-start n is = start_is n (n +ℤ pos (interval - 1)) is (omega (arith, ints)) (omega (arith, ints))
+
+  pub from-between : (n : ℤ) → start n <ℤ n → key_from interval offset n ≡ start n +ℤ pos interval
+  from-between n less =
+      let more = above n in
+      start_is (start n +ℤ pos interval) (n +ℤ pos (interval - 1)) (start-next (start n) (start-start n)) (omega (arith, ints)) (omega (arith, ints))
 
   pub first-least : (n k : ℤ) → start k ≡ k → n ≤ℤ k → key_from interval offset n ≤ℤ k
   first-least n k is low =

@@ -1,19 +1,11 @@
--- Selections and the answers that are made of them.
-use Rattle.std.specs.Prelude.{◌≡◌, refl, ℕ, ◌&&◌, Bool, true, false, length, List, [], ◌∷◌, map, take, filter, min}
+-- What holds of all items of a list, and sorting by what they are seen as.
+use Rattle.std.specs.Prelude.{◌≡◌, refl, ℕ, ◌&&◌, Bool, true, false, List, [], ◌∷◌, map, take, filter}
 use Rattle.std.specs.List.{list_all}
-use Rattle.std.proofs.Common.{sym, ◌∙◌, ap, subst, cond, ⊎_elim, zero, suc, length-take}
+use Rattle.std.proofs.Common.{sym, ◌∙◌, ap, subst, cond, ⊎_elim, zero, suc}
 use Rattle.std.proofs.lemmas.Bool.{cases_Bool, and_parts, and_from}
-use Rattle.agg_model.specs.declared.aggregation.Agg.{Agg}
 use Rattle.std.specs.declared.cmp.Ordering.{Ordering}
 use Rattle.std.specs.Ordering.{is_le}
 use Rattle.list_laws.specs.Sorting.{sorted, insert_sorted}
-use Rattle.agg_spec.specs.Final.{Finisher, finisher, finisher_of}
-use Rattle.bucket_order.specs.Kinds.{kind_of, child_kinds}
-use Rattle.agg_evaluation.proofs.AggFolds.{fold_agg-level}
-
-pub map-map : {A B C : Type 0} (g : B → C) (f : A → B) (xs : List A) → map g (map f xs) ≡ map (λ x. g (f x)) xs
-map-map g f [] = refl
-map-map g f (x ∷ xs) = ap (λ ys. g (f x) ∷ ys) (map-map g f xs)
 
 pub list_all-map : {A B : Type 0} (p : B → Bool) (f : A → B) (xs : List A) → list_all p (map f xs) ≡ list_all (λ x. p (f x)) xs
 list_all-map p f [] = refl
@@ -33,14 +25,6 @@ module _ {A : Type 0} (p : A → Bool) where
       (λ e. subst (λ b. list_all p (cond b (x ∷ filter q xs) (filter q xs)) ≡ true) (sym e) rest)
       (cases_Bool (q x))
 
--- a finisher has the kind of its aggregation
-pub finisher-kind : (a : Agg) → (finisher a).kind ≡ kind_of a
-finisher-kind a = ap (λ (f : Finisher). f.kind) (fold_agg-level finisher_of a)
-
-pub kinds_of_finishers : (aggs : List Agg) → map (λ (f : Finisher). f.kind) (map finisher aggs) ≡ child_kinds aggs
-kinds_of_finishers [] = refl
-kinds_of_finishers (a ∷ rest) = λ i. finisher-kind a i ∷ kinds_of_finishers rest i
-
 -- sorting the items as they are seen
 insert-map : {A B : Type 0} (f : A → B) (cmp : B → B → Ordering) (x : A) (ys : List A) → map f (insert_sorted (λ a b. cmp (f a) (f b)) x ys) ≡ insert_sorted cmp (f x) (map f ys)
 insert-map f cmp x [] = refl
@@ -53,21 +37,3 @@ insert-map f cmp x (y ∷ ys) =
 pub sorted-map : {A B : Type 0} (f : A → B) (cmp : B → B → Ordering) (xs : List A) → map f (sorted (λ a b. cmp (f a) (f b)) xs) ≡ sorted cmp (map f xs)
 sorted-map f cmp [] = refl
 sorted-map f cmp (x ∷ xs) = insert-map f cmp x (sorted (λ a b. cmp (f a) (f b)) xs) ∙ ap (insert_sorted cmp (f x)) (sorted-map f cmp xs)
-
-pub map-take : {A B : Type 0} (f : A → B) (n : ℕ) (xs : List A) → map f (take n xs) ≡ take n (map f xs)
-map-take f zero xs = refl
-map-take f (suc n) [] = refl
-map-take f (suc n) (x ∷ xs) = ap (λ ys. f x ∷ ys) (map-take f n xs)
-
-pub length-insert : {A : Type 0} (cmp : A → A → Ordering) (x : A) (ys : List A) → length (insert_sorted cmp x ys) ≡ suc (length ys)
-length-insert cmp x [] = refl
-length-insert cmp x (y ∷ ys) =
-    elim (is_le (cmp x y)) as (λ b. length (cond b (x ∷ y ∷ ys) (y ∷ insert_sorted cmp x ys)) ≡ suc (suc (length ys))) [ true ↦ refl | false ↦ ap (λ n. suc n) (length-insert cmp x ys) ]
-
-pub length-sorted : {A : Type 0} (cmp : A → A → Ordering) (xs : List A) → length (sorted cmp xs) ≡ length xs
-length-sorted cmp [] = refl
-length-sorted cmp (x ∷ xs) = length-insert cmp x (sorted cmp xs) ∙ ap (λ n. suc n) (length-sorted cmp xs)
-
--- how many are the first in an order, whatever the order
-pub length-first : {A : Type 0} (cmp : A → A → Ordering) (size : ℕ) (xs : List A) → min size (length xs) ≡ length (take size (sorted cmp xs))
-length-first cmp size xs = ap (min size) (sym (length-sorted cmp xs)) ∙ sym (length-take size (sorted cmp xs))

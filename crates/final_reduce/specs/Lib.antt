@@ -1,7 +1,6 @@
 pub mod Causes
 pub mod Counts
 pub mod Paths
-pub mod Planned
 pub mod Selection
+pub mod Standing
 pub mod Steps
-pub mod Terms

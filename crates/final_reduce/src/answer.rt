@@ -1,10 +1,10 @@
-// Answers, built from the aggregations down.
+// Answers made of what stands, from the aggregations down.
 ghost use Rattle.std.specs.Prelude.{◌≡◌, IfOk, IsTrue, map};
 ghost use Rattle.std.specs.List.{list_all};
 ghost use Rattle.agg_evaluation.specs.Trees.{pass_each};
-ghost use Rattle.agg_spec.specs.Final.{finisher, finish_each as finished_each};
-ghost use Rattle.agg_evaluation.specs.Finishable.{is_finishable};
+ghost use Rattle.agg_spec.specs.Final.{finish_each as finished_each};
 ghost use Rattle.agg_evaluation.specs.Conditions.{has_intervals};
+ghost use Rattle.final_reduce.specs.Standing.{builder, is_standing};
 ghost use Rattle.final_reduce.specs.Selection.{chosen_pass, finish_chosen as finished_choice};
 
 use crate::select::{Chosen, select};
@@ -19,8 +19,8 @@ pub(crate) fn finish_each(
     nodes: List<Node>,
 ) -> Result<List<NodeAnswer>, AllocError>
     requires intervals { IsTrue (list_all has_intervals aggs.now) }
-    requires nodes { IsTrue (pass_each (map is_finishable aggs.now) nodes) }
-    ensures { IfOk result (λ answers. answers ≡ finished_each (map finisher aggs.now) nodes) }
+    requires nodes { IsTrue (pass_each (map is_standing aggs.now) nodes) }
+    ensures { IfOk result (λ answers. answers ≡ finished_each (map builder aggs.now) nodes) }
 {
     let mut answers = List::new(alloc);
     let mut left = nodes.into_vec().into_iter();
@@ -36,8 +36,8 @@ pub(crate) fn finish_each(
 #[cycle(finish)]
 fn finish_node(alloc: Global, agg: &Agg, node: Node) -> Result<NodeAnswer, AllocError>
     requires intervals { IsTrue (has_intervals agg.now) }
-    requires node { IsTrue (is_finishable agg.now node) }
-    ensures { IfOk result (λ a. a ≡ (finisher agg.now).finish node) }
+    requires node { IsTrue (is_standing agg.now node) }
+    ensures { IfOk result (λ a. a ≡ (builder agg.now).finish node) }
 {
     let selected = select(alloc, agg, node)?;
     Ok(NodeAnswer {
@@ -56,8 +56,8 @@ fn finish_chosen(
     chosen: List<Chosen>,
 ) -> Result<List<BucketAnswer>, AllocError>
     requires intervals { IsTrue (list_all has_intervals children.now) }
-    requires chosen { IsTrue (chosen_pass (map is_finishable children.now) chosen) }
-    ensures { IfOk result (λ bs. bs ≡ map (finished_choice (map finisher children.now)) chosen) }
+    requires chosen { IsTrue (chosen_pass (map is_standing children.now) chosen) }
+    ensures { IfOk result (λ bs. bs ≡ map (finished_choice (map builder children.now)) chosen) }
 {
     let mut answers = List::new(alloc);
     for choice in chosen.into_vec() {
@@ -73,8 +73,8 @@ fn finish_choice(
     choice: Chosen,
 ) -> Result<BucketAnswer, AllocError>
     requires intervals { IsTrue (list_all has_intervals children.now) }
-    requires choice { IsTrue (pass_each (map is_finishable children.now) choice.bucket.children) }
-    ensures { IfOk result (λ b. b ≡ finished_choice (map finisher children.now) choice) }
+    requires choice { IsTrue (pass_each (map is_standing children.now) choice.bucket.children) }
+    ensures { IfOk result (λ b. b ≡ finished_choice (map builder children.now) choice) }
 {
     let Chosen { error, bucket } = choice;
     Ok(BucketAnswer {

@@ -1,22 +1,20 @@
-// The number of buckets of an answer, counted on the whole before any bucket is built: gaps of a histogram by a quotient.
-ghost use Rattle.std.specs.Prelude.{◌≡◌, ◌+◌, ◌*◌, ◌<◌, min, IfOk, IsTrue, map};
+// The number of buckets of the answer that is made of what stands, before any of it is built: gaps of a histogram by a quotient.
+ghost use Rattle.std.specs.Prelude.{◌≡◌, ◌+◌, ◌*◌, ◌<◌, min, IsTrue, map};
 ghost use Rattle.std.specs.List.{list_all};
 ghost use Rattle.agg_model.specs.declared.aggregation.Agg.{out-Agg};
 ghost use Rattle.agg_evaluation.specs.Orders.{bucket_key};
 ghost use Rattle.agg_evaluation.specs.Trees.{have_children, pass_each};
 ghost use Rattle.agg_evaluation.specs.Whole.{parts};
 ghost use Rattle.agg_spec.specs.BucketCount.{greatest_count};
-ghost use Rattle.agg_spec.specs.GapCount.{below_empty, plan, plan_each};
+ghost use Rattle.agg_spec.specs.GapCount.{below_empty, plan_each};
 ghost use Rattle.bucket_order.specs.Kinds.{kind_of};
-ghost use Rattle.agg_evaluation.specs.Finishable.{has_histogram_keys, is_finishable, is_histogram_key};
+ghost use Rattle.agg_evaluation.specs.Finishable.{has_histogram_keys, is_histogram_key};
 ghost use Rattle.agg_evaluation.specs.Conditions.{has_interval, has_intervals};
-ghost use Rattle.final_reduce.specs.Planned.{fixed_count, gap_count as count_of_gaps, gaps_of, member_number, planned_below as planned_below_buckets, planned_of_nothing};
+ghost use Rattle.final_reduce.specs.Standing.{form_of, is_standing};
+ghost use Rattle.final_reduce.specs.Counts.{fixed_count, gap_count as count_of_gaps, gaps_of, member_number, tally, tally_below, tally_of_nothing};
 
-use crate::lent::lend_returned;
-use crate::returned::returned_number;
-use crate::spans::{Spacing, filled_number};
+use crate::spans::{Grid, filled_number};
 use agg_model::{Agg, Bucket, Kind, List, Node};
-use std::alloc::{AllocError, Global};
 
 fn saturated(number: u128) -> u64
     ensures { result ≡ min number greatest_count }
@@ -43,7 +41,15 @@ fn member_count(kind: &Kind, buckets: u64) -> u64
         | Kind::Global
         | Kind::Nested { .. }
         | Kind::ReverseNested { .. } => 0,
-        _ => buckets,
+        Kind::Terms { .. }
+        | Kind::Histogram { .. }
+        | Kind::Filters { .. }
+        | Kind::Composite { .. }
+        | Kind::Sum { .. }
+        | Kind::Min { .. }
+        | Kind::Max { .. }
+        | Kind::Avg { .. }
+        | Kind::ValueCount { .. } => buckets,
     }
 }
 
@@ -61,26 +67,33 @@ fn fixed_number(kind: &Kind) -> u64
         | Kind::Global
         | Kind::Nested { .. }
         | Kind::ReverseNested { .. } => 1,
-        _ => 0,
+        Kind::Terms { .. }
+        | Kind::Histogram { .. }
+        | Kind::Composite { .. }
+        | Kind::Sum { .. }
+        | Kind::Min { .. }
+        | Kind::Max { .. }
+        | Kind::Avg { .. }
+        | Kind::ValueCount { .. } => 0,
     }
 }
 
-fn gaps_between(spacing: Spacing, min_doc_count: u64, buckets: &[Bucket]) -> u64
-    requires positive { 0 < spacing.interval }
-    requires keys { IsTrue (list_all (λ b. is_histogram_key spacing.interval spacing.offset spacing.hard (bucket_key b)) buckets.now) }
-    ensures { result ≡ min (gaps_of spacing.interval spacing.offset min_doc_count spacing.extended spacing.hard buckets.now) greatest_count }
+fn gaps_between(grid: Grid, min_doc_count: u64, buckets: &[Bucket]) -> u64
+    requires positive { 0 < grid.interval }
+    requires keys { IsTrue (list_all (λ b. is_histogram_key grid.interval grid.offset grid.hard (bucket_key b)) buckets.now) }
+    ensures { result ≡ min (gaps_of grid.interval grid.offset min_doc_count grid.extended grid.hard buckets.now) greatest_count }
 {
     if min_doc_count > 0 {
         return 0;
     }
-    saturated(filled_number(spacing, buckets).saturating_sub(buckets.len() as u128))
+    saturated(filled_number(grid, buckets).saturating_sub(buckets.len() as u128))
 }
 
 // How many buckets fill the gaps of a histogram; other aggregations have no gaps.
 fn gap_count(kind: &Kind, buckets: &[Bucket]) -> u64
     requires interval { IsTrue (has_interval kind.now) }
     requires keys { IsTrue (has_histogram_keys kind.now buckets.now) }
-    ensures { result ≡ min (count_of_gaps kind.now buckets.now) greatest_count }
+    ensures { result ≡ min (count_of_gaps (form_of kind.now) buckets.now) greatest_count }
 {
     match kind {
         Kind::Histogram {
@@ -91,15 +104,27 @@ fn gap_count(kind: &Kind, buckets: &[Bucket]) -> u64
             hard,
             ..
         } => {
-            let spacing = Spacing {
+            let grid = Grid {
                 interval: *interval,
                 offset: *offset,
                 extended: *extended,
                 hard: *hard,
             };
-            gaps_between(spacing, *min_doc_count, buckets)
+            gaps_between(grid, *min_doc_count, buckets)
         }
-        _ => 0,
+        Kind::Terms { .. }
+        | Kind::Filters { .. }
+        | Kind::Filter { .. }
+        | Kind::Missing { .. }
+        | Kind::Global
+        | Kind::Nested { .. }
+        | Kind::ReverseNested { .. }
+        | Kind::Composite { .. }
+        | Kind::Sum { .. }
+        | Kind::Min { .. }
+        | Kind::Max { .. }
+        | Kind::Avg { .. }
+        | Kind::ValueCount { .. } => 0,
     }
 }
 
@@ -107,7 +132,7 @@ fn gap_count(kind: &Kind, buckets: &[Bucket]) -> u64
 #[cycle(nothing)]
 fn count_of_nothing(aggs: &List<Agg>) -> u64
     requires { IsTrue (list_all has_intervals aggs.now) }
-    ensures { result ≡ min (below_empty (map plan aggs.now)) greatest_count }
+    ensures { result ≡ min (below_empty (map tally aggs.now)) greatest_count }
 {
     let mut count = 0u64;
     for agg in aggs.as_slice() {
@@ -119,7 +144,7 @@ fn count_of_nothing(aggs: &List<Agg>) -> u64
 #[cycle(nothing)]
 fn count_of_no_row(agg: &Agg) -> u64
     requires { IsTrue (has_intervals agg.now) }
-    ensures { result ≡ min (planned_of_nothing agg.now) greatest_count }
+    ensures { result ≡ min (tally_of_nothing agg.now) greatest_count }
 {
     let below = count_of_nothing(&agg.children);
     let fixed = fixed_number(&agg.kind);
@@ -133,7 +158,7 @@ fn count_of_no_row(agg: &Agg) -> u64
 fn count_in_gaps(agg: &Agg, buckets: &[Bucket]) -> u64
     requires intervals { IsTrue (has_intervals agg.now) }
     requires keys { IsTrue (has_histogram_keys (kind_of agg.now) buckets.now) }
-    ensures { result ≡ min (count_of_gaps (kind_of agg.now) buckets.now * (1 + below_empty (map plan (out-Agg agg.now).children))) greatest_count }
+    ensures { result ≡ min (count_of_gaps (form_of (kind_of agg.now)) buckets.now * (1 + below_empty (map tally (out-Agg agg.now).children))) greatest_count }
 {
     let gaps = gap_count(&agg.kind, buckets);
     if gaps == 0 {
@@ -142,61 +167,50 @@ fn count_in_gaps(agg: &Agg, buckets: &[Bucket]) -> u64
     gaps.saturating_mul(count_of_nothing(&agg.children).saturating_add(1))
 }
 
-/// The number of buckets that the answers will have, which stops at 2^64 - 1.
-#[cycle(plan)]
-pub(crate) fn planned_each(
-    alloc: Global,
-    aggs: &List<Agg>,
-    nodes: &List<Node>,
-) -> Result<u64, AllocError>
+/// The number of buckets that the answers have which are made of these nodes; it stops at 2^64 - 1.
+#[cycle(tally)]
+pub(crate) fn count_each(aggs: &List<Agg>, nodes: &List<Node>) -> u64
     requires intervals { IsTrue (list_all has_intervals aggs.now) }
-    requires nodes { IsTrue (pass_each (map is_finishable aggs.now) nodes.now) }
-    ensures { IfOk result (λ n. n ≡ min (plan_each (map plan aggs.now) nodes.now) greatest_count) }
+    requires nodes { IsTrue (pass_each (map is_standing aggs.now) nodes.now) }
+    ensures { result ≡ min (plan_each (map tally aggs.now) nodes.now) greatest_count }
 {
     let mut count = 0u64;
     let mut left = nodes.as_slice().iter();
     for agg in aggs.as_slice() {
         match left.next() {
-            Some(node) => count = count.saturating_add(planned(alloc, agg, node)?),
-            None => return Ok(count),
+            Some(node) => count = count.saturating_add(count_node(agg, node)),
+            None => return count,
         }
     }
-    Ok(count)
+    count
 }
 
-#[cycle(plan)]
-fn planned(alloc: Global, agg: &Agg, node: &Node) -> Result<u64, AllocError>
+#[cycle(tally)]
+fn count_node(agg: &Agg, node: &Node) -> u64
     requires intervals { IsTrue (has_intervals agg.now) }
-    requires node { IsTrue (is_finishable agg.now node.now) }
-    ensures { IfOk result (λ n. n ≡ min ((plan agg.now).count node.now) greatest_count) }
+    requires node { IsTrue (is_standing agg.now node.now) }
+    ensures { result ≡ min ((tally agg.now).count node.now) greatest_count }
 {
     let buckets = buckets_of(node);
     let filling = count_in_gaps(agg, buckets);
-    // Without children nothing lies below a bucket: the number of buckets is enough, and none is sorted.
-    if agg.children.is_empty() {
-        let members = member_count(&agg.kind, returned_number(agg, buckets));
-        return Ok(members.saturating_add(filling));
-    }
-    let returned = lend_returned(alloc, agg, buckets)?;
-    let lent = returned.as_slice();
-    let members = member_count(&agg.kind, lent.len() as u64);
-    let below = planned_below(alloc, &agg.children, lent)?;
-    Ok(members.saturating_add(below).saturating_add(filling))
+    let members = member_count(&agg.kind, buckets.len() as u64);
+    let below = count_below(&agg.children, buckets);
+    members.saturating_add(below).saturating_add(filling)
 }
 
-#[cycle(plan)]
-fn planned_below(
-    alloc: Global,
-    children: &List<Agg>,
-    buckets: &[&Bucket],
-) -> Result<u64, AllocError>
+// Without children nothing is below a bucket, and none is looked at.
+#[cycle(tally)]
+fn count_below(children: &List<Agg>, buckets: &[Bucket]) -> u64
     requires intervals { IsTrue (list_all has_intervals children.now) }
-    requires nodes { IsTrue (have_children (map is_finishable children.now) (map (λ b. b.now) buckets.now)) }
-    ensures { IfOk result (λ n. n ≡ min (planned_below_buckets (map plan children.now) (map (λ b. b.now) buckets.now)) greatest_count) }
+    requires nodes { IsTrue (have_children (map is_standing children.now) buckets.now) }
+    ensures { result ≡ min (tally_below (map tally children.now) buckets.now) greatest_count }
 {
     let mut count = 0u64;
-    for bucket in buckets {
-        count = count.saturating_add(planned_each(alloc, children, &bucket.children)?);
+    if children.is_empty() {
+        return count;
     }
-    Ok(count)
+    for bucket in buckets {
+        count = count.saturating_add(count_each(children, &bucket.children));
+    }
+    count
 }

@@ -6,14 +6,14 @@ ghost use Rattle.agg_evaluation.specs.KeyOrder.{key_eq};
 ghost use Rattle.list_laws.specs.Sorting.{sorted};
 ghost use Rattle.agg_evaluation.specs.Orders.{bucket_cmp, bucket_key};
 ghost use Rattle.agg_evaluation.specs.Trees.{is_ascending};
-ghost use Rattle.agg_spec.specs.Filling.{bucket_at, filled, filled_keys};
+ghost use Rattle.agg_spec.specs.Filling.{bucket_at, filled_keys};
 ghost use Rattle.agg_spec.specs.Final.{empty_bucket as empty_bucket_of, finisher};
 ghost use Rattle.bucket_order.specs.Kinds.{child_kinds};
 ghost use Rattle.agg_evaluation.specs.Finishable.{is_histogram_key};
+ghost use Rattle.final_reduce.specs.Standing.{with_gaps};
 ghost use Rattle.final_reduce.specs.Steps.{key_numbers, left_by, taken};
 
-use crate::spans::{Spacing, filled_span};
-use crate::terms::keep_frequent;
+use crate::spans::{Grid, filled_span};
 use agg_model::{Agg, Bucket, Key, List, Order};
 use bucket_order::sort_buckets;
 use partial_result::empty_nodes;
@@ -65,63 +65,61 @@ fn take_bucket(
 fn filled_buckets(
     alloc: Global,
     children: &List<Agg>,
-    spacing: Spacing,
+    grid: Grid,
     buckets: List<Bucket>,
 ) -> Result<Vec<Bucket>, AllocError>
-    requires positive { 0 < spacing.interval }
-    requires keys { IsTrue (list_all (λ b. is_histogram_key spacing.interval spacing.offset spacing.hard (bucket_key b)) buckets) }
+    requires positive { 0 < grid.interval }
+    requires keys { IsTrue (list_all (λ b. is_histogram_key grid.interval grid.offset grid.hard (bucket_key b)) buckets) }
     requires ascending { IsTrue (is_ascending (map bucket_key buckets)) }
-    ensures { IfOk result (λ bs. bs.items ≡ map (bucket_at (empty_bucket_of (map finisher children.now)) buckets) (filled_keys spacing.interval spacing.offset spacing.extended spacing.hard (key_numbers buckets))) }
+    ensures { IfOk result (λ bs. bs.items ≡ map (bucket_at (empty_bucket_of (map finisher children.now)) buckets) (filled_keys grid.interval grid.offset grid.extended grid.hard (key_numbers buckets))) }
 {
     let mut filled = Vec::new(alloc);
-    let Some(span) = filled_span(spacing, buckets.as_slice()) else {
+    let Some(span) = filled_span(grid, buckets.as_slice()) else {
         return Ok(filled);
     };
     let mut rest = VecDeque::from_vec(buckets.into_vec());
     let mut key = span.first;
     while key <= span.last {
         filled.push(take_bucket(alloc, children, key, &mut rest)?)?;
-        key += i128::from(spacing.interval);
+        key += i128::from(grid.interval);
     }
     Ok(filled)
 }
 
-/// The buckets of a histogram in its order: those with enough documents, or with a minimum of 0 all keys from the least
-/// to the greatest. It takes time in proportion to the buckets that it gives, and to sort them.
+/// The buckets of a histogram in its order, of those that stand: with a minimum of 0 all keys from the least to the greatest. It
+/// takes time in proportion to the buckets that it gives, and to sort them.
 pub(crate) fn histogram_buckets(
     alloc: Global,
     children: &List<Agg>,
-    spacing: Spacing,
+    grid: Grid,
     min_doc_count: u64,
     order: &List<Order>,
     buckets: List<Bucket>,
 ) -> Result<List<Bucket>, AllocError>
-    requires positive { 0 < spacing.interval }
-    requires keys { IsTrue (list_all (λ b. is_histogram_key spacing.interval spacing.offset spacing.hard (bucket_key b)) buckets) }
+    requires positive { 0 < grid.interval }
+    requires keys { IsTrue (list_all (λ b. is_histogram_key grid.interval grid.offset grid.hard (bucket_key b)) buckets) }
     requires ascending { IsTrue (is_ascending (map bucket_key buckets)) }
-    ensures { IfOk result (λ bs. bs ≡ sorted (bucket_cmp (child_kinds children.now) order.now) (filled (empty_bucket_of (map finisher children.now)) spacing.interval spacing.offset min_doc_count spacing.extended spacing.hard buckets)) }
+    ensures { IfOk result (λ bs. bs ≡ sorted (bucket_cmp (child_kinds children.now) order.now) (with_gaps (empty_bucket_of (map finisher children.now)) grid.interval grid.offset min_doc_count grid.extended grid.hard buckets)) }
 {
-    let mut kept = kept_buckets(alloc, children, spacing, min_doc_count, buckets)?;
-    sort_buckets(children, order, &mut kept)?;
-    Ok(List::from_vec(kept))
+    let mut filled = gaps_filled(alloc, children, grid, min_doc_count, buckets)?;
+    sort_buckets(children, order, &mut filled)?;
+    Ok(List::from_vec(filled))
 }
 
-fn kept_buckets(
+fn gaps_filled(
     alloc: Global,
     children: &List<Agg>,
-    spacing: Spacing,
+    grid: Grid,
     min_doc_count: u64,
     buckets: List<Bucket>,
 ) -> Result<Vec<Bucket>, AllocError>
-    requires positive { 0 < spacing.interval }
-    requires keys { IsTrue (list_all (λ b. is_histogram_key spacing.interval spacing.offset spacing.hard (bucket_key b)) buckets) }
+    requires positive { 0 < grid.interval }
+    requires keys { IsTrue (list_all (λ b. is_histogram_key grid.interval grid.offset grid.hard (bucket_key b)) buckets) }
     requires ascending { IsTrue (is_ascending (map bucket_key buckets)) }
-    ensures { IfOk result (λ bs. bs.items ≡ filled (empty_bucket_of (map finisher children.now)) spacing.interval spacing.offset min_doc_count spacing.extended spacing.hard buckets) }
+    ensures { IfOk result (λ bs. bs.items ≡ with_gaps (empty_bucket_of (map finisher children.now)) grid.interval grid.offset min_doc_count grid.extended grid.hard buckets) }
 {
     if min_doc_count == 0 {
-        return filled_buckets(alloc, children, spacing, buckets);
+        return filled_buckets(alloc, children, grid, buckets);
     }
-    let mut kept = buckets.into_vec();
-    keep_frequent(min_doc_count, &mut kept);
-    Ok(kept)
+    Ok(buckets.into_vec())
 }

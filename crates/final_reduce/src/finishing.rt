@@ -6,7 +6,8 @@ ghost use Rattle.agg_evaluation.specs.SearchFits.{IsMade};
 ghost use Rattle.final_reduce.specs.declared.finishing.FinalFault.TheVariants.{Memory as OutOfMemory};
 
 use crate::answer::finish_each;
-use crate::count::planned_each;
+use crate::count::count_each;
+use crate::cut::cut_each;
 use crate::range::first_out_of_range;
 use agg_model::{Answer, Partial, Search, Text};
 use std::alloc::{AllocError, Global};
@@ -52,14 +53,15 @@ pub fn finish(
     ensures within_limits { IfOk result (IsWithinLimits search.now max_buckets) }
     ensures fault { IfErr result (IsCause search.now max_buckets (final_answer search.now whole)) }
 {
-    let count = planned_each(alloc, &search.aggs, &whole.nodes)?;
+    let standing = cut_each(alloc, &search.aggs, whole.nodes)?;
+    let count = count_each(&search.aggs, &standing);
     if count > max_buckets {
         return Err(FinalFault::TooManyBuckets {
             count,
             max: max_buckets,
         });
     }
-    let nodes = finish_each(alloc, &search.aggs, whole.nodes)?;
+    let nodes = finish_each(alloc, &search.aggs, standing)?;
     if let Some(path) = first_out_of_range(alloc, &search.aggs, &nodes)? {
         return Err(FinalFault::SumRange {
             path: Text::from_string(path),

@@ -5,10 +5,10 @@
 mod answer;
 mod composite;
 mod count;
+mod cut;
 mod errors;
 mod filling;
 mod finishing;
-mod lent;
 mod parts;
 mod range;
 mod returned;

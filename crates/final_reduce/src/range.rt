@@ -43,7 +43,18 @@ fn sum_in_range(kind: &Kind, sum: i128) -> bool
 {
     match kind {
         Kind::Sum { .. } | Kind::Avg { .. } => is_in_range(sum),
-        _ => true,
+        Kind::Terms { .. }
+        | Kind::Histogram { .. }
+        | Kind::Filters { .. }
+        | Kind::Filter { .. }
+        | Kind::Missing { .. }
+        | Kind::Global
+        | Kind::Nested { .. }
+        | Kind::ReverseNested { .. }
+        | Kind::Composite { .. }
+        | Kind::Min { .. }
+        | Kind::Max { .. }
+        | Kind::ValueCount { .. } => true,
     }
 }
 

@@ -1,19 +1,16 @@
-// What an answer to one aggregation is made of.
-ghost use Rattle.std.specs.Prelude.{◌≡◌, ◌<◌, ◌^◌, ◌+◌, List as Items, ℕ, IfOk, IsTrue, map, sum_by, option_to_list, None, []};
-ghost use Rattle.agg_evaluation.specs.Orders.{bucket_count};
+// What an answer to one aggregation is made of: the buckets that stand, with gaps filled, and the numbers beside them.
+ghost use Rattle.std.specs.Prelude.{◌≡◌, ◌<◌, ◌^◌, List as Items, ℕ, IfOk, IsTrue, map, option_to_list, None, []};
 ghost use Rattle.agg_evaluation.specs.Trees.{have_children};
 ghost use Rattle.agg_model.specs.declared.aggregation.Agg.{out-Agg};
-ghost use Rattle.agg_spec.specs.Final.{finisher, no_metric as metric_of_nothing, terms_answer, buckets_answer, metric_answer, finish_bucket};
-ghost use Rattle.agg_evaluation.specs.Finishable.{is_finishable};
+ghost use Rattle.agg_spec.specs.Final.{no_metric as metric_of_nothing, buckets_answer, metric_answer, finish_bucket};
 ghost use Rattle.agg_evaluation.specs.Conditions.{has_intervals};
+ghost use Rattle.final_reduce.specs.Standing.{builder, is_standing, terms_built};
 ghost use Rattle.final_reduce.specs.Selection.{answer_of, chosen_bucket, chosen_pass, chosen_term};
 
-use crate::composite::first_composites;
 use crate::errors::count_error;
 use crate::filling::histogram_buckets;
 use crate::parts::{NodeParts, into_parts};
-use crate::spans::Spacing;
-use crate::terms::returned_terms;
+use crate::spans::Grid;
 use agg_model::{Agg, Bucket, Kind, List, Metric, Node, Order};
 use std::alloc::{AllocError, Global};
 
@@ -78,24 +75,19 @@ fn without_errors(alloc: Global, buckets: List<Bucket>) -> Result<List<Chosen>, 
 fn select_terms(
     alloc: Global,
     children: &List<Agg>,
-    size: u32,
-    min_doc_count: u64,
     order: &List<Order>,
     parts: NodeParts,
 ) -> Result<Selected, AllocError>
-    requires children { IsTrue (have_children (map is_finishable children.now) parts.buckets) }
-    requires counts { parts.cut + sum_by bucket_count parts.buckets < 2 ^ 64 }
+    requires children { IsTrue (have_children (map is_standing children.now) parts.buckets) }
     requires error { parts.error < 2 ^ 63 }
-    ensures answer { IfOk result (λ s. (name : Items ℕ) → answer_of name (map finisher children.now) s ≡ terms_answer name (map finisher children.now) size min_doc_count order.now (record { buckets = parts.buckets; error = parts.error; full = parts.full; cut = parts.cut; metrics = [] })) }
-    ensures children { IfOk result (λ s. IsTrue (chosen_pass (map is_finishable children.now) s.chosen)) }
+    ensures answer { IfOk result (λ s. (name : Items ℕ) → answer_of name (map builder children.now) s ≡ terms_built name (map builder children.now) order.now (record { buckets = parts.buckets; error = parts.error; full = parts.full; cut = parts.cut; metrics = [] })) }
+    ensures children { IfOk result (λ s. IsTrue (chosen_pass (map is_standing children.now) s.chosen)) }
 {
-    let returned = returned_terms(children, size, min_doc_count, order, parts.buckets)?;
     let error = count_error(order, parts.error, 0, parts.full);
-    let other = parts.cut + returned.beyond;
     Ok(Selected {
-        chosen: with_errors(alloc, order, parts.error, parts.full, returned.buckets)?,
+        chosen: with_errors(alloc, order, parts.error, parts.full, parts.buckets)?,
         error,
-        other,
+        other: parts.cut,
         metric: no_metric(),
     })
 }
@@ -105,9 +97,9 @@ fn select_buckets(
     children: &List<Agg>,
     buckets: List<Bucket>,
 ) -> Result<Selected, AllocError>
-    requires children { IsTrue (have_children (map is_finishable children.now) buckets) }
-    ensures answer { IfOk result (λ s. (name : Items ℕ) → answer_of name (map finisher children.now) s ≡ buckets_answer name (map (finish_bucket (map finisher children.now) None) buckets)) }
-    ensures children { IfOk result (λ s. IsTrue (chosen_pass (map is_finishable children.now) s.chosen)) }
+    requires children { IsTrue (have_children (map is_standing children.now) buckets) }
+    ensures answer { IfOk result (λ s. (name : Items ℕ) → answer_of name (map builder children.now) s ≡ buckets_answer name (map (finish_bucket (map builder children.now) None) buckets)) }
+    ensures children { IfOk result (λ s. IsTrue (chosen_pass (map is_standing children.now) s.chosen)) }
 {
     Ok(Selected {
         chosen: without_errors(alloc, buckets)?,
@@ -118,8 +110,8 @@ fn select_buckets(
 }
 
 fn select_metric(alloc: Global, children: &List<Agg>, metric: Option<Metric>) -> Selected
-    ensures answer { (name : Items ℕ) → answer_of name (map finisher children.now) result ≡ metric_answer name (option_to_list metric) }
-    ensures children { IsTrue (chosen_pass (map is_finishable children.now) result.chosen) }
+    ensures answer { (name : Items ℕ) → answer_of name (map builder children.now) result ≡ metric_answer name (option_to_list metric) }
+    ensures children { IsTrue (chosen_pass (map is_standing children.now) result.chosen) }
 {
     Selected {
         chosen: List::new(alloc),
@@ -135,18 +127,13 @@ fn select_metric(alloc: Global, children: &List<Agg>, metric: Option<Metric>) ->
 /// What the answer to an aggregation is made of.
 pub(crate) fn select(alloc: Global, agg: &Agg, node: Node) -> Result<Selected, AllocError>
     requires intervals { IsTrue (has_intervals agg.now) }
-    requires node { IsTrue (is_finishable agg.now node) }
-    ensures answer { IfOk result (λ s. answer_of (out-Agg agg.now).name (map finisher (out-Agg agg.now).children) s ≡ (finisher agg.now).finish node) }
-    ensures children { IfOk result (λ s. IsTrue (chosen_pass (map is_finishable (out-Agg agg.now).children) s.chosen)) }
+    requires node { IsTrue (is_standing agg.now node) }
+    ensures answer { IfOk result (λ s. answer_of (out-Agg agg.now).name (map builder (out-Agg agg.now).children) s ≡ (builder agg.now).finish node) }
+    ensures children { IfOk result (λ s. IsTrue (chosen_pass (map is_standing (out-Agg agg.now).children) s.chosen)) }
 {
     let parts = into_parts(alloc, node);
     match &agg.kind {
-        Kind::Terms {
-            size,
-            min_doc_count,
-            order,
-            ..
-        } => select_terms(alloc, &agg.children, *size, *min_doc_count, order, parts),
+        Kind::Terms { order, .. } => select_terms(alloc, &agg.children, order, parts),
         Kind::Histogram {
             interval,
             offset,
@@ -156,7 +143,7 @@ pub(crate) fn select(alloc: Global, agg: &Agg, node: Node) -> Result<Selected, A
             order,
             ..
         } => {
-            let spacing = Spacing {
+            let grid = Grid {
                 interval: *interval,
                 offset: *offset,
                 extended: *extended,
@@ -165,22 +152,24 @@ pub(crate) fn select(alloc: Global, agg: &Agg, node: Node) -> Result<Selected, A
             let buckets = histogram_buckets(
                 alloc,
                 &agg.children,
-                spacing,
+                grid,
                 *min_doc_count,
                 order,
                 parts.buckets,
             )?;
             select_buckets(alloc, &agg.children, buckets)
         }
-        Kind::Composite { sources, size, .. } => {
-            let buckets = first_composites(sources, *size, parts.buckets)?;
-            select_buckets(alloc, &agg.children, buckets)
-        }
+        Kind::Composite { .. }
+        | Kind::Filters { .. }
+        | Kind::Filter { .. }
+        | Kind::Missing { .. }
+        | Kind::Global
+        | Kind::Nested { .. }
+        | Kind::ReverseNested { .. } => select_buckets(alloc, &agg.children, parts.buckets),
         Kind::Sum { .. }
         | Kind::Min { .. }
         | Kind::Max { .. }
         | Kind::Avg { .. }
         | Kind::ValueCount { .. } => Ok(select_metric(alloc, &agg.children, parts.metric)),
-        _ => select_buckets(alloc, &agg.children, parts.buckets),
     }
 }

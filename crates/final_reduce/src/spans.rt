@@ -1,5 +1,5 @@
 // The keys of a histogram whose gaps are filled, found by a quotient and not one by one.
-ghost use Rattle.std.specs.Prelude.{◌≡◌, ◌<◌, ◌^◌, ◌+◌, ◌≤ℤ◌, pos, ◌-ℤ◌, ◌+ℤ◌, IsTrue, []};
+ghost use Rattle.std.specs.Prelude.{◌≡◌, ◌<◌, ◌^◌, ◌≤ℤ◌, pos, ◌-ℤ◌, IsTrue, []};
 ghost use Rattle.std.specs.Option.{IfNone, IfSome, option_map_or};
 ghost use Rattle.std.specs.Int.{int_min, int_max};
 ghost use Rattle.std.specs.List.{list_all, reduce};
@@ -11,10 +11,11 @@ ghost use Rattle.agg_evaluation.specs.Finishable.{is_histogram_key};
 ghost use Rattle.final_reduce.specs.Steps.{IsSpan, key_numbers, first_within as first_within_bounds, last_within as last_within_bounds};
 
 use agg_model::{Bounds, Bucket, Key};
+use histogram_agg::interval_start;
 
-/// Where the keys of a histogram lie.
+/// Where the keys of a histogram lie, and how far its gaps are filled.
 #[derive(Clone, Copy)]
-pub(crate) struct Spacing {
+pub(crate) struct Grid {
     pub(crate) interval: u64,
     pub(crate) offset: u64,
     pub(crate) extended: Bounds,
@@ -28,38 +29,27 @@ pub(crate) struct Span {
     pub(crate) last: i128,
 }
 
-// The key of a number: the number less what it is above the start of its interval.
-fn interval_start(spacing: Spacing, number: i128) -> i128
-    requires positive { 0 < spacing.interval }
-    requires low { (pos 0 -ℤ pos (2 ^ 80)) ≤ℤ number }
-    requires high { number ≤ℤ pos (2 ^ 80) }
-    ensures start { result ≡ start_of_interval spacing.interval spacing.offset number }
-    ensures low { number ≤ℤ (result +ℤ pos (2 ^ 64)) }
-    ensures high { result ≤ℤ number }
-{
-    let offset = i128::from(spacing.offset);
-    number - (number - offset).rem_euclid(i128::from(spacing.interval))
-}
-
 // The key of a bound.
-fn bound_key(spacing: Spacing, bound: i64) -> i128
-    requires positive { 0 < spacing.interval }
-    ensures start { result ≡ start_of_interval spacing.interval spacing.offset bound }
+fn bound_key(grid: Grid, bound: i64) -> i128
+    requires positive { 0 < grid.interval }
+    ensures start { result ≡ start_of_interval grid.interval grid.offset bound }
     ensures low { (pos 0 -ℤ pos (2 ^ 80)) ≤ℤ result }
     ensures high { result ≤ℤ pos (2 ^ 80) }
 {
-    interval_start(spacing, i128::from(bound))
+    interval_start(grid.interval, grid.offset, bound)
 }
 
 // The first key that is not below the bound.
-fn key_from(spacing: Spacing, bound: i64) -> i128
-    requires positive { 0 < spacing.interval }
-    ensures { result ≡ first_key_from spacing.interval spacing.offset bound }
+fn key_from(grid: Grid, bound: i64) -> i128
+    requires positive { 0 < grid.interval }
+    ensures { result ≡ first_key_from grid.interval grid.offset bound }
 {
-    interval_start(
-        spacing,
-        i128::from(bound) + i128::from(spacing.interval - 1),
-    )
+    let number = i128::from(bound);
+    let start = bound_key(grid, bound);
+    if start < number {
+        return start + i128::from(grid.interval);
+    }
+    start
 }
 
 // How many steps of the interval lead from one key to another, both counted.
@@ -109,15 +99,15 @@ fn own_least(buckets: &[Bucket]) -> Option<i128>
 }
 
 // The least of the buckets' keys and of the key of the lower bound.
-fn least_key(spacing: Spacing, buckets: &[Bucket]) -> Option<i128>
-    requires positive { 0 < spacing.interval }
-    requires keys { IsTrue (list_all (λ b. is_histogram_key spacing.interval spacing.offset spacing.hard (bucket_key b)) buckets.now) }
-    ensures key { result ≡ least_of_keys spacing.interval spacing.offset spacing.extended (key_numbers buckets.now) }
+fn least_key(grid: Grid, buckets: &[Bucket]) -> Option<i128>
+    requires positive { 0 < grid.interval }
+    requires keys { IsTrue (list_all (λ b. is_histogram_key grid.interval grid.offset grid.hard (bucket_key b)) buckets.now) }
+    ensures key { result ≡ least_of_keys grid.interval grid.offset grid.extended (key_numbers buckets.now) }
     ensures low { IfSome result (λ n. (pos 0 -ℤ pos (2 ^ 80)) ≤ℤ n) }
 {
     let own = own_least(buckets);
-    match spacing.extended.min {
-        Some(bound) => Some(lesser(own, bound_key(spacing, bound))),
+    match grid.extended.min {
+        Some(bound) => Some(lesser(own, bound_key(grid, bound))),
         None => own,
     }
 }
@@ -135,81 +125,81 @@ fn own_greatest(buckets: &[Bucket]) -> Option<i128>
 }
 
 // The greatest of the buckets' keys and of the key of the upper bound.
-fn greatest_key(spacing: Spacing, buckets: &[Bucket]) -> Option<i128>
-    requires positive { 0 < spacing.interval }
-    requires keys { IsTrue (list_all (λ b. is_histogram_key spacing.interval spacing.offset spacing.hard (bucket_key b)) buckets.now) }
-    ensures key { result ≡ greatest_of_keys spacing.interval spacing.offset spacing.extended (key_numbers buckets.now) }
+fn greatest_key(grid: Grid, buckets: &[Bucket]) -> Option<i128>
+    requires positive { 0 < grid.interval }
+    requires keys { IsTrue (list_all (λ b. is_histogram_key grid.interval grid.offset grid.hard (bucket_key b)) buckets.now) }
+    ensures key { result ≡ greatest_of_keys grid.interval grid.offset grid.extended (key_numbers buckets.now) }
     ensures high { IfSome result (λ n. n ≤ℤ pos (2 ^ 80)) }
 {
     let own = own_greatest(buckets);
-    match spacing.extended.max {
-        Some(bound) => Some(greater(own, bound_key(spacing, bound))),
+    match grid.extended.max {
+        Some(bound) => Some(greater(own, bound_key(grid, bound))),
         None => own,
     }
 }
 
 // Where no bucket has a document, there are keys only where both bounds are given.
-fn has_buckets(spacing: Spacing, buckets: &[Bucket]) -> bool
-    requires positive { 0 < spacing.interval }
-    requires keys { IsTrue (list_all (λ b. is_histogram_key spacing.interval spacing.offset spacing.hard (bucket_key b)) buckets.now) }
-    ensures { result ≡ has_any_bucket spacing.extended (key_numbers buckets.now) }
+fn has_buckets(grid: Grid, buckets: &[Bucket]) -> bool
+    requires positive { 0 < grid.interval }
+    requires keys { IsTrue (list_all (λ b. is_histogram_key grid.interval grid.offset grid.hard (bucket_key b)) buckets.now) }
+    ensures { result ≡ has_any_bucket grid.extended (key_numbers buckets.now) }
 {
-    !buckets.is_empty() || (spacing.extended.min.is_some() && spacing.extended.max.is_some())
+    !buckets.is_empty() || (grid.extended.min.is_some() && grid.extended.max.is_some())
 }
 
 // The first key within the bounds.
-fn first_within(spacing: Spacing, least: i128) -> i128
-    requires positive { 0 < spacing.interval }
-    ensures key { result ≡ first_within_bounds spacing.interval spacing.offset spacing.hard least }
+fn first_within(grid: Grid, least: i128) -> i128
+    requires positive { 0 < grid.interval }
+    ensures key { result ≡ first_within_bounds grid.interval grid.offset grid.hard least }
     ensures low { least ≤ℤ result }
 {
-    match spacing.hard.min {
-        Some(bound) => least.max(key_from(spacing, bound)),
+    match grid.hard.min {
+        Some(bound) => least.max(key_from(grid, bound)),
         None => least,
     }
 }
 
 // The last key within the bounds.
-fn last_within(spacing: Spacing, greatest: i128) -> i128
-    requires positive { 0 < spacing.interval }
-    ensures key { result ≡ last_within_bounds spacing.interval spacing.offset spacing.hard greatest }
+fn last_within(grid: Grid, greatest: i128) -> i128
+    requires positive { 0 < grid.interval }
+    ensures key { result ≡ last_within_bounds grid.interval grid.offset grid.hard greatest }
     ensures high { result ≤ℤ greatest }
 {
-    match spacing.hard.max {
-        Some(bound) => greatest.min(bound_key(spacing, bound)),
+    match grid.hard.max {
+        Some(bound) => greatest.min(bound_key(grid, bound)),
         None => greatest,
     }
 }
 
 /// The keys of a histogram with these buckets, gaps included; none where it has no bucket.
-pub(crate) fn filled_span(spacing: Spacing, buckets: &[Bucket]) -> Option<Span>
-    requires positive { 0 < spacing.interval }
-    requires keys { IsTrue (list_all (λ b. is_histogram_key spacing.interval spacing.offset spacing.hard (bucket_key b)) buckets.now) }
-    ensures no_count { IfNone result (filled_count spacing.interval spacing.offset spacing.extended spacing.hard (key_numbers buckets.now) ≡ 0) }
-    ensures no_key { IfNone result (filled_keys spacing.interval spacing.offset spacing.extended spacing.hard (key_numbers buckets.now) ≡ []) }
-    ensures span { IfSome result (λ s. IsSpan spacing.interval spacing.offset spacing.extended spacing.hard (key_numbers buckets.now) s.first s.last) }
+pub(crate) fn filled_span(grid: Grid, buckets: &[Bucket]) -> Option<Span>
+    requires positive { 0 < grid.interval }
+    requires keys { IsTrue (list_all (λ b. is_histogram_key grid.interval grid.offset grid.hard (bucket_key b)) buckets.now) }
+    ensures no_count { IfNone result (filled_count grid.interval grid.offset grid.extended grid.hard (key_numbers buckets.now) ≡ 0) }
+    ensures no_key { IfNone result (filled_keys grid.interval grid.offset grid.extended grid.hard (key_numbers buckets.now) ≡ []) }
+    ensures span { IfSome result (λ s. IsSpan grid.interval grid.offset grid.extended grid.hard (key_numbers buckets.now) s.first s.last) }
     ensures low { IfSome result (λ s. (pos 0 -ℤ pos (2 ^ 80)) ≤ℤ s.first) }
     ensures high { IfSome result (λ s. s.last ≤ℤ pos (2 ^ 80)) }
 {
-    if !has_buckets(spacing, buckets) {
+    if !has_buckets(grid, buckets) {
         return None;
     }
-    let least = least_key(spacing, buckets)?;
-    let greatest = greatest_key(spacing, buckets)?;
+    let least = least_key(grid, buckets)?;
+    let greatest = greatest_key(grid, buckets)?;
     Some(Span {
-        first: first_within(spacing, least),
-        last: last_within(spacing, greatest),
+        first: first_within(grid, least),
+        last: last_within(grid, greatest),
     })
 }
 
 /// The number of keys of a histogram with these buckets, gaps included.
-pub(crate) fn filled_number(spacing: Spacing, buckets: &[Bucket]) -> u128
-    requires positive { 0 < spacing.interval }
-    requires keys { IsTrue (list_all (λ b. is_histogram_key spacing.interval spacing.offset spacing.hard (bucket_key b)) buckets.now) }
-    ensures { result ≡ filled_count spacing.interval spacing.offset spacing.extended spacing.hard (key_numbers buckets.now) }
+pub(crate) fn filled_number(grid: Grid, buckets: &[Bucket]) -> u128
+    requires positive { 0 < grid.interval }
+    requires keys { IsTrue (list_all (λ b. is_histogram_key grid.interval grid.offset grid.hard (bucket_key b)) buckets.now) }
+    ensures { result ≡ filled_count grid.interval grid.offset grid.extended grid.hard (key_numbers buckets.now) }
 {
-    match filled_span(spacing, buckets) {
-        Some(span) => step_count(spacing.interval, span.first, span.last),
+    match filled_span(grid, buckets) {
+        Some(span) => step_count(grid.interval, span.first, span.last),
         None => 0,
     }
 }

@@ -4,7 +4,7 @@ ghost use Rattle.list_laws.specs.Sorting.{sorted};
 ghost use Rattle.agg_evaluation.specs.Orders.{bucket_cmp, bucket_count};
 ghost use Rattle.agg_spec.specs.Filling.{frequent};
 ghost use Rattle.bucket_order.specs.Kinds.{child_kinds};
-ghost use Rattle.final_reduce.specs.Terms.{ordered_terms};
+ghost use Rattle.final_reduce.specs.Standing.{ordered_terms};
 
 use agg_model::{Agg, Bucket, List, Order};
 use bucket_order::sort_buckets;

@@ -15,7 +15,7 @@ use Rattle.final_reduce.proofs.filling.filled_buckets.Goals as goal
 
 pub loop-key-init : goal.loop-key-init
 loop-key-init c =
-    let s = c.args.spacing in
+    let s = c.args.grid in
     let span = c.in-Some.span in
     let empty = empty_bucket (map finisher c.args.children.now) in
     let all = map (bucket_at empty c.args.buckets) (filled_keys s.interval s.offset s.extended s.hard (key_numbers c.args.buckets)) in
@@ -33,7 +33,7 @@ overflow_add-key c =
 
 pub loop-key-smaller : goal.loop-key-smaller
 loop-key-smaller c =
-    let s = c.args.spacing in
+    let s = c.args.grid in
     let key = to_z w128 c.loop-key.key-bits in
     let low = c.loop-key.invariant.low in
     let high = c.in-Some.ensures.high in
@@ -45,7 +45,7 @@ loop-key-smaller c =
 
 pub loop-key-preserved : goal.loop-key-preserved
 loop-key-preserved c =
-    let s = c.args.spacing in
+    let s = c.args.grid in
     let key = to_z w128 c.loop-key.key-bits in
     let empty = empty_bucket (map finisher c.args.children.now) in
     let all = map (bucket_at empty c.args.buckets) (filled_keys s.interval s.offset s.extended s.hard (key_numbers c.args.buckets)) in
@@ -61,7 +61,7 @@ loop-key-preserved c =
 
 pub returns : goal.returns
 returns c =
-    let s = c.args.spacing in
+    let s = c.args.grid in
     let key = to_z w128 c.loop-key.key-bits in
     let empty = empty_bucket (map finisher c.args.children.now) in
     let all = map (bucket_at empty c.args.buckets) (filled_keys s.interval s.offset s.extended s.hard (key_numbers c.args.buckets)) in

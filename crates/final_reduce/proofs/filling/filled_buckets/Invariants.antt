@@ -7,11 +7,11 @@ use Rattle.final_reduce.proofs.FillSteps.{IsFilling}
 use Rattle.final_reduce.proofs.filling.filled_buckets.Given as goal
 
 abbrev pub decreases-loop-key : goal.decreases-loop-key
-decreases-loop-key l = step_count l.spacing.interval l.key l.span.last
+decreases-loop-key l = step_count l.grid.interval l.key l.span.last
 
 -- the buckets so far, and then those of the keys that are left
 abbrev pub invariant-loop-key : goal.invariant-loop-key
 invariant-loop-key l =
-    IsFilling l.spacing.interval l.spacing.offset (empty_bucket (map finisher l.children))
-    (map (bucket_at (empty_bucket (map finisher l.children)) l.fn.buckets) (filled_keys l.spacing.interval l.spacing.offset l.spacing.extended l.spacing.hard (key_numbers l.fn.buckets)))
+    IsFilling l.grid.interval l.grid.offset (empty_bucket (map finisher l.children))
+    (map (bucket_at (empty_bucket (map finisher l.children)) l.fn.buckets) (filled_keys l.grid.interval l.grid.offset l.grid.extended l.grid.hard (key_numbers l.fn.buckets)))
     l.filled.items l.rest.items l.key l.span.last

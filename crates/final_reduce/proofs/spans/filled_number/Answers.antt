@@ -8,7 +8,7 @@ use Rattle.final_reduce.proofs.spans.filled_number.Goals as goal
 
 pub returns-in-Some : goal.returns-in-Some
 returns-in-Some c =
-    let s = c.args.spacing in
+    let s = c.args.grid in
     let span = c.in-Some.span in
     let first : SFits w128 span.first = search rules in
     let last : SFits w128 span.last = search rules in

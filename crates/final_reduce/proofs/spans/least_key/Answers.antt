@@ -22,7 +22,7 @@ of_one (Some n) near = near n refl
 
 pub returns-in-Some-clause-low : goal.returns-in-Some-clause-low
 returns-in-Some-clause-low c =
-    let s = c.args.spacing in
+    let s = c.args.grid in
     let other = to_z w128 (of_z w128 c.bound_key.result) in
     let bound = c.bound_key.ensures.low in
     let near : Near other = omega (arith, ints, bound) in
@@ -32,5 +32,5 @@ returns-in-Some-clause-low c =
 
 pub returns-in-None-clause-low : goal.returns-in-None-clause-low
 returns-in-None-clause-low c =
-    let s = c.args.spacing in
+    let s = c.args.grid in
     of_one c.own_least-own.result (λ r e. none-low s.interval s.offset c.requires.positive s.extended s.hard c.args.buckets.now c.requires.keys r (sym c.own_least-own.ensures ∙ e))

@@ -6,8 +6,8 @@ use Rattle.agg_evaluation.specs.Orders.{bucket_cmp, bucket_count}
 use Rattle.list_laws.specs.Sorting.{sorted}
 use Rattle.agg_spec.specs.Filling.{frequent}
 use Rattle.bucket_order.specs.Kinds.{child_kinds}
-use Rattle.final_reduce.proofs.SumLaws.{sum_by-filter_le}
-use Rattle.final_reduce.specs.Terms.{ordered_terms}
+use Rattle.list_laws.proofs.Sums.{sum_by-filter}
+use Rattle.final_reduce.specs.Standing.{ordered_terms}
 use Rattle.final_reduce.proofs.terms.returned_terms.Goals as goal
 
 pub total_count-total-requires : goal.total_count-total-requires
@@ -18,7 +18,7 @@ total_count-total-requires c =
       sum_by-IsPermutation bucket_count c.keep_frequent.new.buckets.items c.sort_buckets.new.buckets.items c.sort_buckets.ensures.same,
       ap (sum_by bucket_count) c.keep_frequent.ensures,
       ap (λ bs. sum_by bucket_count (frequent c.args.min_doc_count bs)) c.into_vec-terms.ensures,
-      sum_by-filter_le bucket_count (λ b. nat_le c.args.min_doc_count (bucket_count b)) c.args.buckets,
+      sum_by-filter bucket_count (λ b. nat_le c.args.min_doc_count (bucket_count b)) c.args.buckets,
     )
 
 pub returns-clause-beyond : goal.returns-clause-beyond
@@ -37,5 +37,5 @@ returns-clause-within c =
       sum_by-IsPermutation bucket_count c.keep_frequent.new.buckets.items c.sort_buckets.new.buckets.items c.sort_buckets.ensures.same,
       ap (sum_by bucket_count) c.keep_frequent.ensures,
       ap (λ bs. sum_by bucket_count (frequent c.args.min_doc_count bs)) c.into_vec-terms.ensures,
-      sum_by-filter_le bucket_count (λ b. nat_le c.args.min_doc_count (bucket_count b)) c.args.buckets,
+      sum_by-filter bucket_count (λ b. nat_le c.args.min_doc_count (bucket_count b)) c.args.buckets,
     )
