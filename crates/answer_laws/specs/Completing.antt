@@ -114,4 +114,5 @@ pub record HasPlainRounds (index : Index) (columns : ℕ) (settings : Settings) 
 -- and such rounds of a script
 pub record HasPlainAnswers (change : Change) (words : Settings) (script : LoadedScript) : Type 0 where
   pub rounds : List (List Round)
-  pub are : AreAnswered change words script.index script.columns (IsPlain script.index script.columns) (record { settings = words; rounds = [] }) script.segments rounds
+  pub are : AreAnswered change words script.index script.columns (IsPlain script.index script.columns)
+      (record { settings = words; rounds = [] }) script.segments rounds

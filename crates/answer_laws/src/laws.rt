@@ -1,6 +1,7 @@
 //! Laws of the definitions of answers. Each function has a law as its contract, over all values of the definitions, and does nothing.
 ghost use Rattle.std.specs.List.{AllByRecursion, list_all};
-ghost use Rattle.std.specs.Prelude.{◌≡◌, ◌≢◌, ◌≤◌, ◌∷◌, ◌++◌, ◌+◌, ◌*◌, [], ℕ, false, true, flat_map, IfOk, IsTrue, length, List, map, None, Ok, Result, slice_get, Some};
+ghost use Rattle.std.specs.Prelude.{◌≡◌, ◌≢◌, ◌≤◌, ◌∷◌, ◌++◌, ◌+◌, ◌*◌, [], ℕ, false, true, flat_map, length, List, map, slice_get};
+ghost use Rattle.std.specs.Prelude.{IfOk, IsTrue, None, Ok, Result, Some};
 ghost use Rattle.agg_model.specs.declared.aggregation.Agg.{Agg, out-Agg};
 ghost use Rattle.agg_model.specs.declared.aggregation.Search.{Search};
 ghost use Rattle.agg_model.specs.declared.answer.BucketAnswer.{out-BucketAnswer};

@@ -38,7 +38,8 @@ is_returned_at a n key = ((parts n).cut == 0) && returns key ((finisher a).finis
 abbrev pub is_returned : List Agg → List Node → BucketPath → Bool
 is_returned aggs nodes [] = true
 is_returned aggs nodes (step ∷ path) =
-    option_map_or (λ a. option_map_or (λ n. is_returned_at a n step.1 && is_returned (children_of a) (bucket_behind a n step.1).children path) (slice_get nodes step.0) false)
+    option_map_or (λ a. option_map_or (λ n. is_returned_at a n step.1 && is_returned (children_of a) (bucket_behind a n step.1).children path)
+    (slice_get nodes step.0) false)
     (slice_get aggs step.0) false
 
 -- whether an answer itself shows that: it returns each bucket of the path, and at each step it left out no term

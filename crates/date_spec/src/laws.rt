@@ -49,5 +49,6 @@ pub fn what_is_printed_reads_as_the_instant()
 pub fn printing_is_the_one_text_of_its_form()
     ensures form { (instant : ℤ) → is_in_range instant ≡ true → has_shape (codes "0000-00-00T00:00:00.000Z") (printed instant) ≡ true }
     ensures apart { (first second : ℤ) → is_in_range first ≡ true → is_in_range second ≡ true → printed first ≡ printed second → first ≡ second }
-    ensures only { (text : List ℕ) (instant : ℤ) → has_shape (codes "0000-00-00T00:00:00.000Z") text ≡ true → read_date text ≡ Ok instant → text ≡ printed instant }
+    ensures only { (text : List ℕ) (instant : ℤ) → has_shape (codes "0000-00-00T00:00:00.000Z") text ≡ true → read_date text ≡ Ok instant →
+        text ≡ printed instant }
 {}

@@ -6,7 +6,8 @@ ghost use Rattle.date_spec.specs.declared.period.Period.{Period};
 ghost use Rattle.date_spec.specs.declared.period.Period.TheVariants.{Month, Quarter, Week, Year};
 ghost use Rattle.date_spec.specs.Calendar.{Date, day_number, is_date};
 ghost use Rattle.date_spec.specs.Instants.{day_millis};
-ghost use Rattle.date_spec.specs.Periods.{IsBetweenKeys, IsInstant, IsPeriod, IsZone, day_at, key_after, midnight, number_of, period_key, start_of, steps_between};
+ghost use Rattle.date_spec.specs.Periods.{IsBetweenKeys, IsInstant, IsPeriod, IsZone};
+ghost use Rattle.date_spec.specs.Periods.{day_at, key_after, midnight, number_of, period_key, start_of, steps_between};
 
 /// A key is the start of the period that holds its instant: the instant does not lie before it, and lies before the next key.
 pub fn keys_begin_the_periods_of_their_instants()
@@ -65,7 +66,8 @@ pub fn calendar_periods_begin_with_their_first_day()
     ensures month { (d : Date) (time : ℕ) → is_date d ≡ true → time < day_millis →
         start_of Month (number_of Month (midnight (day_number d) +ℤ pos time)) ≡ midnight (day_number (record { year = d.year; month = d.month; day = 1 })) }
     ensures quarter { (d : Date) (time : ℕ) → is_date d ≡ true → time < day_millis →
-        start_of Quarter (number_of Quarter (midnight (day_number d) +ℤ pos time)) ≡ midnight (day_number (record { year = d.year; month = (d.month - 1) / 3 * 3 + 1; day = 1 })) }
+        start_of Quarter (number_of Quarter (midnight (day_number d) +ℤ pos time))
+        ≡ midnight (day_number (record { year = d.year; month = (d.month - 1) / 3 * 3 + 1; day = 1 })) }
     ensures year { (d : Date) (time : ℕ) → is_date d ≡ true → time < day_millis →
         start_of Year (number_of Year (midnight (day_number d) +ℤ pos time)) ≡ midnight (day_number (record { year = d.year; month = 1; day = 1 })) }
 {}
