@@ -199,6 +199,7 @@ impl<'a, S: Source> Lines<'a, S> {
         ensures answer { kept self.old ≡ None → IfSome (unread self.old) (λ rest. Answers (next_of (position self.old) rest) result) }
         ensures lines { IfOk result (λ next. IfSome next (λ line. option_map lines_of (unread self.old) ≡ option_map (λ rest. line ∷ lines_of rest) (unread self.new))) }
         ensures line { IfOk result (λ next. IfSome next (λ line. IsLine line (unread self.old) (position self.old) (unread self.new) (position self.new))) }
+        ensures short { IfOk result (λ next. IfSome next (λ line. length line ≤ MAX_LINE)) }
         ensures end { IfOk result (λ next. IfNone next (IsAtEnd (S.left (source_of self.new)))) }
 
         // Why a fault comes, where none is kept, and whether the source tells or not.
@@ -247,6 +248,7 @@ impl<'a, S: Source> Lines<'a, S> {
         requires some { 0 < whole_of (vec_len self.old.line) is_ended }
         requires within { self.old.position + whole_of (vec_len self.old.line) is_ended ≤ MAX_INPUT }
         ensures line { result ≡ self.old.line.items }
+        ensures short { length result ≤ MAX_LINE }
         ensures empty { self.new.line.items ≡ [] }
         ensures to_come { to_come self.new ≡ to_come self.old }
         ensures ahead { (self.new.start ≡ self.old.start) × (self.new.end ≡ self.old.end) }

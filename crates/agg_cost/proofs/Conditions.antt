@@ -50,6 +50,9 @@ stored kinds.Short (scalar.Flag b) h = absurd (false≢true h)
 stored kinds.Byte (scalar.Whole n) h = (refl, refl)
 stored kinds.Byte (scalar.Word w) h = absurd (false≢true h)
 stored kinds.Byte (scalar.Flag b) h = absurd (false≢true h)
+stored kinds.Date (scalar.Whole n) h = (refl, refl)
+stored kinds.Date (scalar.Word w) h = absurd (false≢true h)
+stored kinds.Date (scalar.Flag b) h = absurd (false≢true h)
 
 weaker : (p q : FieldKind → Bool) → ((k : FieldKind) → p k ≡ true → q k ≡ true) → (o : Option FieldKind) → option_map_or p o false ≡ true → option_map_or q o false ≡ true
 weaker p q more None h = h

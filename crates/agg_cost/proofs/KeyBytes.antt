@@ -86,7 +86,7 @@ module _ (field : ℕ) (missing : Option Scalar) (rows : List PlacedRow) where
       let apart = ap greatest_of (map-append length (words_in (option_to_list missing)) (all_words field rows)) ∙ greatest-append (map length (words_in (option_to_list missing))) (map length (all_words field rows)) in
       words ∙ (apart ∙ omega arith)
 
-  -- a field of numbers or flags
+  -- a field of numbers, dates or flags
   pub of_numbers : (k : FieldKind) → least_bytes (Some k) ≡ 8 → list_all (is_of_kind k) (option_to_list missing) ≡ true → AreOfKind k field rows → value_bytes (Some k) values ≡ 8
   of_numbers k least fits are =
       ap (λ (n : ℕ). greatest_of (n ∷ map bytes values)) least ∙ numbers_bytes values (all_numbers values k least (all_fit k fits are))
@@ -100,6 +100,7 @@ module _ (field : ℕ) (missing : Option Scalar) (rows : List PlacedRow) where
       one_number (Word w) kinds.Integer least is = absurd (false≢true is)
       one_number (Word w) kinds.Short least is = absurd (false≢true is)
       one_number (Word w) kinds.Byte least is = absurd (false≢true is)
+      one_number (Word w) kinds.Date least is = absurd (false≢true is)
 
       all_numbers : (vs : List Scalar) (k : FieldKind) → least_bytes (Some k) ≡ 8 → list_all (is_of_kind k) vs ≡ true → list_all is_number vs ≡ true
       all_numbers [] k least are = refl

@@ -1,7 +1,7 @@
 -- Aggregations whose keys can be counted in a shard, and what counts them (Elasticsearch Reference 8, 'Aggregations').
 use Rattle.std.specs.Prelude.{◌<◌}
 use Rattle.agg_model.specs.declared.aggregation.Kind.{Kind}
-use Rattle.agg_model.specs.declared.aggregation.Kind.TheVariants as kind
+use Rattle.agg_model.specs.Options.{Options, options_of}
 use Rattle.composite_agg.specs.Sources.{ArePositive}
 use Rattle.filters_agg.specs.Filtering.{IsFiltering}
 use Rattle.filters_agg.specs.PreparedFilters.{IsReady as AreFiltersReady}
@@ -12,20 +12,33 @@ use Rattle.agg_cost.specs.declared.key_counts.Counter.TheVariants as counter
 
 -- what the crate of the kind asks for
 abbrev pub IsCountable : Columns → Kind → Type 0
-IsCountable shard (kind.Terms field size shard_size min_doc_count order include exclude missing show_error) =
-    IsTerms shard (kind.Terms field size shard_size min_doc_count order include exclude missing show_error)
-IsCountable shard (kind.Histogram field interval offset min_doc_count extended hard keyed order missing) = 0 < interval
-IsCountable shard (kind.Filters names filters other) = IsFiltering (kind.Filters names filters other)
-IsCountable shard (kind.Composite sources size after) = ArePositive sources
-IsCountable shard _ = Unit {0}
+IsCountable shard k = elim (options_of k) [
+  | Options.Terms t ↦ IsTerms shard k
+  | Options.Histogram h ↦ 0 < h.interval
+  | Options.Filters names filters other ↦ IsFiltering k
+  | Options.Filter query ↦ Unit {0}
+  | Options.Missing field ↦ Unit {0}
+  | Options.Global ↦ Unit {0}
+  | Options.Nested context ↦ Unit {0}
+  | Options.ReverseNested context ↦ Unit {0}
+  | Options.Composite sources size after ↦ ArePositive sources
+  | Options.Metric m ↦ Unit {0}
+]
 
 -- the kinds that have no list
 abbrev pub IsPlain : Kind → Type 0
-IsPlain (kind.Terms field size shard_size min_doc_count order include exclude missing show_error) = ⊥
-IsPlain (kind.Filters names filters other) = ⊥
-IsPlain (kind.Filter query) = ⊥
-IsPlain (kind.Missing field) = ⊥
-IsPlain _ = Unit {0}
+IsPlain k = elim (options_of k) [
+  | Options.Terms t ↦ ⊥
+  | Options.Histogram h ↦ Unit {0}
+  | Options.Filters names filters other ↦ ⊥
+  | Options.Filter query ↦ ⊥
+  | Options.Missing field ↦ ⊥
+  | Options.Global ↦ Unit {0}
+  | Options.Nested context ↦ Unit {0}
+  | Options.ReverseNested context ↦ Unit {0}
+  | Options.Composite sources size after ↦ Unit {0}
+  | Options.Metric m ↦ Unit {0}
+]
 
 -- it counts the keys of the aggregation in the shard
 abbrev pub IsCounter : Columns → Kind → Counter → Type 0

@@ -6,7 +6,7 @@ use Rattle.agg_model.specs.declared.mapping.FieldKind.{FieldKind}
 use Rattle.agg_model.specs.declared.row.Scalar.{Scalar}
 use Rattle.agg_model.specs.declared.aggregation.CompositeSource.{CompositeSource}
 use Rattle.agg_model.specs.declared.aggregation.Kind.{Kind}
-use Rattle.agg_model.specs.declared.aggregation.Kind.TheVariants as kind
+use Rattle.agg_evaluation.specs.Profile.{Form, profile}
 use Rattle.agg_model.specs.FieldKinds.{is_of_kind}
 use Rattle.shard_columns.specs.Columns.{Columns}
 
@@ -20,6 +20,10 @@ are_known n sources = list_all (λ s. nat_lt s.field n) sources
 
 -- the fields whose values are keys of the aggregation
 abbrev pub HasFields : Columns → Kind → Type 0
-HasFields shard (kind.Terms field size shard_size min_doc_count order include exclude missing show_error) = IsOfField shard field missing
-HasFields shard (kind.Composite sources size after) = are_known (length shard.kinds) sources ≡ true
-HasFields shard _ = Unit {0}
+HasFields shard k = elim (profile k).form [
+  | Form.terms t ↦ IsOfField shard t.field t.missing
+  | Form.histogram h ↦ Unit {0}
+  | Form.pages sources size after ↦ are_known (length shard.kinds) sources ≡ true
+  | Form.fixed ks ↦ Unit {0}
+  | Form.number o ↦ Unit {0}
+]

@@ -20,7 +20,7 @@ fn word_bytes(missing: &Option<Scalar>) -> u64
     }
 }
 
-// A bound on the bytes of a field's keys: 8 for numbers and flags, and the length of the longest word for words.
+// A bound on the bytes of a field's keys: 8 for numbers, dates and flags, and the length of the longest word for words.
 fn field_bytes(shard: &Shard, field: u32, missing: &Option<Scalar>) -> u64
     requires { IsOfField shard.now field missing.now }
     ensures { result ≡ bytes_of_field shard.now.kinds shard.now.rows field missing.now }
@@ -31,7 +31,8 @@ fn field_bytes(shard: &Shard, field: u32, missing: &Option<Scalar>) -> u64
         | FieldKind::Long
         | FieldKind::Integer
         | FieldKind::Short
-        | FieldKind::Byte => NUMBER_BYTES,
+        | FieldKind::Byte
+        | FieldKind::Date => NUMBER_BYTES,
     }
 }
 

@@ -5,15 +5,14 @@ use Rattle.std.specs.List.{list_any}
 use Rattle.agg_model.specs.declared.costs.TheConstants.{BUCKET_BYTES, NODE_BYTES}
 use Rattle.agg_model.specs.declared.limits.TheConstants.{MAX_COMBINATIONS}
 use Rattle.agg_model.specs.declared.mapping.FieldKind.{FieldKind}
-use Rattle.agg_model.specs.declared.mapping.FieldKind.TheVariants.{Keyword}
+use Rattle.agg_model.specs.FieldKinds.{ValueKind, value_kind}
 use Rattle.agg_model.specs.declared.row.Scalar.{Scalar}
 use Rattle.agg_model.specs.declared.aggregation.Agg.{Agg, out-Agg}
 use Rattle.agg_model.specs.declared.aggregation.Agg.TheOpen.{Agg-F}
 use Rattle.agg_model.specs.declared.aggregation.CompositeSource.{CompositeSource}
 use Rattle.agg_model.specs.declared.aggregation.Kind.{Kind}
-use Rattle.agg_model.specs.declared.aggregation.Kind.TheVariants as kind
 use Rattle.agg_model.specs.declared.aggregation.Search.{Search}
-use Rattle.agg_model.specs.Options.{Options, options_of}
+use Rattle.agg_evaluation.specs.Profile.{Form, profile}
 use Rattle.agg_evaluation.specs.Folds.{fold_agg}
 use Rattle.agg_evaluation.specs.Rows.{PlacedRow, roots, values_of}
 use Rattle.agg_model.specs.ValueKeys.{scalar_key}
@@ -36,12 +35,12 @@ abbrev pub greatest_of : List ℕ → ℕ
 greatest_of [] = 0
 greatest_of (n ∷ ns) = let rest = greatest_of ns in if nat_lt n rest then rest else n
 
--- a key that is a number or a flag has 8 bytes
+-- a key that is a number, a date or a flag has 8 bytes
 abbrev pub least_bytes : Option FieldKind → ℕ
-least_bytes (Some Keyword) = 0
-least_bytes _ = 8
+least_bytes None = 8
+least_bytes (Some kind) = elim (value_kind kind) [ ValueKind.wholes half ↦ 8 | ValueKind.words ↦ 0 | ValueKind.flags ↦ 8 | ValueKind.dates ↦ 8 ]
 
--- a bound on the bytes of a field's keys: 8 for numbers and flags, and for keywords the length of the longest value
+-- a bound on the bytes of a field's keys: 8 for numbers, dates and flags, and for keywords the length of the longest value
 abbrev pub value_bytes : Option FieldKind → List Scalar → ℕ
 value_bytes kind values = greatest_of (least_bytes kind ∷ map (λ v. key_bytes (scalar_key v)) values)
 
@@ -69,11 +68,12 @@ module _ (kinds : List FieldKind) (all : List PlacedRow) where
 
   -- a bound on the bytes of a key
   abbrev pub key_bound : Kind → ℕ
-  key_bound k = elim (options_of k) [
-    | Options.Terms t ↦ field_bytes t.field t.missing
-    | Options.Histogram h ↦ 8
-    | Options.Composite sources size after ↦ sum (map part_bytes sources)
-    | _ ↦ 0
+  key_bound k = elim (profile k).form [
+    | Form.terms t ↦ field_bytes t.field t.missing
+    | Form.histogram h ↦ 8
+    | Form.pages sources size after ↦ sum (map part_bytes sources)
+    | Form.fixed ks ↦ 0
+    | Form.number o ↦ 0
   ]
 
   -- the rows that an aggregation counts of those that reach it
@@ -112,8 +112,13 @@ task_bound kinds search all =
 
 -- whether a collected row has more combinations than a composite aggregation may have
 abbrev pub is_wide_at : Kind → List PlacedRow → Bool
-is_wide_at (kind.Composite sources size after) rows = list_any (λ row. nat_lt greatest_combinations (combination_count sources row)) rows
-is_wide_at _ rows = false
+is_wide_at k rows = elim (profile k).form [
+  | Form.terms t ↦ false
+  | Form.histogram h ↦ false
+  | Form.pages sources size after ↦ list_any (λ row. nat_lt greatest_combinations (combination_count sources row)) rows
+  | Form.fixed ks ↦ false
+  | Form.number o ↦ false
+]
 
 abbrev pub has_wide_row : Search → List PlacedRow → Bool
 has_wide_row search all = list_any (λ a. is_wide_at (out-Agg a).kind (matched_roots all search.query)) search.aggs

@@ -6,7 +6,7 @@ use Rattle.agg_model.specs.declared.query.Query.{Query}
 use Rattle.agg_model.specs.declared.query.Query.TheOpen.{Query-F}
 use Rattle.agg_model.specs.declared.aggregation.Agg.{Agg}
 use Rattle.agg_model.specs.declared.aggregation.Kind.{Kind}
-use Rattle.agg_model.specs.Options.{Options, options_of}
+use Rattle.agg_evaluation.specs.Profile.{Form, profile}
 use Rattle.agg_evaluation.specs.Folds.{fold_query, fold_agg}
 
 -- whether the fields whose values a query looks at are among the first n
@@ -24,7 +24,13 @@ abbrev pub looks_below : ℕ → Query → Bool
 looks_below n = fold_query (looks_below_at n)
 
 abbrev pub has_interval : Kind → Bool
-has_interval k = elim (options_of k) [ Options.Histogram h ↦ nat_lt 0 h.interval | _ ↦ true ]
+has_interval k = elim (profile k).form [
+  | Form.terms t ↦ true
+  | Form.histogram h ↦ nat_lt 0 h.interval
+  | Form.pages sources size after ↦ true
+  | Form.fixed ks ↦ true
+  | Form.number o ↦ true
+]
 
 -- whether the interval of the aggregation, and of each below it, is above 0
 abbrev pub has_intervals : Agg → Bool

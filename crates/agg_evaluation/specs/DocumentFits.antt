@@ -4,9 +4,9 @@ use Rattle.std.specs.List.{list_all}
 use Rattle.std.specs.Option.{option_map_or}
 use Rattle.std.specs.Ordering.{nat_cmp, int_cmp, bool_cmp, is_lt, is_le}
 use Rattle.std.specs.Cmp.Lexicographic.{slice_cmp}
+use Rattle.date_spec.specs.Instants.{is_in_range}
 use Rattle.agg_model.specs.declared.limits.TheConstants.{MAX_FIELD_VALUES, MAX_KEYWORD}
 use Rattle.agg_model.specs.declared.mapping.FieldKind.{FieldKind}
-use Rattle.agg_model.specs.declared.mapping.FieldKind.TheVariants.{Long, Integer, Short, Byte, Keyword, Boolean}
 use Rattle.agg_model.specs.declared.mapping.Mapping.{Mapping}
 use Rattle.agg_model.specs.declared.row.Scalar.{Scalar}
 use Rattle.agg_model.specs.declared.row.Scalar.TheVariants.{Whole, Word, Flag}
@@ -14,24 +14,37 @@ use Rattle.agg_model.specs.declared.row.FieldValues.{FieldValues}
 use Rattle.agg_model.specs.declared.row.Row.{Row, Row', Row_of-Children, end_of-Children, more_of-Children}
 use Rattle.agg_model.specs.declared.row.Children.{Children, Children', Row_of-Row, end_of-Row, more_of-Row}
 use Rattle.agg_model.specs.declared.row.Document.{Document}
-use Rattle.agg_model.specs.FieldKinds.{fits_kind}
+use Rattle.agg_model.specs.FieldKinds.{ValueKind, value_kind, fits_below}
+
+abbrev pub is_value_of : ValueKind → Scalar → Bool
+is_value_of (ValueKind.wholes half) (Whole z) = fits_below half z
+is_value_of (ValueKind.wholes half) (Word w) = false
+is_value_of (ValueKind.wholes half) (Flag b) = false
+is_value_of ValueKind.words (Whole z) = false
+is_value_of ValueKind.words (Word w) = nat_le (length w) MAX_KEYWORD
+is_value_of ValueKind.words (Flag b) = false
+is_value_of ValueKind.flags (Whole z) = false
+is_value_of ValueKind.flags (Word w) = false
+is_value_of ValueKind.flags (Flag b) = true
+is_value_of ValueKind.dates (Whole z) = is_in_range z
+is_value_of ValueKind.dates (Word w) = false
+is_value_of ValueKind.dates (Flag b) = false
 
 -- a value of the kind, in its range
 abbrev pub is_value : FieldKind → Scalar → Bool
-is_value Keyword (Word w) = nat_le (length w) MAX_KEYWORD
-is_value Boolean (Flag b) = true
-is_value Long (Whole z) = fits_kind Long z
-is_value Integer (Whole z) = fits_kind Integer z
-is_value Short (Whole z) = fits_kind Short z
-is_value Byte (Whole z) = fits_kind Byte z
-is_value _ _ = false
+is_value kind v = is_value_of (value_kind kind) v
 
 -- one value may stand right before another: numbers and flags repeat, words do not
 abbrev pub follows : Scalar → Scalar → Bool
 follows (Whole m) (Whole n) = is_le (int_cmp m n)
+follows (Whole m) (Word w) = false
+follows (Whole m) (Flag b) = false
+follows (Word v) (Whole n) = false
 follows (Word v) (Word w) = is_lt (slice_cmp nat_cmp v w)
+follows (Word v) (Flag b) = false
+follows (Flag a) (Whole n) = false
+follows (Flag a) (Word w) = false
 follows (Flag a) (Flag b) = is_le (bool_cmp a b)
-follows _ _ = false
 
 abbrev pub ascend_from : Scalar → List Scalar → Bool
 ascend_from s [] = true

@@ -4,13 +4,13 @@ use Rattle.std.specs.Prelude.{ℕ, ℤ, pos, ◌+◌, ◌^◌, ◌-ℤ◌, Bool,
 use Rattle.std.specs.List.{list_all}
 use Rattle.std.specs.Ordering.{int_eq}
 use Rattle.agg_model.specs.declared.key.Key.{Key}
-use Rattle.agg_model.specs.declared.key.Key.TheVariants.{Whole}
+use Rattle.agg_model.specs.declared.key.Key.TheVariants.{Null, Whole, Flag, Word, Fixed, Many'}
 use Rattle.agg_model.specs.declared.partial.Bucket.{Bucket}
 use Rattle.agg_model.specs.declared.partial.Node.{Node, out-Node}
 use Rattle.agg_model.specs.declared.partial.Partial.{Partial}
 use Rattle.agg_model.specs.declared.aggregation.Bounds.{Bounds}
 use Rattle.agg_model.specs.declared.aggregation.Kind.{Kind}
-use Rattle.agg_model.specs.Options.{Options, options_of}
+use Rattle.agg_evaluation.specs.Profile.{Form, profile}
 use Rattle.agg_model.specs.declared.aggregation.Agg.{Agg}
 use Rattle.agg_model.specs.declared.aggregation.Search.{Search}
 use Rattle.agg_evaluation.specs.Folds.{fold_agg}
@@ -31,21 +31,29 @@ is_near key = int_le (pos 0 -ℤ pos (2 ^ 65)) key && int_lt key (pos (2 ^ 63))
 
 -- a key as a histogram has it: the start of an interval, within `hard_bounds`
 abbrev pub is_histogram_key : ℕ → ℕ → Bounds → Key → Bool
+is_histogram_key interval offset hard Null = false
 is_histogram_key interval offset hard (Whole key) = int_eq (interval_start interval offset key) key && (is_near key && is_between hard (Whole key))
-is_histogram_key interval offset hard _ = false
+is_histogram_key interval offset hard (Flag b) = false
+is_histogram_key interval offset hard (Word w) = false
+is_histogram_key interval offset hard (Fixed n) = false
+is_histogram_key interval offset hard (Many' n parts) = false
 
 abbrev pub has_histogram_keys : Kind → List Bucket → Bool
-has_histogram_keys k bs = elim (options_of k) [
-  | Options.Histogram h ↦ list_all (λ b. is_histogram_key h.interval h.offset h.hard (bucket_key b)) bs
-  | _ ↦ true
+has_histogram_keys k bs = elim (profile k).form [
+  | Form.terms t ↦ true
+  | Form.histogram h ↦ list_all (λ b. is_histogram_key h.interval h.offset h.hard (bucket_key b)) bs
+  | Form.pages sources size after ↦ true
+  | Form.fixed ks ↦ true
+  | Form.number o ↦ true
 ]
 
 abbrev pub fits_at : Kind → Parts → Bool
-fits_at k p = elim (options_of k) [
-  | Options.Terms t ↦ terms_fit p
-  | Options.Histogram h ↦ has_histogram_keys k p.buckets
-  | Options.Composite sources size after ↦ list_all (λ b. is_composite_of (length sources) (bucket_key b)) p.buckets
-  | _ ↦ true
+fits_at k p = elim (profile k).form [
+  | Form.terms t ↦ terms_fit p
+  | Form.histogram h ↦ has_histogram_keys k p.buckets
+  | Form.pages sources size after ↦ list_all (λ b. is_composite_of (length sources) (bucket_key b)) p.buckets
+  | Form.fixed ks ↦ true
+  | Form.number o ↦ true
 ]
 
 -- the tests are those of the children

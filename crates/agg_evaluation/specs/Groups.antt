@@ -3,7 +3,7 @@
 use Rattle.std.specs.Prelude.{ℕ, List, filter, flat_map, length, sum_by}
 use Rattle.agg_model.specs.declared.key.Key.{Key}
 use Rattle.agg_model.specs.declared.aggregation.Kind.{Kind}
-use Rattle.agg_model.specs.declared.aggregation.Kind.TheVariants as kind
+use Rattle.agg_evaluation.specs.Profile.{Steps, profile}
 use Rattle.agg_evaluation.specs.KeyOrder.{has_key}
 use Rattle.agg_evaluation.specs.Rows.{PlacedRow, beneath, enclosing, roots}
 use Rattle.agg_evaluation.specs.Keys.{keys, distinct_keys}
@@ -11,10 +11,12 @@ use Rattle.agg_evaluation.specs.Keys.{keys, distinct_keys}
 -- What an aggregation counts of the rows that it is handed: `all` are the rows of the shard, and `roots` those that a global
 -- aggregation counts. A nested aggregation goes down to the rows of a context, a reverse nested one up to them.
 abbrev pub under : List PlacedRow → List PlacedRow → Kind → List PlacedRow → List PlacedRow
-under all roots (kind.Nested context) rows = flat_map (beneath all context) rows
-under all roots (kind.ReverseNested context) rows = enclosing all context rows
-under all roots kind.Global rows = roots
-under all roots _ rows = rows
+under all roots k rows = elim (profile k).steps [
+  | Steps.same ↦ rows
+  | Steps.down context ↦ flat_map (beneath all context) rows
+  | Steps.up context ↦ enclosing all context rows
+  | Steps.all_roots ↦ roots
+]
 
 -- the counted rows that have the key; the count of a bucket is their number
 abbrev pub group : List PlacedRow → Kind → List PlacedRow → Key → List PlacedRow

@@ -5,7 +5,7 @@ use Rattle.std.specs.List.{list_any, enumerate_from}
 use Rattle.std.specs.Option.{option_map_or}
 use Rattle.std.specs.Int.{int_div_euclid}
 use Rattle.agg_model.specs.declared.key.Key.{Key}
-use Rattle.agg_model.specs.declared.key.Key.TheVariants.{Whole, Null, Fixed, Many}
+use Rattle.agg_model.specs.declared.key.Key.TheVariants.{Null, Whole, Flag, Word, Fixed, Many, Many'}
 use Rattle.agg_model.specs.declared.row.Scalar.{Scalar}
 use Rattle.agg_model.specs.declared.query.Probe.{Probe}
 use Rattle.agg_model.specs.declared.query.Query.{Query}
@@ -46,12 +46,17 @@ interval_start interval offset n = int_div_euclid (n -ℤ pos offset) (pos inter
 
 abbrev pub interval_key : ℕ → ℕ → Scalar → List Key
 interval_key interval offset (scalar.Whole n) = Whole (interval_start interval offset n) ∷ []
-interval_key interval offset _ = []
+interval_key interval offset (scalar.Word w) = []
+interval_key interval offset (scalar.Flag b) = []
 
 -- whether the key lies within the bounds that are given
 abbrev pub is_between : Bounds → Key → Bool
+is_between bounds Null = false
 is_between bounds (Whole n) = option_map_or (λ least. int_le least n) bounds.min true && option_map_or (λ greatest. int_le n greatest) bounds.max true
-is_between bounds _ = false
+is_between bounds (Flag b) = false
+is_between bounds (Word w) = false
+is_between bounds (Fixed n) = false
+is_between bounds (Many' n parts) = false
 
 abbrev pub histogram_keys : ℕ → ℕ → ℕ → Bounds → Option Scalar → PlacedRow → List Key
 histogram_keys field interval offset hard missing row =
@@ -97,7 +102,9 @@ keys all k row = elim (options_of k) [
   | Options.Filters names filters other ↦ filter_keys (λ q. matches all q row) filters other
   | Options.Filter query ↦ single_key (matches all query row)
   | Options.Missing field ↦ single_key (not (has_value field row))
+  | Options.Global ↦ single_key true
+  | Options.Nested context ↦ single_key true
+  | Options.ReverseNested context ↦ single_key true
   | Options.Composite sources size after ↦ composite_keys sources row
   | Options.Metric m ↦ []
-  | _ ↦ single_key true
 ]

@@ -1,3 +1,4 @@
+pub mod Profile
 pub mod Folds
 pub mod KeyOrder
 pub mod Rows

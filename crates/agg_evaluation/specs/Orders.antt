@@ -14,8 +14,10 @@ use Rattle.agg_model.specs.declared.aggregation.Kind.{Kind}
 use Rattle.agg_model.specs.declared.aggregation.CompositeSource.{CompositeSource}
 use Rattle.agg_model.specs.declared.aggregation.Order.{Order}
 use Rattle.agg_model.specs.declared.aggregation.OrderBy.{OrderBy}
-use Rattle.agg_model.specs.declared.aggregation.Kind.TheVariants as kind
+use Rattle.agg_model.specs.Options.{Measure}
 use Rattle.agg_model.specs.declared.aggregation.OrderBy.TheVariants as by
+use Rattle.agg_evaluation.specs.Profile.{Form, profile}
+use Rattle.agg_evaluation.specs.CompositeKeys.{key_parts_at}
 use Rattle.agg_evaluation.specs.KeyOrder.{key_cmp, directed}
 
 -- a null value stands last in both directions
@@ -25,18 +27,29 @@ value_cmp descending None (Some n) = Greater
 value_cmp descending (Some m) None = Less
 value_cmp descending (Some m) (Some n) = directed descending (int_cmp m n)
 
--- the value by which a metric of this kind orders; an average orders nothing
+-- the value of a measure by which buckets are ordered; an average orders nothing
+abbrev pub ordering_value : Measure → Metric → Option ℤ
+ordering_value Measure.sum m = Some m.sum
+ordering_value Measure.least m = m.least
+ordering_value Measure.greatest m = m.greatest
+ordering_value Measure.average m = None
+ordering_value Measure.value_count m = Some (pos m.count)
+
+-- the value by which a metric of this kind orders
 abbrev pub metric_value : Kind → Metric → Option ℤ
-metric_value (kind.Sum field missing) m = Some m.sum
-metric_value (kind.Min field missing) m = m.least
-metric_value (kind.Max field missing) m = m.greatest
-metric_value (kind.ValueCount field missing) m = Some (pos m.count)
-metric_value _ m = None
+metric_value k m = elim (profile k).form [
+  | Form.terms t ↦ None
+  | Form.histogram h ↦ None
+  | Form.pages sources size after ↦ None
+  | Form.fixed ks ↦ None
+  | Form.number o ↦ ordering_value o.measure m
+]
 
 -- the metric of a node
 abbrev pub number_of : Node-F Node Bucket → Option Metric
+number_of (Node-F.Keyed buckets error full cut) = None
+number_of (Node-F.Fixed buckets) = None
 number_of (Node-F.Number m) = Some m
-number_of _ = None
 
 -- the value of a bucket's i-th child, where the children are of these kinds
 abbrev pub child_value : List Kind → ℕ → Bucket → Option ℤ
@@ -65,8 +78,7 @@ parts_cmp (s ∷ ss) (j ∷ js) (k ∷ ks) = ordering_then (directed s.descendin
 parts_cmp _ _ _ = Equal
 
 abbrev pub composite_cmp_at : List CompositeSource → Key-F Key → Key-F Key → Ordering
-composite_cmp_at sources (Key-F.Many js) (Key-F.Many ks) = parts_cmp sources js ks
-composite_cmp_at sources _ _ = Equal
+composite_cmp_at sources j k = parts_cmp sources (key_parts_at j) (key_parts_at k)
 
 -- the order of a composite aggregation's keys
 abbrev pub composite_cmp : List CompositeSource → Key → Key → Ordering

@@ -1,9 +1,8 @@
 -- Queries that are made for a mapping (Elasticsearch Reference 8, 'Query DSL').
-use Rattle.std.specs.Prelude.{ℕ, ◌+◌, List, slice_get, Bool, true, false, ◌&&◌}
+use Rattle.std.specs.Prelude.{ℕ, ◌+◌, ◌^◌, List, slice_get, Bool, true, false, ◌&&◌}
 use Rattle.std.specs.List.{list_all}
 use Rattle.std.specs.Option.{option_map_or}
 use Rattle.agg_model.specs.declared.mapping.FieldKind.{FieldKind}
-use Rattle.agg_model.specs.declared.mapping.FieldKind.TheVariants.{Keyword, Boolean}
 use Rattle.agg_model.specs.declared.mapping.Mapping.{Mapping}
 use Rattle.agg_model.specs.declared.query.Probe.{Probe}
 use Rattle.agg_model.specs.declared.query.Probe.TheVariants as probe
@@ -11,19 +10,29 @@ use Rattle.agg_model.specs.declared.query.Query.{Query}
 use Rattle.agg_model.specs.declared.query.Query.TheOpen.{Query-F}
 use Rattle.agg_evaluation.specs.Folds.{fold_query}
 use Rattle.agg_model.specs.Contexts.{is_in_context}
+use Rattle.agg_model.specs.FieldKinds.{ValueKind, value_kind, fits_below}
 
 -- a field of the mapping whose kind passes
 abbrev pub field_is : Mapping → (FieldKind → Bool) → ℕ → Bool
 field_is m passes field = option_map_or (λ f. passes f.kind) (slice_get m.fields field) false
 
--- what a field of this kind is asked for
+abbrev pub asks_for : ValueKind → Probe → Bool
+asks_for (ValueKind.wholes half) (probe.Whole z) = true
+asks_for (ValueKind.wholes half) (probe.Word w) = false
+asks_for (ValueKind.wholes half) (probe.Flag b) = false
+asks_for ValueKind.words (probe.Whole z) = false
+asks_for ValueKind.words (probe.Word w) = true
+asks_for ValueKind.words (probe.Flag b) = false
+asks_for ValueKind.flags (probe.Whole z) = false
+asks_for ValueKind.flags (probe.Word w) = false
+asks_for ValueKind.flags (probe.Flag b) = true
+asks_for ValueKind.dates (probe.Whole z) = fits_below (2 ^ 63) z
+asks_for ValueKind.dates (probe.Word w) = false
+asks_for ValueKind.dates (probe.Flag b) = false
+
+-- what a field of this kind is asked for; a date by a number of 64 bits
 abbrev pub is_probe : FieldKind → Probe → Bool
-is_probe Keyword (probe.Word w) = true
-is_probe Keyword _ = false
-is_probe Boolean (probe.Flag b) = true
-is_probe Boolean _ = false
-is_probe _ (probe.Whole z) = true
-is_probe _ _ = false
+is_probe kind value = asks_for (value_kind kind) value
 
 abbrev pub are_probes : FieldKind → List Probe → Bool
 are_probes k values = list_all (is_probe k) values

@@ -2,11 +2,11 @@
 use Rattle.std.specs.Prelude.{ℕ, ◌^◌, ◌==◌, List, [], ◌∷◌, length, map, slice_get, Option, Some, None, Bool, true, false, not, ◌&&◌, ◌||◌, nat_le, nat_lt, zero, suc, IsTrue}
 use Rattle.std.specs.List.{list_all}
 use Rattle.std.specs.Option.{option_map_or}
+use Rattle.date_spec.specs.Instants.{is_in_range}
 use Rattle.agg_model.specs.declared.limits.TheConstants.{MAX_FILTERS, MAX_ORDERS, MAX_PAGE, MAX_SOURCES}
 use Rattle.agg_model.specs.declared.key.Key.{Key}
 use Rattle.agg_model.specs.declared.query.Query.{Query}
 use Rattle.agg_model.specs.declared.mapping.FieldKind.{FieldKind}
-use Rattle.agg_model.specs.declared.mapping.FieldKind.TheVariants.{Keyword, Boolean}
 use Rattle.agg_model.specs.declared.mapping.Mapping.{Mapping}
 use Rattle.agg_model.specs.declared.row.Scalar.{Scalar}
 use Rattle.agg_model.specs.declared.row.Scalar.TheVariants as scalar
@@ -14,8 +14,8 @@ use Rattle.agg_model.specs.declared.aggregation.Agg.{Agg}
 use Rattle.agg_model.specs.declared.aggregation.Agg.TheOpen.{Agg-F}
 use Rattle.agg_model.specs.declared.aggregation.CompositeSource.{CompositeSource}
 use Rattle.agg_model.specs.declared.aggregation.Kind.{Kind}
-use Rattle.agg_model.specs.declared.aggregation.Kind.TheVariants as kind
-use Rattle.agg_model.specs.Options.{Options, TermsOptions, HistogramOptions, MetricOptions, options_of, is_sortable}
+use Rattle.agg_model.specs.Options.{Options, TermsOptions, HistogramOptions, MetricOptions, Measure, options_of, is_sortable}
+use Rattle.agg_evaluation.specs.Profile.{Form, Steps, profile}
 use Rattle.agg_model.specs.declared.aggregation.Order.{Order}
 use Rattle.agg_model.specs.declared.aggregation.OrderBy.{OrderBy}
 use Rattle.agg_model.specs.declared.aggregation.OrderBy.TheVariants as by
@@ -23,18 +23,28 @@ use Rattle.agg_model.specs.declared.aggregation.Search.{Search}
 use Rattle.agg_evaluation.specs.Folds.{fold_agg}
 use Rattle.agg_model.specs.Contexts.{encloses}
 use Rattle.agg_model.specs.BoundsOrder.{is_at_most, lies_within}
-use Rattle.agg_model.specs.FieldKinds.{is_whole_kind, fits_below}
+use Rattle.agg_model.specs.FieldKinds.{ValueKind, value_kind, is_whole_kind, is_number_kind, fits_below}
 use Rattle.agg_evaluation.specs.CompositeKeys.{is_composite_of}
 use Rattle.agg_evaluation.specs.QueryFits.{field_is, are_probes, is_path_beneath, query_fits}
 
--- the value of rows without one: of the field's kind, a whole number in 64 bits
+-- a whole number in 64 bits, an instant in the range of dates
+abbrev pub is_stored_as : ValueKind → Scalar → Bool
+is_stored_as (ValueKind.wholes half) (scalar.Whole z) = fits_below (2 ^ 63) z
+is_stored_as (ValueKind.wholes half) (scalar.Word w) = false
+is_stored_as (ValueKind.wholes half) (scalar.Flag b) = false
+is_stored_as ValueKind.words (scalar.Whole z) = false
+is_stored_as ValueKind.words (scalar.Word w) = true
+is_stored_as ValueKind.words (scalar.Flag b) = false
+is_stored_as ValueKind.flags (scalar.Whole z) = false
+is_stored_as ValueKind.flags (scalar.Word w) = false
+is_stored_as ValueKind.flags (scalar.Flag b) = true
+is_stored_as ValueKind.dates (scalar.Whole z) = is_in_range z
+is_stored_as ValueKind.dates (scalar.Word w) = false
+is_stored_as ValueKind.dates (scalar.Flag b) = false
+
+-- the value of rows without one: of the field's kind, a whole number in 64 bits, an instant in the range of dates
 abbrev pub is_stored : FieldKind → Scalar → Bool
-is_stored Keyword (scalar.Word w) = true
-is_stored Keyword _ = false
-is_stored Boolean (scalar.Flag b) = true
-is_stored Boolean _ = false
-is_stored _ (scalar.Whole z) = fits_below (2 ^ 63) z
-is_stored _ _ = false
+is_stored kind value = is_stored_as (value_kind kind) value
 
 abbrev pub is_missing : FieldKind → Option Scalar → Bool
 is_missing k missing = option_map_or (is_stored k) missing true
@@ -76,10 +86,16 @@ abbrev pub is_within : Mapping → ℕ → ℕ → Bool
 is_within m context zero = false
 is_within m context (suc path) = is_path_beneath m context path
 
--- a value count takes any field, and each other metric a field of whole numbers
-abbrev pub metric_fits : Mapping → Kind → MetricOptions → Bool
-metric_fits m (kind.ValueCount field missing) o = field_is m (λ k. is_missing k missing) field
-metric_fits m _ o = is_whole_field m o.field o.missing
+-- the fields of a metric: of any kind for a value count, of numbers or dates for the least and the greatest, else of numbers
+abbrev pub takes : Measure → FieldKind → Bool
+takes Measure.sum k = is_whole_kind k
+takes Measure.least k = is_number_kind k
+takes Measure.greatest k = is_number_kind k
+takes Measure.average k = is_whole_kind k
+takes Measure.value_count k = true
+
+abbrev pub metric_fits : Mapping → MetricOptions → Bool
+metric_fits m o = field_is m (λ k. takes o.measure k && is_missing k o.missing) o.field
 
 abbrev pub terms_made : Mapping → List Kind → TermsOptions → Bool
 terms_made m children t =
@@ -117,24 +133,30 @@ kind_fits m top context children kind = elim (options_of kind) [
   | Options.Nested inner ↦ is_within m context inner
   | Options.ReverseNested outer ↦ is_around m context outer
   | Options.Composite sources size after ↦ top && composite_made m sources size after
-  | Options.Metric o ↦ metric_fits m kind o
+  | Options.Metric o ↦ metric_fits m o
 ]
 
 abbrev pub is_metric : Kind → Bool
-is_metric k = elim (options_of k) [ Options.Metric m ↦ true | _ ↦ false ]
+is_metric k = elim (profile k).form [
+  | Form.terms t ↦ false
+  | Form.histogram h ↦ false
+  | Form.pages sources size after ↦ false
+  | Form.fixed ks ↦ false
+  | Form.number o ↦ true
+]
 
 -- `global` and `composite` stand at the top alone
 abbrev pub is_top : Kind → Bool
-is_top kind.Global = true
-is_top (kind.Composite sources size after) = true
-is_top _ = false
+is_top k = (profile k).at_top
 
 -- the context of the rows that it hands on
 abbrev pub handed : ℕ → Kind → ℕ
-handed context kind.Global = 0
-handed context (kind.Nested inner) = inner
-handed context (kind.ReverseNested outer) = outer
-handed context _ = context
+handed context k = elim (profile k).steps [
+  | Steps.same ↦ context
+  | Steps.down inner ↦ inner
+  | Steps.up outer ↦ outer
+  | Steps.all_roots ↦ 0
+]
 
 -- an aggregation's kind, and whether it is made for the mapping at the top or below, over rows of a context
 pub record Made : Type 0 where

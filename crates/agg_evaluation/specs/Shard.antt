@@ -1,7 +1,7 @@
 -- The shard answer: the tree that one shard answers to an aggregation (Elasticsearch Reference 8, 'Aggregations';
 -- 'Terms aggregation' on shard size and on errors of counts; 'Composite aggregation' on pages).
 use Rattle.std.specs.Prelude.{ℕ, ℤ, pos, ◌+ℤ◌, ◌+◌, ◌-◌, ◌==◌, Bool, true, false, if◌then◌else◌, List, [], ◌∷◌, map, filter, filter_map, flat_map, length, take, sum_by, Option, Some, None, unwrap_or}
-use Rattle.std.specs.List.{reduce, last_or, range_with_len}
+use Rattle.std.specs.List.{reduce, last_or}
 use Rattle.std.specs.Option.{option_map_or}
 use Rattle.std.specs.Int.{int_min, int_max}
 use Rattle.std.specs.Ordering.{is_gt}
@@ -12,16 +12,14 @@ use Rattle.agg_model.specs.declared.partial.Node.{Node}
 use Rattle.agg_model.specs.declared.partial.Node.TheVariants.{Keyed, Fixed, Number}
 use Rattle.agg_model.specs.declared.partial.Partial.{Partial}
 use Rattle.agg_model.specs.declared.row.Scalar.{Scalar}
-use Rattle.agg_model.specs.declared.row.Scalar.TheVariants.{Whole}
+use Rattle.agg_model.specs.declared.row.Scalar.TheVariants.{Whole, Word, Flag}
 use Rattle.agg_model.specs.declared.aggregation.Kind.{Kind}
 use Rattle.agg_model.specs.declared.aggregation.CompositeSource.{CompositeSource}
 use Rattle.agg_model.specs.declared.aggregation.Order.{Order}
 use Rattle.agg_model.specs.declared.aggregation.Agg.{Agg}
 use Rattle.agg_model.specs.declared.aggregation.Agg.TheOpen.{Agg-F}
 use Rattle.agg_model.specs.declared.aggregation.Search.{Search}
-use Rattle.agg_model.specs.declared.key.Key.TheVariants as key
-use Rattle.agg_model.specs.declared.aggregation.Kind.TheVariants as kind
-use Rattle.agg_model.specs.Options.{Options, options_of}
+use Rattle.agg_evaluation.specs.Profile.{Form, one_key, profile}
 use Rattle.agg_evaluation.specs.Folds.{fold_agg}
 use Rattle.list_laws.specs.Sorting.{sorted}
 use Rattle.agg_evaluation.specs.KeyOrder.{key_cmp}
@@ -34,7 +32,8 @@ use Rattle.agg_evaluation.specs.Groups.{under, group, all_keys, total_key_count}
 -- the whole number that a value is
 abbrev pub integer_of : Scalar → Option ℤ
 integer_of (Whole n) = Some n
-integer_of _ = None
+integer_of (Word w) = None
+integer_of (Flag b) = None
 
 abbrev pub int_sum : List ℤ → ℤ
 int_sum [] = pos 0
@@ -45,10 +44,15 @@ metric_of values =
     let numbers = filter_map integer_of values in
     record { count = length values; sum = int_sum numbers; least = reduce int_min numbers; greatest = reduce int_max numbers }
 
--- the keys of the buckets that exist from the start
+-- the keys of the buckets that exist from the start, of a kind that has such
 abbrev pub fixed_keys : Kind → List Key
-fixed_keys (kind.Filters names filters other) = map key.Fixed (range_with_len 0 (option_map_or (λ name. length filters + 1) other (length filters)))
-fixed_keys _ = key.Fixed 0 ∷ []
+fixed_keys k = elim (profile k).form [
+  | Form.terms t ↦ one_key
+  | Form.histogram h ↦ one_key
+  | Form.pages sources size after ↦ one_key
+  | Form.fixed ks ↦ ks
+  | Form.number o ↦ one_key
+]
 
 -- the first keys greater than `after` in the order of the sources, ascending
 abbrev pub page : List CompositeSource → ℕ → Option Key → List Key → List Key
@@ -73,7 +77,13 @@ trimmed_node kinds shard_size order key_count buckets =
 
 -- whether the buckets of the kind are cut in a shard
 abbrev pub is_terms : Kind → Bool
-is_terms k = elim (options_of k) [ Options.Terms t ↦ true | _ ↦ false ]
+is_terms k = elim (profile k).form [
+  | Form.terms t ↦ true
+  | Form.histogram h ↦ false
+  | Form.pages sources size after ↦ false
+  | Form.fixed ks ↦ false
+  | Form.number o ↦ false
+]
 
 -- an aggregation's kind, and what it collects of the rows that it is handed
 pub record Collector : Type 0 where
@@ -89,14 +99,14 @@ module _ (trims : Bool) (all roots : List PlacedRow) where
 
   -- the node of the rows that the aggregation counts
   abbrev pub node_of : List Collector → Kind → List PlacedRow → Node
-  node_of children k counted = elim (options_of k) [
-    | Options.Terms t ↦
+  node_of children k counted = elim (profile k).form [
+    | Form.terms t ↦
         (let buckets = map (bucket_of k children counted) (all_keys all k counted) in
         if trims then trimmed_node (map (λ c. c.kind) children) t.shard_size t.order (total_key_count all k counted) buckets else Keyed buckets 0 0 0)
-    | Options.Histogram h ↦ Keyed (map (bucket_of k children counted) (all_keys all k counted)) 0 0 0
-    | Options.Composite sources size after ↦ Keyed (map (bucket_of k children counted) (page sources size after (all_keys all k counted))) 0 0 0
-    | Options.Metric m ↦ Number (metric_of (flat_map (values_or m.field m.missing) counted))
-    | _ ↦ Fixed (map (bucket_of k children counted) (fixed_keys k))
+    | Form.histogram h ↦ Keyed (map (bucket_of k children counted) (all_keys all k counted)) 0 0 0
+    | Form.pages sources size after ↦ Keyed (map (bucket_of k children counted) (page sources size after (all_keys all k counted))) 0 0 0
+    | Form.fixed ks ↦ Fixed (map (bucket_of k children counted) ks)
+    | Form.number o ↦ Number (metric_of (flat_map (values_or o.field o.missing) counted))
   ]
 
   abbrev pub collector_of : Agg-F Collector → Collector

@@ -9,15 +9,19 @@ use Rattle.agg_model.specs.declared.partial.Partial.{Partial}
 use Rattle.agg_model.specs.declared.aggregation.Agg.{out-Agg}
 use Rattle.agg_model.specs.declared.aggregation.Kind.{Kind}
 use Rattle.agg_model.specs.declared.aggregation.Search.{Search}
-use Rattle.agg_model.specs.declared.aggregation.Kind.TheVariants as kind
+use Rattle.agg_evaluation.specs.Profile.{Steps, profile}
 use Rattle.agg_evaluation.specs.Rows.{PlacedRow, roots}
 use Rattle.agg_evaluation.specs.Matching.{matched_roots}
 use Rattle.agg_evaluation.specs.Shard.{collected_node, int_sum, shard_answer}
 use Rattle.agg_evaluation.specs.Cost.{cost}
 
 abbrev pub is_global : Kind → Bool
-is_global kind.Global = true
-is_global _ = false
+is_global k = elim (profile k).steps [
+  | Steps.same ↦ false
+  | Steps.down context ↦ false
+  | Steps.up context ↦ false
+  | Steps.all_roots ↦ true
+]
 
 module _ (search : Search) (all : List PlacedRow) where
   abbrev pub matched : List PlacedRow

@@ -37,9 +37,14 @@ have_children tests buckets = list_all (λ b. pass_each tests b.children) bucket
 -- the tests are those of the children, and the keys those that exist from the start
 abbrev pub is_tree_at : List (Node → Bool) → List Key → Shape → Node-F Node Bucket → Bool
 is_tree_at tests fixed by_key (Node-F.Keyed buckets error full cut) = is_ascending (map bucket_key buckets) && have_children tests buckets
+is_tree_at tests fixed by_key (Node-F.Fixed buckets) = false
+is_tree_at tests fixed by_key (Node-F.Number m) = false
+is_tree_at tests fixed from_start (Node-F.Keyed buckets error full cut) = false
 is_tree_at tests fixed from_start (Node-F.Fixed buckets) = are_same_keys (map bucket_key buckets) fixed && have_children tests buckets
+is_tree_at tests fixed from_start (Node-F.Number m) = false
+is_tree_at tests fixed a_number (Node-F.Keyed buckets error full cut) = false
+is_tree_at tests fixed a_number (Node-F.Fixed buckets) = false
 is_tree_at tests fixed a_number (Node-F.Number m) = true
-is_tree_at tests fixed _ _ = false
 
 -- Whether a node is a tree of the aggregation: its buckets stand ascending by key and each once, those that exist from the
 -- start are all there, and each bucket has a tree of each child.

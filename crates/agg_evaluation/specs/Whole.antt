@@ -13,7 +13,7 @@ use Rattle.agg_model.specs.declared.partial.Partial.{Partial}
 use Rattle.agg_model.specs.declared.aggregation.Kind.{Kind}
 use Rattle.agg_model.specs.declared.aggregation.Agg.{Agg}
 use Rattle.agg_model.specs.declared.aggregation.Search.{Search}
-use Rattle.agg_model.specs.Options.{Options, options_of}
+use Rattle.agg_evaluation.specs.Profile.{Form, profile}
 use Rattle.agg_evaluation.specs.Folds.{fold_agg}
 use Rattle.agg_evaluation.specs.KeyOrder.{key_eq}
 use Rattle.agg_evaluation.specs.Orders.{bucket_key, bucket_count}
@@ -27,12 +27,12 @@ pub data Shape : Type 0 where
   a_number : Shape
 
 abbrev pub shape_of : Kind → Shape
-shape_of k = elim (options_of k) [
-  | Options.Terms t ↦ by_key
-  | Options.Histogram h ↦ by_key
-  | Options.Composite sources size after ↦ by_key
-  | Options.Metric m ↦ a_number
-  | _ ↦ from_start
+shape_of k = elim (profile k).form [
+  | Form.terms t ↦ by_key
+  | Form.histogram h ↦ by_key
+  | Form.pages sources size after ↦ by_key
+  | Form.fixed ks ↦ from_start
+  | Form.number o ↦ a_number
 ]
 
 -- a node's parts, where the parts that it has not are empty

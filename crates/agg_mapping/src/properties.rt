@@ -7,7 +7,7 @@ ghost use Rattle.serde_json.specs.View.{view, members_view};
 ghost use Rattle.json_walk.specs.Places.{pointer};
 ghost use Rattle.agg_reading.specs.Reading.{Gives};
 ghost use Rattle.agg_reading.specs.Json.{known, optional};
-ghost use Rattle.agg_reading.specs.Properties.{is_field_name, type_named, type_at, type_in, leaf_names, bound_at, leaf_at, fields_from, properties_at, properties_of, inner_at, property_at};
+ghost use Rattle.agg_reading.specs.Properties.{is_field_name, type_named, type_at, type_in, leaf_names, format_at, bound_at, leaf_at, fields_from, properties_at, properties_of, inner_at, property_at};
 ghost use Rattle.agg_reading.specs.Pointer.{member_step};
 ghost use Rattle.agg_mapping.specs.Arranged.{arranged};
 
@@ -55,6 +55,7 @@ fn type_named(word: &str) -> Option<FieldType>
         "byte" => Some(FieldType::Leaf(FieldKind::Byte)),
         "keyword" => Some(FieldType::Leaf(FieldKind::Keyword)),
         "boolean" => Some(FieldType::Leaf(FieldKind::Boolean)),
+        "date" => Some(FieldType::Leaf(FieldKind::Date)),
         "object" => Some(FieldType::Object),
         "nested" => Some(FieldType::Nested),
         _ => None,
@@ -126,6 +127,41 @@ fn check_leaf_names(
             members,
             &["doc_values", "index", "store", "type"],
         ),
+        FieldKind::Date => check_names(
+            alloc,
+            REFUSED,
+            at,
+            members,
+            &["doc_values", "format", "index", "store", "type"],
+        ),
+    }
+}
+
+/// Refuses a value that is not the one format of dates.
+#[tactic(auto, unfolding(agg_reading::specs::Properties::format_at))]
+fn check_format(alloc: Global, at: &At<'_>, value: &Value) -> Result<(), RequestFault>
+    ensures { Gives (λ u. u) result (format_at (pointer at.now) (view value.now)) }
+{
+    match text(alloc, REFUSED, at, value)? {
+        "strict_date_optional_time||epoch_millis" => Ok(()),
+        _ => at.refuse(alloc, REFUSED),
+    }
+}
+
+/// Refuses a member `format` that is not the one format of dates.
+fn check_format_in(
+    alloc: Global,
+    at: &At<'_>,
+    members: &Map<String, Value>,
+) -> Result<Option<()>, RequestFault>
+    ensures { Gives (λ u. u) result (optional format_at (codes "format") (pointer at.now) (members_view members.now.entries)) }
+{
+    match member(members, "format") {
+        None => Ok(None),
+        Some(value) => {
+            check_format(alloc, &At::Member(at, "format"), value)?;
+            Ok(Some(()))
+        }
     }
 }
 
@@ -201,6 +237,7 @@ fn leaf(
         return at.refuse(alloc, REFUSED);
     }
     check_leaf_names(alloc, kind, at, members)?;
+    check_format_in(alloc, at, members)?;
     let above = ignore_above_in(alloc, at, members)?;
     Ok(found.with_field(found_field(alloc, kind, above, within, path)?)?)
 }

@@ -33,8 +33,16 @@ pub record HistogramOptions : Type 0 where
   pub order : List Order
   pub missing : Option Scalar
 
--- of a sum, minimum, maximum, average or value count
+-- what a metric says of its values
+pub data Measure : Type 0 where
+  sum : Measure
+  least : Measure
+  greatest : Measure
+  average : Measure
+  value_count : Measure
+
 pub record MetricOptions : Type 0 where
+  pub measure : Measure
   pub field : ℕ
   pub missing : Option Scalar
 
@@ -51,8 +59,8 @@ pub data Options : Type 0 where
   Composite : List CompositeSource → ℕ → Option Key → Options
   Metric : MetricOptions → Options
 
-abbrev pub metric_over : ℕ → Option Scalar → Options
-metric_over field missing = Options.Metric (record { field = field; missing = missing })
+abbrev pub metric_over : Measure → ℕ → Option Scalar → Options
+metric_over measure field missing = Options.Metric (record { measure = measure; field = field; missing = missing })
 
 abbrev pub options_of : Kind → Options
 options_of (kind.Terms field size shard_size min_doc_count order include exclude missing show_error) = Options.Terms (record {
@@ -84,11 +92,11 @@ options_of kind.Global = Options.Global
 options_of (kind.Nested context) = Options.Nested context
 options_of (kind.ReverseNested context) = Options.ReverseNested context
 options_of (kind.Composite sources size after) = Options.Composite sources size after
-options_of (kind.Sum field missing) = metric_over field missing
-options_of (kind.Min field missing) = metric_over field missing
-options_of (kind.Max field missing) = metric_over field missing
-options_of (kind.Avg field missing) = metric_over field missing
-options_of (kind.ValueCount field missing) = metric_over field missing
+options_of (kind.Sum field missing) = metric_over Measure.sum field missing
+options_of (kind.Min field missing) = metric_over Measure.least field missing
+options_of (kind.Max field missing) = metric_over Measure.greatest field missing
+options_of (kind.Avg field missing) = metric_over Measure.average field missing
+options_of (kind.ValueCount field missing) = metric_over Measure.value_count field missing
 
 -- the aggregation of terms with these options
 abbrev pub terms_kind : TermsOptions → Kind
@@ -98,10 +106,25 @@ terms_kind t = kind.Terms t.field t.size t.shard_size t.min_doc_count t.order t.
 abbrev pub histogram_kind : HistogramOptions → Kind
 histogram_kind h = kind.Histogram h.field h.interval h.offset h.min_doc_count h.extended h.hard h.keyed h.order h.missing
 
+-- a measure that is one whole number, or null
+abbrev pub is_number : Measure → Bool
+is_number Measure.sum = true
+is_number Measure.least = true
+is_number Measure.greatest = true
+is_number Measure.average = false
+is_number Measure.value_count = true
+
 -- a metric by whose value buckets can be ordered
 abbrev pub is_sortable : Kind → Bool
-is_sortable (kind.Sum field missing) = true
-is_sortable (kind.Min field missing) = true
-is_sortable (kind.Max field missing) = true
-is_sortable (kind.ValueCount field missing) = true
-is_sortable _ = false
+is_sortable k = elim (options_of k) [
+  | Options.Terms t ↦ false
+  | Options.Histogram h ↦ false
+  | Options.Filters names filters other ↦ false
+  | Options.Filter query ↦ false
+  | Options.Missing field ↦ false
+  | Options.Global ↦ false
+  | Options.Nested context ↦ false
+  | Options.ReverseNested context ↦ false
+  | Options.Composite sources size after ↦ false
+  | Options.Metric m ↦ is_number m.measure
+]

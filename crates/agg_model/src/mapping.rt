@@ -19,6 +19,8 @@ pub enum FieldKind {
     Keyword,
     /// `true` and `false`.
     Boolean,
+    /// Instants: whole milliseconds from 1970-01-01T00:00:00.000Z, from `LEAST_INSTANT` to `GREATEST_INSTANT`.
+    Date,
 }
 
 /// A scalar field of a mapping.

@@ -177,7 +177,7 @@ fn tests(
     Ok(tests)
 }
 
-/// `range`: tests of a field of whole numbers or keywords; one of booleans is refused with `NO_SUCH_FIELD`.
+/// `range`: tests of a field of whole numbers, dates or keywords; one of booleans is refused with `NO_SUCH_FIELD`.
 #[tactic(auto, unfolding(agg_reading::specs::Leaves::range_at))]
 pub fn range(
     alloc: Global,

@@ -87,7 +87,7 @@ pub fn probe_list_in(
 }
 
 /// What the value is in a row, for a field of this kind; refused with `OUT_OF_RANGE` where it is none for such a field,
-/// or a whole number beyond signed 64 bits.
+/// a whole number beyond signed 64 bits, or a date beyond the range of dates.
 #[tactic(auto, unfolding(agg_reading::specs::Terms::missing_at))]
 pub fn missing(
     alloc: Global,
@@ -97,7 +97,7 @@ pub fn missing(
 ) -> Result<Scalar, RequestFault>
     ensures { Gives (λ s. s) result (missing_at kind (pointer at.now) (view value.now)) }
 {
-    match stored(probe(alloc, kind, at, value)?) {
+    match stored(kind, probe(alloc, kind, at, value)?) {
         Some(found) => Ok(found),
         None => at.refuse(alloc, OUT_OF_RANGE),
     }

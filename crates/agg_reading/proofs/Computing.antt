@@ -9,6 +9,7 @@ unfolding
     Rattle.agg_reading.specs.Json.list_at Rattle.agg_reading.specs.Json.text_at Rattle.agg_reading.specs.Json.required
     Rattle.agg_reading.specs.Json.known Rattle.agg_reading.specs.Json.sole_besides Rattle.agg_reading.specs.Json.sole_at
     Rattle.agg_reading.specs.Scalars.decimal_of Rattle.agg_reading.specs.Scalars.whole Rattle.agg_reading.specs.Scalars.word
+    Rattle.date_spec.proofs.Computing.computing Rattle.agg_reading.specs.Scalars.instant Rattle.agg_reading.specs.Properties.format_at
     Rattle.agg_reading.specs.Scalars.flag Rattle.agg_reading.specs.Scalars.probe_of Rattle.agg_reading.specs.Numbers.number_at
     Rattle.agg_reading.specs.Numbers.whole_at Rattle.agg_reading.specs.Numbers.signed_at Rattle.agg_reading.specs.Numbers.truth_at
     Rattle.agg_reading.specs.Numbers.choice_at Rattle.agg_reading.specs.Fields.field_from Rattle.agg_reading.specs.Fields.nested_from
@@ -63,6 +64,7 @@ unfolding
     Rattle.agg_reading.specs.After.has_names Rattle.agg_reading.specs.After.after_at Rattle.agg_reading.specs.After.after_rule
     Rattle.agg_reading.specs.After.distinct_from Rattle.agg_reading.specs.After.after_key Rattle.agg_reading.specs.After.composite_in
     Rattle.agg_reading.specs.After.composite_at Rattle.agg_reading.specs.Metrics.metered_in Rattle.agg_reading.specs.Metrics.number_metric_at
+    Rattle.agg_reading.specs.Metrics.number_field_in Rattle.agg_reading.specs.Metrics.extreme_at
     Rattle.agg_reading.specs.Metrics.any_metric_at Rattle.agg_reading.specs.Metrics.missing_kind_at Rattle.agg_reading.specs.Metrics.global_at
     Rattle.agg_reading.specs.Metrics.nested_context_at Rattle.agg_reading.specs.Metrics.enclosing_at Rattle.agg_reading.specs.Metrics.outer_context_at
     Rattle.agg_reading.specs.Aggregations.kind_name Rattle.agg_reading.specs.Aggregations.kind_at Rattle.agg_reading.specs.Aggregations.is_aggregation_name

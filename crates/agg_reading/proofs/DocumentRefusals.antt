@@ -1,14 +1,18 @@
 -- Each reading of a document is refused with a number of items, and so is each action.
-use Rattle.std.specs.Prelude.{◌≡◌, refl, ℕ, ℤ, ◌+◌, List, [], ◌∷◌, ◌++◌, length, true, ◌&&◌, Option, Some, None, is_some, nat_lt, nat_le}
+use Rattle.std.specs.Prelude.{◌≡◌, refl, ℕ, ℤ, ◌+◌, List, [], ◌∷◌, ◌++◌, length, true, ◌&&◌, Option, Some, None, Result, Ok, Err, is_some, nat_lt, nat_le}
 use Rattle.std.proofs.lemmas.Bool.{or_right}
+use Rattle.serde_json.specs.Find.{as_integer}
 use Rattle.serde_json.specs.Data.{Data, null, boolean, number, string, array, object, Items, no_items, item, Members, no_members, member}
+use Rattle.date_spec.specs.declared.fault.DateFault.{DateFault}
+use Rattle.date_spec.specs.declared.fault.DateFault.TheVariants.{Malformed, OutOfRange}
+use Rattle.date_spec.specs.DateTexts.{read_date}
 use Rattle.agg_model.specs.FieldKinds.{fits_kind}
 use Rattle.agg_model.specs.declared.bulk.Action.{Action}
 use Rattle.agg_model.specs.declared.bulk.ActionKind.{ActionKind}
 use Rattle.agg_model.specs.declared.bulk.ActionKind.TheVariants.{Index, Create, Delete}
 use Rattle.agg_model.specs.declared.bulk.Applied.{Applied}
 use Rattle.agg_model.specs.declared.mapping.FieldKind.{FieldKind}
-use Rattle.agg_model.specs.declared.mapping.FieldKind.TheVariants.{Long, Integer, Short, Byte, Keyword, Boolean}
+use Rattle.agg_model.specs.declared.mapping.FieldKind.TheVariants.{Long, Integer, Short, Byte, Keyword, Boolean, Date}
 use Rattle.agg_model.specs.declared.mapping.Mapping.{Mapping}
 use Rattle.agg_model.specs.declared.row.Row.{Row}
 use Rattle.agg_model.specs.declared.row.Scalar.{Scalar}
@@ -20,7 +24,7 @@ use Rattle.agg_reading.specs.Reading.{Reading}
 use Rattle.agg_reading.specs.Json.{reading}
 use Rattle.agg_reading.specs.Scalars.{whole, word}
 use Rattle.agg_reading.specs.Rows.{empty_draft, count_in}
-use Rattle.agg_reading.specs.Document.{role_of, number_value, is_ignored, word_value, document_flag, scalar_at, State, with_scalar, leaf_at, around, object_by, chosen, value_at, items_at, members_at, document_value_at, document_at}
+use Rattle.agg_reading.specs.Document.{role_of, number_value, is_ignored, word_value, document_flag, instant_value, date_value, scalar_at, State, with_scalar, leaf_at, around, object_by, chosen, value_at, items_at, members_at, document_value_at, document_at}
 use Rattle.agg_reading.specs.Store.{Store, store_weight, live_at, is_create, kept, put_row, applied_by, applied}
 use Rattle.agg_reading.specs.Refusals.{is_refusal, document_refusals, item_refusals}
 use Rattle.agg_reading.proofs.Refusing.{Refusing, value, refused, found, then, either, an_object, wider}
@@ -35,6 +39,19 @@ a_word : (above : Option ℕ) (path : List ℕ) (w : Option (List ℕ)) → Refu
 a_word above path None = refused 21 path refl
 a_word above path (Some w) = either (is_ignored above w) _ _ (value None) (either (nat_lt 32766 (length w)) _ _ (refused 23 path refl) (value _))
 
+an_instant : (path : List ℕ) (read : Result ℤ DateFault) → Refusing document_refusals (instant_value path read)
+an_instant path (Ok z) = value _
+an_instant path (Err Malformed) = refused 21 path refl
+an_instant path (Err OutOfRange) = refused 22 path refl
+
+a_date : (path : List ℕ) (d : Data) → Refusing document_refusals (date_value path d)
+a_date path null = refused 21 path refl
+a_date path (boolean b) = refused 21 path refl
+a_date path (number n) = a_number Date path (as_integer n)
+a_date path (string s) = an_instant path (read_date s)
+a_date path (array ds) = refused 21 path refl
+a_date path (object ms) = refused 21 path refl
+
 a_scalar : (kind : FieldKind) (above : Option ℕ) (path : List ℕ) (d : Data) → Refusing document_refusals (scalar_at kind above path d)
 unfolding scalar_at
 a_scalar Keyword above path d = a_word above path (word d)
@@ -43,6 +60,7 @@ a_scalar Long above path d = a_number Long path (whole d)
 a_scalar Integer above path d = a_number Integer path (whole d)
 a_scalar Short above path d = a_number Short path (whole d)
 a_scalar Byte above path d = a_number Byte path (whole d)
+a_scalar Date above path d = a_date path d
 
 counted : (field : ℕ) (path : List ℕ) (s : State) (v : Option Scalar) → Refusing document_refusals (with_scalar field path s v)
 unfolding with_scalar

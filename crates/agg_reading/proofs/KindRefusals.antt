@@ -4,7 +4,7 @@ use Rattle.serde_json.specs.Data.{Data, null, boolean, number, string, array, ob
 use Rattle.serde_json.specs.Find.{get_member, as_i64, as_number}
 use Rattle.agg_model.specs.BoundsOrder.{is_at_most, lies_within}
 use Rattle.agg_model.specs.Contexts.{encloses}
-use Rattle.agg_model.specs.FieldKinds.{is_whole_kind}
+use Rattle.agg_model.specs.FieldKinds.{is_number_kind, is_whole_kind}
 use Rattle.agg_model.specs.declared.aggregation.Bounds.{Bounds}
 use Rattle.agg_model.specs.declared.key.Key.{Key}
 use Rattle.agg_model.specs.declared.mapping.Field.{Field}
@@ -25,7 +25,7 @@ use Rattle.agg_reading.specs.Histogram.{whole_field_in, bounds_at, histogram_ran
 use Rattle.agg_reading.specs.Filters.{is_name, name_at, listed_from, named_from, filter_list_at, is_taken, other_of, filters_in, filters_at}
 use Rattle.agg_reading.specs.Composite.{Source, source_named, terms_source_at, histogram_source_at, source_by, source_at, source_name_at, sole_of, named_source_at, sources_from, some_sources, sources_at}
 use Rattle.agg_reading.specs.After.{After, part_at, source_of, part_of, parts_from, has_names, after_at, source_names, after_rule, distinct_from, composite_in, composite_at}
-use Rattle.agg_reading.specs.Metrics.{metered_in, number_metric_at, any_metric_at, missing_kind_at, global_at, nested_context_at, enclosing_at, outer_of, outer_context_at}
+use Rattle.agg_reading.specs.Metrics.{metered_in, number_metric_at, number_field_in, extreme_at, any_metric_at, missing_kind_at, global_at, nested_context_at, enclosing_at, outer_of, outer_context_at}
 use Rattle.agg_reading.specs.Aggregations.{kind_at}
 use Rattle.agg_reading.specs.Refusals.{body_refusals}
 use Rattle.agg_reading.proofs.Refusing.{Refusing, value, refused, found, then, either, an_object, a_list, a_text, one_member, names, maybe}
@@ -299,6 +299,14 @@ a_number_metric : (m : Mapping) (at : List ℕ) (d : Data) → Refusing body_ref
 unfolding number_metric_at
 a_number_metric m at d = then _ _ (an_object 103 at d refl) (λ ms. then _ _ (names 101 _ at ms refl) (λ u. then _ _ (a_whole_field m at ms) (λ f. with_missing f at ms)))
 
+a_number_field : (m : Mapping) (at : List ℕ) (ms : Members) → Refusing body_refusals (number_field_in m at ms)
+unfolding number_field_in
+a_number_field m at ms = then _ _ (named_field m at ms) (λ f. either (is_number_kind f.1.kind) _ _ (value f) (refused 108 _ refl))
+
+an_extreme : (m : Mapping) (at : List ℕ) (d : Data) → Refusing body_refusals (extreme_at m at d)
+unfolding extreme_at
+an_extreme m at d = then _ _ (an_object 103 at d refl) (λ ms. then _ _ (names 101 _ at ms refl) (λ u. then _ _ (a_number_field m at ms) (λ f. with_missing f at ms)))
+
 any_metric : (m : Mapping) (at : List ℕ) (d : Data) → Refusing body_refusals (any_metric_at m at d)
 unfolding any_metric_at
 any_metric m at d = then _ _ (an_object 103 at d refl) (λ ms. then _ _ (names 101 _ at ms refl) (λ u. then _ _ (named_field m at ms) (λ f. with_missing f at ms)))
@@ -340,7 +348,7 @@ a_kind name.Nested m context queries at d = then _ _ (a_nested_context m context
 a_kind name.ReverseNested m context queries at d = then _ _ (an_outer_context m context at d) (λ outer. value _)
 a_kind name.Composite m context queries at d = then _ _ (a_composite m at d) (λ k. value _)
 a_kind name.Sum m context queries at d = then _ _ (a_number_metric m at d) (λ f. value _)
-a_kind name.Min m context queries at d = then _ _ (a_number_metric m at d) (λ f. value _)
-a_kind name.Max m context queries at d = then _ _ (a_number_metric m at d) (λ f. value _)
+a_kind name.Min m context queries at d = then _ _ (an_extreme m at d) (λ f. value _)
+a_kind name.Max m context queries at d = then _ _ (an_extreme m at d) (λ f. value _)
 a_kind name.Avg m context queries at d = then _ _ (a_number_metric m at d) (λ f. value _)
 a_kind name.ValueCount m context queries at d = then _ _ (any_metric m at d) (λ f. value _)

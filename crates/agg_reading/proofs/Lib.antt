@@ -8,6 +8,7 @@ mod AcceptedIndexLines
 mod RefusedIndexLines
 mod ActionLines
 mod Documents
+mod Dates
 mod Hashes
 mod Scripts
 mod Limits

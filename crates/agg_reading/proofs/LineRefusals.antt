@@ -13,7 +13,7 @@ use Rattle.agg_reading.specs.Reading.{Reading}
 use Rattle.agg_reading.specs.Pointer.{member_step}
 use Rattle.agg_reading.specs.Json.{reading}
 use Rattle.agg_reading.specs.Scalars.{whole}
-use Rattle.agg_reading.specs.Properties.{is_field_name, type_named, type_at, type_or, type_in, is_full, bound_in, bound_at, leaf_at, with_object, with_nested, fields_from, properties_at, properties_of, inner_at, by_type, property_at}
+use Rattle.agg_reading.specs.Properties.{is_field_name, type_named, type_at, type_or, type_in, is_full, date_format, format_at, bound_in, bound_at, leaf_at, with_object, with_nested, fields_from, properties_at, properties_of, inner_at, by_type, property_at}
 use Rattle.agg_reading.specs.Mapping.{dynamic_at, nothing_found, found_in, mapping_at}
 use Rattle.agg_reading.specs.IndexLine.{shards_in, shards_at, shards_named, inner_shards_of, inner_shards, agreed, agreed_all, settings_at, index_name_at, index_value_at, index_line_at}
 use Rattle.agg_reading.specs.Action.{action_named, is_plain, set_member, label_of, label_in, id_or, heading_at, action_value_at, action_at}
@@ -42,11 +42,16 @@ a_bound : (at : List ℕ) (d : Data) → Refusing index_line_refusals (bound_at 
 unfolding bound_at
 a_bound at d = then _ _ (found 31 at (as_number d) refl) (λ n. within_bound at (as_u64 n))
 
+a_format : (at : List ℕ) (d : Data) → Refusing index_line_refusals (format_at at d)
+unfolding format_at
+a_format at d = then _ _ (a_text 31 at d refl) (λ s. either (bytes_eq s date_format) _ _ (value tt) (refused 31 at refl))
+
 a_leaf : (kind : FieldKind) (within path at : List ℕ) (before : Found) (ms : Members) → Refusing index_line_refusals (leaf_at kind within path at before ms)
 unfolding leaf_at
 a_leaf kind within path at before ms =
     either (is_full before) _ _ (refused 31 at refl)
-    (then _ _ (names 31 _ at ms refl) (λ u. then _ _ (maybe _ _ (get_member (codes "ignore_above") ms) a_bound) (λ above. value _)))
+    (then _ _ (names 31 _ at ms refl) (λ u. then _ _ (maybe _ _ (get_member (codes "format") ms) a_format) (λ f.
+    then _ _ (maybe _ _ (get_member (codes "ignore_above") ms) a_bound) (λ above. value _))))
 
 -- a field within, where each is refused so
 abbrev Each : (List ℕ → List ℕ → List ℕ → Found → Data → Reading Found) → Type 0

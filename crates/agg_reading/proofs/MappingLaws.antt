@@ -19,7 +19,7 @@ use Rattle.agg_model.specs.MappingOrder.{IsOrdered}
 use Rattle.agg_reading.proofs.PathOrder.{IsArranged, arranged-none, arranged-place, arranged-ascends, ascend_mapped}
 use Rattle.agg_reading.proofs.Steps.{then_ok, next_ok, if_ok}
 use Rattle.agg_reading.specs.Json.{object_at, known, optional}
-use Rattle.agg_reading.specs.Properties.{by_path, place, is_field_name, bound_at, leaf_names, leaf_at, is_full, with_nested, with_object, fields_from, properties_at, properties_of, inner_at, by_type, type_in, property_at}
+use Rattle.agg_reading.specs.Properties.{by_path, place, is_field_name, format_at, bound_at, leaf_names, leaf_at, is_full, with_nested, with_object, fields_from, properties_at, properties_of, inner_at, by_type, type_in, property_at}
 use Rattle.agg_reading.specs.Mapping.{numbered, numbered_field, numbered_path, found_in, nothing_found, dynamic_at, mapping_at}
 
 -- one more item makes the list one longer
@@ -42,6 +42,7 @@ unfolding leaf_at
 leaf_at-fits kind within path at found ms b =
     if_ok Fits (is_full found) (refuse 31 at) _ (λ e. tt) (λ e.
     then_ok Fits (known 31 (leaf_names kind) at ms) _ (λ _.
+    then_ok Fits (optional format_at (codes "format") at ms) _ (λ _.
     then_ok Fits (optional bound_at (codes "ignore_above") at ms) _ (λ above.
     let f : FoundField = record { path = path; kind = kind; ignore_above = above; within = within } in
     record {
@@ -49,7 +50,7 @@ leaf_at-fits kind within path at found ms b =
       fields = arranged-place (λ f. f.path) f found.fields b.fields;
       nested = b.nested;
       objects = b.objects;
-    })))
+    }))))
 
 -- what adds fields keeps the bound
 abbrev Keeps : (List ℕ → List ℕ → List ℕ → Found → Data → Reading Found) → Type 0

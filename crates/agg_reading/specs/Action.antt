@@ -48,11 +48,21 @@ label_of (Some _) = refuse MALFORMED_ACTION []
 unfoldable pub label_in : List ℕ → Members → Reading (Option (List ℕ))
 label_in name ms = label_of (set_member name ms)
 
--- an absent id is made from the number of the action; a delete has to name one
+-- an id of 1 to MAX_ID bytes
+abbrev pub named_id : List ℕ → Reading (List ℕ)
+named_id id = if nat_lt 0 (length id) && nat_le (length id) MAX_ID then Ok id else refuse MALFORMED_ACTION []
+
+-- an absent id is made from the number of the action
+abbrev pub id_or_made : ℕ → Option (List ℕ) → Reading (List ℕ)
+id_or_made before None = Ok (codes "_auto_" ++ decimal before)
+id_or_made before (Some id) = named_id id
+
+-- a delete has to name its id
 abbrev pub id_or : ActionKind → ℕ → Option (List ℕ) → Reading (List ℕ)
+id_or Index before said = id_or_made before said
+id_or Create before said = id_or_made before said
 id_or Delete before None = refuse MALFORMED_ACTION []
-id_or _ before None = Ok (codes "_auto_" ++ decimal before)
-id_or _ before (Some id) = if nat_lt 0 (length id) && nat_le (length id) MAX_ID then Ok id else refuse MALFORMED_ACTION []
+id_or Delete before (Some id) = named_id id
 
 abbrev pub routing_or : List ℕ → Option (List ℕ) → List ℕ
 routing_or id None = id

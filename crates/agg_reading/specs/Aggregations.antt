@@ -19,7 +19,7 @@ use Rattle.agg_reading.specs.Terms.{terms_at}
 use Rattle.agg_reading.specs.Histogram.{histogram_at}
 use Rattle.agg_reading.specs.Filters.{is_name, filters_at}
 use Rattle.agg_reading.specs.After.{composite_at}
-use Rattle.agg_reading.specs.Metrics.{number_metric_at, any_metric_at, missing_kind_at, global_at, nested_context_at, outer_context_at}
+use Rattle.agg_reading.specs.Metrics.{number_metric_at, extreme_at, any_metric_at, missing_kind_at, global_at, nested_context_at, outer_context_at}
 
 unfoldable pub kind_name : List ℕ → Option KindName
 kind_name s =
@@ -57,23 +57,40 @@ kind_at name.Nested m context queries at d = nested_context_at m context at d >>
 kind_at name.ReverseNested m context queries at d = outer_context_at m context at d >>= λ outer. plain outer queries (kind.ReverseNested outer)
 kind_at name.Composite m context queries at d = composite_at m at d >>= plain context queries
 kind_at name.Sum m context queries at d = number_metric_at m at d >>= λ f. plain context queries (kind.Sum f.0 f.1)
-kind_at name.Min m context queries at d = number_metric_at m at d >>= λ f. plain context queries (kind.Min f.0 f.1)
-kind_at name.Max m context queries at d = number_metric_at m at d >>= λ f. plain context queries (kind.Max f.0 f.1)
+kind_at name.Min m context queries at d = extreme_at m at d >>= λ f. plain context queries (kind.Min f.0 f.1)
+kind_at name.Max m context queries at d = extreme_at m at d >>= λ f. plain context queries (kind.Max f.0 f.1)
 kind_at name.Avg m context queries at d = number_metric_at m at d >>= λ f. plain context queries (kind.Avg f.0 f.1)
 kind_at name.ValueCount m context queries at d = any_metric_at m at d >>= λ f. plain context queries (kind.ValueCount f.0 f.1)
 
+-- where an aggregation may stand
+pub data Standing : Type 0 where
+  -- with none below it
+  alone : Standing
+  -- at the top, and nowhere else
+  at_top : Standing
+  anywhere : Standing
+
+abbrev pub standing : KindName → Standing
+standing name.Avg = Standing.alone
+standing name.Composite = Standing.at_top
+standing name.Filter = Standing.anywhere
+standing name.Filters = Standing.anywhere
+standing name.Global = Standing.at_top
+standing name.Histogram = Standing.anywhere
+standing name.Max = Standing.alone
+standing name.Min = Standing.alone
+standing name.Missing = Standing.anywhere
+standing name.Nested = Standing.anywhere
+standing name.ReverseNested = Standing.anywhere
+standing name.Sum = Standing.alone
+standing name.Terms = Standing.anywhere
+standing name.ValueCount = Standing.alone
+
 abbrev pub is_metric : KindName → Bool
-is_metric name.Sum = true
-is_metric name.Min = true
-is_metric name.Max = true
-is_metric name.Avg = true
-is_metric name.ValueCount = true
-is_metric _ = false
+is_metric n = elim (standing n) [ Standing.alone ↦ true | Standing.at_top ↦ false | Standing.anywhere ↦ false ]
 
 abbrev pub is_top_kind : KindName → Bool
-is_top_kind name.Global = true
-is_top_kind name.Composite = true
-is_top_kind _ = false
+is_top_kind n = elim (standing n) [ Standing.alone ↦ false | Standing.at_top ↦ true | Standing.anywhere ↦ false ]
 
 -- not a word that stands beside children in an answer, and none of `[`, `]`, `>`
 unfoldable pub is_aggregation_name : List ℕ → Bool

@@ -1,14 +1,18 @@
 -- The walk of a document (Elasticsearch Reference 8, 'Mapping', 'Nested field type', 'dynamic').
 -- Refusals have the path of the member.
-use Rattle.std.specs.Prelude.{ℕ, ◌+◌, ℤ, List, [], ◌∷◌, ◌++◌, length, Option, Some, None, Ok, Bool, false, not, ◌&&◌, ◌||◌, ◌==◌, if◌then◌else◌, nat_le, nat_lt}
+use Rattle.std.specs.Prelude.{ℕ, ◌+◌, ℤ, List, [], ◌∷◌, ◌++◌, length, Option, Some, None, Result, Ok, Err, Bool, false, not, ◌&&◌, ◌||◌, ◌==◌, if◌then◌else◌, nat_le, nat_lt}
 use Rattle.std.specs.List.{list_any}
 use Rattle.std.specs.Option.{option_map_or}
 use Rattle.std.specs.Str.{bytes_eq}
+use Rattle.serde_json.specs.Find.{as_integer}
 use Rattle.serde_json.specs.Data.{Data, null, boolean, number, string, array, object, Items, no_items, item, Members, no_members, member}
+use Rattle.date_spec.specs.declared.fault.DateFault.{DateFault}
+use Rattle.date_spec.specs.declared.fault.DateFault.TheVariants.{Malformed, OutOfRange}
+use Rattle.date_spec.specs.DateTexts.{read_date}
 use Rattle.agg_model.specs.declared.limits.TheConstants.{MAX_FIELD_VALUES, MAX_KEYWORD, MAX_NESTED_OBJECTS}
 use Rattle.agg_model.specs.declared.item_refusal.TheConstants.{KEYWORD_TOO_LONG, NUMBER_OUT_OF_RANGE, SOURCE_NOT_OBJECT, STRICT_MAPPING, TOO_MANY_FIELD_VALUES, TOO_MANY_NESTED_OBJECTS, WRONG_FIELD_TYPE}
 use Rattle.agg_model.specs.declared.mapping.FieldKind.{FieldKind}
-use Rattle.agg_model.specs.declared.mapping.FieldKind.TheVariants.{Keyword, Boolean}
+use Rattle.agg_model.specs.declared.mapping.FieldKind.TheVariants.{Date}
 use Rattle.agg_model.specs.declared.mapping.Field.{Field}
 use Rattle.agg_model.specs.declared.mapping.NestedPath.{NestedPath}
 use Rattle.agg_model.specs.declared.mapping.Mapping.{Mapping}
@@ -21,7 +25,7 @@ use Rattle.agg_reading.specs.declared.parts.Role.TheVariants as role
 use Rattle.agg_reading.specs.Reading.{Reading, ◌>>=◌, refuse, or_refuse}
 use Rattle.agg_reading.specs.Json.{reading, object_at, is_among}
 use Rattle.agg_reading.specs.Scalars.{whole, word, flag, is_longer}
-use Rattle.agg_model.specs.FieldKinds.{fits_kind}
+use Rattle.agg_model.specs.FieldKinds.{ValueKind, value_kind, fits_kind}
 use Rattle.agg_reading.specs.Fields.{field_from, nested_from}
 use Rattle.agg_model.specs.Contexts.{is_beneath, is_in_context}
 use Rattle.agg_reading.specs.Rows.{finished, empty_draft, count_in, with_value, with_row}
@@ -64,10 +68,24 @@ abbrev pub document_flag : Data → Option Bool
 document_flag (string []) = Some false
 document_flag d = flag d
 
+abbrev pub instant_value : List ℕ → Result ℤ DateFault → Reading (Option Scalar)
+instant_value path (Ok instant) = Ok (Some (Whole instant))
+instant_value path (Err Malformed) = refuse WRONG_FIELD_TYPE path
+instant_value path (Err OutOfRange) = refuse NUMBER_OUT_OF_RANGE path
+
+-- a date: a whole number of milliseconds, or a text that names an instant ('Date field type')
+abbrev pub date_value : List ℕ → Data → Reading (Option Scalar)
+date_value path (number n) = number_value Date path (as_integer n)
+date_value path (string text) = instant_value path (read_date text)
+date_value path _ = refuse WRONG_FIELD_TYPE path
+
 unfoldable pub scalar_at : FieldKind → Option ℕ → List ℕ → Data → Reading (Option Scalar)
-scalar_at Keyword above path d = word_value above path (word d)
-scalar_at Boolean above path d = or_refuse WRONG_FIELD_TYPE path (document_flag d) >>= λ b. Ok (Some (Flag b))
-scalar_at kind above path d = number_value kind path (whole d)
+scalar_at kind above path d = elim (value_kind kind) [
+  | ValueKind.wholes half ↦ number_value kind path (whole d)
+  | ValueKind.words ↦ word_value above path (word d)
+  | ValueKind.flags ↦ or_refuse WRONG_FIELD_TYPE path (document_flag d) >>= λ b. Ok (Some (Flag b))
+  | ValueKind.dates ↦ date_value path d
+]
 
 -- the row that is walked, and how many nested objects of the document were met
 abbrev pub State : Type 0
@@ -100,8 +118,10 @@ object_by role.Unmapped path s inner nested = Ok s
 
 -- what a member answers, where its value answers `mapped`: an unmapped one is not looked at
 abbrev pub chosen : Mapping → Role → List ℕ → State → Reading State → Reading State
+chosen m (role.Leaf field kind above) path s mapped = mapped
+chosen m role.Plain path s mapped = mapped
+chosen m (role.Nested p) path s mapped = mapped
 chosen m role.Unmapped path s mapped = if m.strict then refuse STRICT_MAPPING path else Ok s
-chosen m _ path s mapped = mapped
 
 abbrev mutual
   pub value_at : Mapping → Role → ℕ → List ℕ → State → Data → Reading State

@@ -5,7 +5,7 @@ use Rattle.serde_json.specs.Find.{get_member}
 use Rattle.agg_model.specs.declared.limits.TheConstants.{MAX_LIST_VALUES}
 use Rattle.agg_model.specs.declared.body_refusal.TheConstants.{LIMIT_EXCEEDED, NOT_ONE_MEMBER, NO_SUCH_FIELD, OUT_OF_RANGE, UNKNOWN_MEMBER, WRONG_TYPE}
 use Rattle.agg_model.specs.declared.mapping.FieldKind.{FieldKind}
-use Rattle.agg_model.specs.declared.mapping.FieldKind.TheVariants.{Boolean}
+use Rattle.agg_model.specs.FieldKinds.{ValueKind, value_kind}
 use Rattle.agg_model.specs.declared.mapping.Field.{Field}
 use Rattle.agg_model.specs.declared.mapping.Mapping.{Mapping}
 use Rattle.agg_model.specs.declared.query.Probe.{Probe}
@@ -92,8 +92,7 @@ unfoldable pub test_at : RangeOp → List ℕ → FieldKind → List ℕ → Lis
 test_at op name kind at done ms = test_of op kind (at ++ member_step name) done (get_member name ms)
 
 abbrev pub is_boolean : FieldKind → Bool
-is_boolean Boolean = true
-is_boolean _ = false
+is_boolean kind = elim (value_kind kind) [ ValueKind.wholes half ↦ false | ValueKind.words ↦ false | ValueKind.flags ↦ true | ValueKind.dates ↦ false ]
 
 unfoldable pub tests_at : FieldKind → List ℕ → Data → Reading (List RangeTest)
 tests_at kind at d = do
@@ -104,7 +103,7 @@ tests_at kind at d = do
   c ← test_at Lt (codes "lt") kind at b ms
   test_at Lte (codes "lte") kind at c ms
 
--- `range` is for whole numbers and keywords
+-- `range` is for whole numbers, dates and keywords
 unfoldable pub range_at : Mapping → List ℕ → Data → Reading Query
 range_at m at d = do
   said ← about at d

@@ -2,7 +2,7 @@
 use Rattle.std.specs.Prelude.{ℕ, ◌+◌, ◌==◌, List, [], ◌∷◌, ◌++◌, Option, Some, None, Ok, if◌then◌else◌, codes}
 use Rattle.serde_json.specs.Data.{Data, Members}
 use Rattle.serde_json.specs.Find.{get_member}
-use Rattle.agg_model.specs.declared.body_refusal.TheConstants.{NO_SUCH_PATH, UNKNOWN_MEMBER, WRONG_TYPE}
+use Rattle.agg_model.specs.declared.body_refusal.TheConstants.{NO_SUCH_FIELD, NO_SUCH_PATH, UNKNOWN_MEMBER, WRONG_TYPE}
 use Rattle.agg_model.specs.declared.mapping.Field.{Field}
 use Rattle.agg_model.specs.declared.mapping.Mapping.{Mapping}
 use Rattle.agg_model.specs.declared.row.Scalar.{Scalar}
@@ -17,6 +17,7 @@ use Rattle.agg_reading.specs.Leaves.{field_in}
 use Rattle.agg_reading.specs.Query.{path_in}
 use Rattle.agg_reading.specs.Terms.{missing_at}
 use Rattle.agg_reading.specs.Histogram.{whole_field_in}
+use Rattle.agg_model.specs.FieldKinds.{is_number_kind}
 
 -- a field, and the value of rows without one
 abbrev pub Metered : Type 0
@@ -31,6 +32,18 @@ number_metric_at m at d = do
   ms ← object_at WRONG_TYPE at d
   known UNKNOWN_MEMBER (codes "field" ∷ codes "missing" ∷ []) at ms
   f ← whole_field_in m at ms
+  metered_in f at ms
+
+-- the member `field`, which names a field of whole numbers or of dates
+unfoldable pub number_field_in : Mapping → List ℕ → Members → Reading (ℕ × Field)
+number_field_in m at ms = field_in m at ms >>= λ f. if is_number_kind f.1.kind then Ok f else refuse NO_SUCH_FIELD (at ++ member_step (codes "field"))
+
+-- the least or the greatest value, of whole numbers or of dates
+unfoldable pub extreme_at : Mapping → List ℕ → Data → Reading Metered
+extreme_at m at d = do
+  ms ← object_at WRONG_TYPE at d
+  known UNKNOWN_MEMBER (codes "field" ∷ codes "missing" ∷ []) at ms
+  f ← number_field_in m at ms
   metered_in f at ms
 
 -- a metric over any field

@@ -79,5 +79,12 @@ unfoldable pub with_order : List Order → Kind → Kind
 with_order order k = elim (options_of k) [
   | Options.Terms t ↦ terms_kind (record t { order = order })
   | Options.Histogram h ↦ histogram_kind (record h { order = order })
-  | _ ↦ k
+  | Options.Filters names filters other ↦ k
+  | Options.Filter query ↦ k
+  | Options.Missing field ↦ k
+  | Options.Global ↦ k
+  | Options.Nested context ↦ k
+  | Options.ReverseNested context ↦ k
+  | Options.Composite sources size after ↦ k
+  | Options.Metric m ↦ k
 ]

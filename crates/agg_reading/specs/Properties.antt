@@ -1,6 +1,6 @@
 -- The walk of `properties` (Elasticsearch Reference 8, 'Mapping', 'Field data types', 'ignore_above').
 -- A refusal of an index line is BAD_INDEX_LINE, with the pointer of the first thing refused.
-use Rattle.std.specs.Prelude.{ℕ, zero, suc, ◌+◌, List, [], ◌∷◌, ◌++◌, length, Option, Some, None, Ok, Bool, not, ◌&&◌, ◌==◌, if◌then◌else◌, nat_le, nat_lt, codes, is_some}
+use Rattle.std.specs.Prelude.{ℕ, zero, suc, ◌+◌, List, [], ◌∷◌, ◌++◌, length, Option, Some, None, Ok, Bool, not, ◌&&◌, ◌==◌, if◌then◌else◌, nat_le, nat_lt, ⊤, codes, is_some}
 use Rattle.std.specs.List.{list_any}
 use Rattle.std.specs.declared.cmp.Ordering.{Ordering}
 use Rattle.std.specs.Ordering.{nat_cmp, is_lt}
@@ -12,12 +12,13 @@ use Rattle.list_laws.specs.Sorting.{insert_behind}
 use Rattle.agg_model.specs.declared.limits.TheConstants.{MAX_FIELD_NAME, MAX_IGNORE_ABOVE, MAX_PATHS}
 use Rattle.agg_model.specs.declared.script_refusal.TheConstants.{BAD_INDEX_LINE}
 use Rattle.agg_model.specs.declared.mapping.FieldKind.{FieldKind}
-use Rattle.agg_model.specs.declared.mapping.FieldKind.TheVariants.{Long, Integer, Short, Byte, Keyword, Boolean}
+use Rattle.agg_model.specs.declared.mapping.FieldKind.TheVariants.{Long, Integer, Short, Byte, Keyword, Boolean, Date}
 use Rattle.agg_reading.specs.declared.names.FieldType.{FieldType}
 use Rattle.agg_reading.specs.declared.names.FieldType.TheVariants.{Leaf, Object, Nested}
 use Rattle.agg_reading.specs.declared.parts.Found.{Found}
 use Rattle.agg_reading.specs.Reading.{Reading, ◌>>=◌, ◌>>◌, refuse, or_refuse}
 use Rattle.agg_reading.specs.Pointer.{member_step}
+use Rattle.agg_model.specs.FieldKinds.{ValueKind, value_kind}
 use Rattle.agg_reading.specs.Json.{object_at, text_at, known, optional}
 
 -- byte order
@@ -44,8 +45,9 @@ type_named s =
     if bytes_eq s (codes "byte") then Some (Leaf Byte) else (
     if bytes_eq s (codes "keyword") then Some (Leaf Keyword) else (
     if bytes_eq s (codes "boolean") then Some (Leaf Boolean) else (
+    if bytes_eq s (codes "date") then Some (Leaf Date) else (
     if bytes_eq s (codes "object") then Some Object else (
-    if bytes_eq s (codes "nested") then Some Nested else None)))))))
+    if bytes_eq s (codes "nested") then Some Nested else None))))))))
 
 unfoldable pub type_at : List ℕ → Data → Reading FieldType
 type_at at d = text_at BAD_INDEX_LINE at d >>= λ s. or_refuse BAD_INDEX_LINE at (type_named s)
@@ -62,9 +64,24 @@ type_in at ms = optional type_at (codes "type") at ms >>= λ t. type_or at t ms
 abbrev pub is_full : Found → Bool
 is_full found = nat_le MAX_PATHS (length found.fields + length found.nested)
 
+-- the members that each field may have
+abbrev pub plain_names : List (List ℕ)
+plain_names = codes "doc_values" ∷ codes "index" ∷ codes "store" ∷ codes "type" ∷ []
+
 abbrev pub leaf_names : FieldKind → List (List ℕ)
-leaf_names Keyword = codes "doc_values" ∷ codes "eager_global_ordinals" ∷ codes "ignore_above" ∷ codes "index" ∷ codes "store" ∷ codes "type" ∷ []
-leaf_names _ = codes "doc_values" ∷ codes "index" ∷ codes "store" ∷ codes "type" ∷ []
+leaf_names kind = elim (value_kind kind) [
+  | ValueKind.wholes half ↦ plain_names
+  | ValueKind.words ↦ codes "doc_values" ∷ codes "eager_global_ordinals" ∷ codes "ignore_above" ∷ codes "index" ∷ codes "store" ∷ codes "type" ∷ []
+  | ValueKind.flags ↦ plain_names
+  | ValueKind.dates ↦ codes "doc_values" ∷ codes "format" ∷ codes "index" ∷ codes "store" ∷ codes "type" ∷ []
+]
+
+-- the one format of dates ('format')
+abbrev pub date_format : List ℕ
+date_format = codes "strict_date_optional_time||epoch_millis"
+
+unfoldable pub format_at : List ℕ → Data → Reading ⊤
+format_at at d = text_at BAD_INDEX_LINE at d >>= λ s. if bytes_eq s date_format then Ok tt else refuse BAD_INDEX_LINE at
 
 abbrev pub bound_in : List ℕ → Option ℕ → Reading ℕ
 bound_in at None = refuse BAD_INDEX_LINE at
@@ -79,6 +96,7 @@ unfoldable pub leaf_at : FieldKind → List ℕ → List ℕ → List ℕ → Fo
 leaf_at kind within path at found ms =
     if is_full found then refuse BAD_INDEX_LINE at else (do
       known BAD_INDEX_LINE (leaf_names kind) at ms
+      optional format_at (codes "format") at ms
       above ← optional bound_at (codes "ignore_above") at ms
       Ok (record { fields = place (λ f. f.path) (record { path = path; kind = kind; ignore_above = above; within = within }) found.fields; nested = found.nested; objects = found.objects }))
 

@@ -15,14 +15,20 @@ use Rattle.agg_reading.specs.declared.parts.Draft.{Draft}
 -- Numbers by value, words by their bytes, false before true. The values of one field are of one kind.
 abbrev pub scalar_cmp : Scalar → Scalar → Ordering
 scalar_cmp (Whole m) (Whole n) = int_cmp m n
+scalar_cmp (Whole m) (Word w) = Equal
+scalar_cmp (Whole m) (Flag b) = Equal
+scalar_cmp (Word v) (Whole n) = Equal
 scalar_cmp (Word v) (Word w) = slice_cmp nat_cmp v w
+scalar_cmp (Word v) (Flag b) = Equal
+scalar_cmp (Flag a) (Whole n) = Equal
+scalar_cmp (Flag a) (Word w) = Equal
 scalar_cmp (Flag a) (Flag b) = bool_cmp a b
-scalar_cmp _ _ = Equal
 
 -- a value in its place; equal words are joined, equal numbers and flags are kept
 unfoldable pub insert_value : Scalar → List Scalar → List Scalar
+insert_value (Whole n) ss = insert_sorted scalar_cmp (Whole n) ss
 insert_value (Word w) ss = insert_once scalar_cmp (Word w) ss
-insert_value s ss = insert_sorted scalar_cmp s ss
+insert_value (Flag b) ss = insert_sorted scalar_cmp (Flag b) ss
 
 -- the values ascending, words distinct
 unfoldable pub finished_values : List Scalar → List Scalar

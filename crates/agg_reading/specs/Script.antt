@@ -5,14 +5,14 @@ use Rattle.agg_model.specs.declared.limits.TheConstants.{MAX_ACTIONS}
 use Rattle.agg_model.specs.declared.script_refusal.TheConstants.{MISSING_SECTION, MISSING_SOURCE, TOO_MANY_DOCUMENTS}
 use Rattle.agg_model.specs.declared.bulk.Action.{Action}
 use Rattle.agg_model.specs.declared.bulk.ActionKind.{ActionKind}
-use Rattle.agg_model.specs.declared.bulk.ActionKind.TheVariants.{Delete}
+use Rattle.agg_model.specs.declared.bulk.ActionKind.TheVariants.{Index, Create, Delete}
 use Rattle.agg_model.specs.declared.bulk.Applied.{Applied}
 use Rattle.agg_model.specs.declared.bulk.Item.{Item}
 use Rattle.agg_model.specs.declared.bulk.ItemEnd.{ItemEnd}
 use Rattle.agg_model.specs.declared.bulk.ItemEnd.TheVariants as end
 use Rattle.agg_model.specs.declared.bulk.ItemRefusal.{ItemRefusal}
 use Rattle.agg_reading.specs.declared.fault.RequestFault.{RequestFault}
-use Rattle.agg_reading.specs.declared.fault.RequestFault.TheVariants.{Bad}
+use Rattle.agg_reading.specs.declared.fault.RequestFault.TheVariants.{NotJson, Bad, Memory}
 use Rattle.agg_reading.specs.Reading.{Reading, ◌>>=◌, ◌>>◌}
 use Rattle.agg_reading.specs.declared.parts.IndexLine.{IndexLine}
 use Rattle.agg_reading.specs.IndexLine.{index_line_at}
@@ -24,8 +24,9 @@ use Rattle.agg_reading.specs.Lines.{Place, start, past, is_empty_line, ScriptRef
 
 -- The refusal of a line, with its number. The readings of lines answer no other fault.
 abbrev pub refusal_at : ℕ → RequestFault → ScriptRefusal
+refusal_at line NotJson = record { number = 0; line = line; path = [] }
 refusal_at line (Bad code path) = record { number = code; line = line; path = path }
-refusal_at line _ = record { number = 0; line = line; path = [] }
+refusal_at line Memory = record { number = 0; line = line; path = [] }
 
 abbrev pub at_line : {A : Type 0} → ℕ → Reading A → Script A
 at_line line (Ok x) = Ok x
@@ -41,8 +42,9 @@ pub record Loading : Type 0 where
 
 -- the refusal of an item
 abbrev pub item_refusal : RequestFault → ItemRefusal
+item_refusal NotJson = record { number = 0; path = [] }
 item_refusal (Bad code path) = record { number = code; path = path }
-item_refusal _ = record { number = 0; path = [] }
+item_refusal Memory = record { number = 0; path = [] }
 
 abbrev pub with_item : Action → ItemEnd → Store → Loading → Loading
 with_item action ended store now = record {
@@ -69,8 +71,9 @@ heading_of line l now =
     if nat_le MAX_ACTIONS now.actions then refuse_script TOO_MANY_DOCUMENTS line else at_line line (action_at now.index.name now.actions l.text)
 
 abbrev pub is_delete : ActionKind → Bool
+is_delete Index = false
+is_delete Create = false
 is_delete Delete = true
-is_delete _ = false
 
 -- what was loaded, and what is left of the input
 pub record Loaded : Type 0 where

@@ -10,7 +10,7 @@ use Rattle.agg_model.specs.declared.row.Children.{Children, Children', Row_of-Ro
 use Rattle.agg_model.specs.declared.row.Document.{Document}
 use Rattle.agg_model.specs.declared.bulk.Action.{Action}
 use Rattle.agg_model.specs.declared.bulk.ActionKind.{ActionKind}
-use Rattle.agg_model.specs.declared.bulk.ActionKind.TheVariants.{Create, Delete}
+use Rattle.agg_model.specs.declared.bulk.ActionKind.TheVariants.{Index, Create, Delete}
 use Rattle.agg_model.specs.declared.bulk.Applied.{Applied}
 use Rattle.agg_model.specs.declared.bulk.Applied.TheVariants.{Created, Updated, Deleted, NotFound}
 use Rattle.agg_reading.specs.Reading.{Reading, ◌>>=◌, refuse}
@@ -58,8 +58,9 @@ unfoldable pub store_weight : Store → ℕ
 store_weight store = sum_by weight (live_documents store)
 
 abbrev pub is_create : ActionKind → Bool
+is_create Index = false
 is_create Create = true
-is_create _ = false
+is_create Delete = false
 
 -- a store whose documents weigh less than WEIGHT_LIMIT
 abbrev pub kept : Applied → Store → Reading (Applied × Store)
@@ -75,10 +76,15 @@ put_row action root store =
 unfoldable pub deleted : List ℕ → Store → Applied × Store
 deleted id store = if is_some (live_at id store) then (Deleted, with_document id None store) else (NotFound, store)
 
+-- an action that puts a document
+abbrev pub put : Mapping → Action → Store → Reading (Applied × Store)
+put m action store = document_at m action.source >>= λ root. put_row action root store
+
 -- what an action does and the store after it, or the refusal of its document or of the store
 abbrev pub applied_by : ActionKind → Mapping → Action → Store → Reading (Applied × Store)
+applied_by Index m action store = put m action store
+applied_by Create m action store = put m action store
 applied_by Delete m action store = Ok (deleted action.id store)
-applied_by _ m action store = document_at m action.source >>= λ root. put_row action root store
 
 unfoldable pub applied : Mapping → Action → Store → Reading (Applied × Store)
 applied m action store = applied_by action.kind m action store

@@ -18,9 +18,9 @@ use Rattle.agg_reading.specs.Numbers.{whole_at, truth_at, choice_at}
 use Rattle.agg_reading.specs.Leaves.{field_in, value_at, values_at}
 use Rattle.agg_reading.specs.Orders.{orders_at, by_default}
 
--- the value of a row that has none: for numbers of 64 bits
+-- the value of a row that has none: for numbers of 64 bits, for dates in their range
 unfoldable pub missing_at : FieldKind → List ℕ → Data → Reading Scalar
-missing_at kind at d = value_at kind at d >>= λ p. or_refuse OUT_OF_RANGE at (stored p)
+missing_at kind at d = value_at kind at d >>= λ p. or_refuse OUT_OF_RANGE at (stored kind p)
 
 abbrev pub term_members : List (List ℕ)
 term_members =

@@ -8,6 +8,7 @@ use Rattle.agg_model.specs.declared.key.Key.{Key}
 use Rattle.agg_model.specs.declared.key.Key.TheVariants as key
 use Rattle.agg_model.specs.declared.aggregation.Kind.{Kind}
 use Rattle.agg_model.specs.declared.aggregation.Agg.{Agg, out-Agg}
+use Rattle.agg_model.specs.declared.mapping.Mapping.{Mapping}
 use Rattle.agg_evaluation.proofs.FoldLaws.{fold_key-Many}
 use Rattle.agg_model.specs.declared.answer.NodeAnswer.{NodeAnswer, out-NodeAnswer}
 use Rattle.agg_spec.specs.AnswerTree.{Printer, printer, tree_at}
@@ -20,8 +21,8 @@ all_true (k ∷ ks) = ap (λ b. key_in_range k && b) (all_true ks)
 pub key_in_range-Many : (ks : List Key) → key_in_range (key.Many ks) ≡ list_all key_in_range ks
 key_in_range-Many ks = fold_key-Many part_in_range ks ∙ all_true ks
 
-pub printer-level : (a : Agg) (n : NodeAnswer) → printer a n ≡ tree_at (map printer (out-Agg a).children) (out-Agg a).kind (out-NodeAnswer n)
-printer-level a n = ap (λ (p : Printer). p n) (fold_agg-level (λ x m. tree_at x.children x.kind (out-NodeAnswer m)) a)
+pub printer-level : (m : Mapping) (a : Agg) (n : NodeAnswer) → printer m a n ≡ tree_at m (map (printer m) (out-Agg a).children) (out-Agg a).kind (out-NodeAnswer n)
+printer-level m a n = ap (λ (p : Printer). p n) (fold_agg-level (λ x y. tree_at m x.children x.kind (out-NodeAnswer y)) a)
 
 pub checker-level : (a : Agg) (n : NodeAnswer) → checker a n ≡ map (λ path. codes "/" ++ ((out-Agg a).name ++ path))
     (unless (sum_in_range (out-Agg a).kind (out-NodeAnswer n).metric.sum) [] ++ flat_map (check_bucket (map checker (out-Agg a).children)) (out-NodeAnswer n).buckets)
@@ -29,6 +30,7 @@ checker-level a n = ap (λ (p : Checker). p n) (fold_agg-level (λ x m. map (λ 
     (unless (sum_in_range x.kind (out-NodeAnswer m).metric.sum) [] ++ flat_map (check_bucket x.children) (out-NodeAnswer m).buckets)) a)
 
 -- a tree that depends on the kind alone is the answer's tree where the kind is known
-pub printer-kind : (a : Agg) (n : NodeAnswer) (k : Kind) (tree : Kind → Data) → (out-Agg a).kind ≡ k → tree k ≡ tree_at (map printer (out-Agg a).children) k (out-NodeAnswer n) → tree (out-Agg a).kind ≡ printer a n
-printer-kind a n k tree e same =
-    ap tree e ∙ same ∙ sym (ap (λ j. tree_at (map printer (out-Agg a).children) j (out-NodeAnswer n)) e) ∙ sym (printer-level a n)
+pub printer-kind : (m : Mapping) (a : Agg) (n : NodeAnswer) (k : Kind) (tree : Kind → Data) → (out-Agg a).kind ≡ k → tree k ≡ tree_at m (map (printer m) (out-Agg a).children) k (out-NodeAnswer n)
+    → tree (out-Agg a).kind ≡ printer m a n
+printer-kind m a n k tree e same =
+    ap tree e ∙ same ∙ sym (ap (λ j. tree_at m (map (printer m) (out-Agg a).children) j (out-NodeAnswer n)) e) ∙ sym (printer-level m a n)

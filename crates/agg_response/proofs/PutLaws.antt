@@ -6,6 +6,7 @@ use Rattle.serde_json.specs.Data.{put as with_member}
 use Rattle.agg_model.specs.declared.answer.BucketAnswer.{BucketAnswer, out-BucketAnswer}
 use Rattle.agg_model.specs.declared.answer.NodeAnswer.{NodeAnswer, out-NodeAnswer}
 use Rattle.agg_model.specs.declared.aggregation.Agg.{Agg}
+use Rattle.agg_model.specs.declared.mapping.Mapping.{Mapping}
 use Rattle.agg_spec.specs.AnswerTree.{Printer, printer, named_answers, bucket_members}
 use Rattle.agg_model.specs.declared.outcome.Failure.{Failure}
 use Rattle.agg_spec.specs.ErrorLines.{failures_member}
@@ -63,15 +64,15 @@ module _ {X : Type 0} (f : X → Data) where
       ap (λ zs. zs ++ map f (drop (i + 1) xs)) push ∙ append_assoc old (d ∷ []) (map f (drop (i + 1) xs))
       ∙ ap (λ e. old ++ e ∷ map f (drop (i + 1) xs)) v ∙ sym (ap (λ zs. old ++ map f zs) p)
 
-abbrev pub answers_put : List Agg → List NodeAnswer → Members → Members
-answers_put aggs nodes ms = with_members (named_answers (map printer aggs) nodes) ms
+abbrev pub answers_put : Mapping → List Agg → List NodeAnswer → Members → Members
+answers_put m aggs nodes ms = with_members (named_answers (map (printer m) aggs) nodes) ms
 
-pub answers_here : (aggs : List Agg) (nodes : List NodeAnswer) (i : ℕ) (a : Agg) (n : NodeAnswer) (name : List ℕ) (d : Data) (old new : Members)
-    → drop i aggs ≡ a ∷ drop (i + 1) aggs → drop i nodes ≡ n ∷ drop (i + 1) nodes → name ≡ (out-NodeAnswer n).name → d ≡ printer a n → new ≡ with_member name d old
-    → answers_put (drop (i + 1) aggs) (drop (i + 1) nodes) new ≡ answers_put (drop i aggs) (drop i nodes) old
-answers_here aggs nodes i a n name d old new p q named v put =
-    ap (answers_put (drop (i + 1) aggs) (drop (i + 1) nodes)) (put_as name _ d _ old new named v put)
-    ∙ sym (ap (λ zs. answers_put zs (drop i nodes) old) p ∙ ap (λ zs. answers_put (a ∷ drop (i + 1) aggs) zs old) q)
+pub answers_here : (m : Mapping) (aggs : List Agg) (nodes : List NodeAnswer) (i : ℕ) (a : Agg) (n : NodeAnswer) (name : List ℕ) (d : Data) (old new : Members)
+    → drop i aggs ≡ a ∷ drop (i + 1) aggs → drop i nodes ≡ n ∷ drop (i + 1) nodes → name ≡ (out-NodeAnswer n).name → d ≡ printer m a n → new ≡ with_member name d old
+    → answers_put m (drop (i + 1) aggs) (drop (i + 1) nodes) new ≡ answers_put m (drop i aggs) (drop i nodes) old
+answers_here m aggs nodes i a n name d old new p q named v put =
+    ap (answers_put m (drop (i + 1) aggs) (drop (i + 1) nodes)) (put_as name _ d _ old new named v put)
+    ∙ sym (ap (λ zs. answers_put m zs (drop i nodes) old) p ∙ ap (λ zs. answers_put m (a ∷ drop (i + 1) aggs) zs old) q)
 
-pub answers_end : (a : Agg) (aggs more : List Agg) (nodes : List NodeAnswer) (ms : Members) → aggs ≡ a ∷ more → nodes ≡ [] → answers_put aggs nodes ms ≡ ms
-answers_end a aggs more nodes ms p q = ap (λ zs. answers_put zs nodes ms) p ∙ ap (λ zs. answers_put (a ∷ more) zs ms) q
+pub answers_end : (m : Mapping) (a : Agg) (aggs more : List Agg) (nodes : List NodeAnswer) (ms : Members) → aggs ≡ a ∷ more → nodes ≡ [] → answers_put m aggs nodes ms ≡ ms
+answers_end m a aggs more nodes ms p q = ap (λ zs. answers_put m zs nodes ms) p ∙ ap (λ zs. answers_put m (a ∷ more) zs ms) q

@@ -14,7 +14,9 @@ use crate::buckets::with_bucket;
 use crate::keys::{composite_value, key_number};
 use crate::numbers::{average_value, integer_value, optional_value, wide_value};
 use crate::values::{Array, Json, Object, count_value};
-use agg_model::{Agg, BucketAnswer, CompositeSource, Kind, List, Metric, NodeAnswer, Text};
+use agg_model::{
+    Agg, BucketAnswer, CompositeSource, Kind, List, Mapping, Metric, NodeAnswer, Text,
+};
 use std::alloc::{AllocError, Global};
 
 /// An object with one member.
@@ -120,20 +122,25 @@ fn name_at<'a>(names: &'a List<Text>, other: &'a Option<Text>, place: usize) -> 
 #[cycle(answers)]
 pub(crate) fn with_answers(
     alloc: Global,
+    mapping: &Mapping,
     nodes: &List<NodeAnswer>,
     aggs: &List<Agg>,
     object: Object,
 ) -> Result<Object, AllocError>
     requires { check_each (map checker aggs.now) nodes.now ≡ [] }
     ensures { IfOk result (λ o. members_view o.members.entries
-        ≡ with_members (tree.named_answers (map tree.printer aggs.now) nodes.now) (members_view object.members.entries)) }
+        ≡ with_members (tree.named_answers (map (tree.printer mapping.now) aggs.now) nodes.now) (members_view object.members.entries)) }
 {
     let mut object = object;
     for (place, agg) in aggs.as_slice().iter().enumerate() {
         let Some(node) = nodes.get(place) else {
             return Ok(object);
         };
-        object = object.with(alloc, node.name.as_str(), answer_value(alloc, node, agg)?)?;
+        object = object.with(
+            alloc,
+            node.name.as_str(),
+            answer_value(alloc, mapping, node, agg)?,
+        )?;
     }
     Ok(object)
 }
@@ -142,32 +149,34 @@ pub(crate) fn with_answers(
 #[cycle(answers)]
 fn bucket_value(
     alloc: Global,
+    mapping: &Mapping,
     bucket: &BucketAnswer,
     kind: &Kind,
     children: &List<Agg>,
 ) -> Result<Json, AllocError>
     requires { check_bucket (map checker children.now) bucket.now ≡ [] }
-    ensures { IfOk result (λ j. view j.value ≡ bucket_tree kind.now (map tree.printer children.now) bucket.now) }
+    ensures { IfOk result (λ j. view j.value ≡ bucket_tree mapping.now kind.now (map (tree.printer mapping.now) children.now) bucket.now) }
 {
-    let object = with_bucket(alloc, Object::new(alloc), kind, bucket)?;
-    Ok(with_answers(alloc, &bucket.children, children, object)?.into_json())
+    let object = with_bucket(alloc, mapping, Object::new(alloc), kind, bucket)?;
+    Ok(with_answers(alloc, mapping, &bucket.children, children, object)?.into_json())
 }
 
 /// Buckets as a list.
 #[cycle(answers)]
 fn bucket_list(
     alloc: Global,
+    mapping: &Mapping,
     buckets: &List<BucketAnswer>,
     kind: &Kind,
     children: &List<Agg>,
 ) -> Result<Json, AllocError>
     requires { flat_map (check_bucket (map checker children.now)) buckets.now ≡ [] }
     ensures { IfOk result (λ j. view j.value
-        ≡ array_of (map (bucket_tree kind.now (map tree.printer children.now)) buckets.now)) }
+        ≡ array_of (map (bucket_tree mapping.now kind.now (map (tree.printer mapping.now) children.now)) buckets.now)) }
 {
     let mut values = Array::new(alloc);
     for bucket in buckets.as_slice() {
-        values = values.with(bucket_value(alloc, bucket, kind, children)?)?;
+        values = values.with(bucket_value(alloc, mapping, bucket, kind, children)?)?;
     }
     Ok(values.into_json())
 }
@@ -176,6 +185,7 @@ fn bucket_list(
 #[cycle(answers)]
 fn keyed_buckets(
     alloc: Global,
+    mapping: &Mapping,
     buckets: &List<BucketAnswer>,
     kind: &Kind,
     children: &List<Agg>,
@@ -183,7 +193,7 @@ fn keyed_buckets(
     requires { flat_map (check_bucket (map checker children.now)) buckets.now ≡ [] }
     ensures { IfOk result (λ j. view j.value ≡ object_of (map (λ b. (
       tree.key_number (out-BucketAnswer b).key,
-      bucket_tree kind.now (map tree.printer children.now) b,
+      bucket_tree mapping.now kind.now (map (tree.printer mapping.now) children.now) b,
     )) buckets.now)) }
 {
     let mut object = Object::new(alloc);
@@ -192,7 +202,7 @@ fn keyed_buckets(
         object = object.with(
             alloc,
             name.as_str(),
-            bucket_value(alloc, bucket, kind, children)?,
+            bucket_value(alloc, mapping, bucket, kind, children)?,
         )?;
     }
     Ok(object.into_json())
@@ -202,6 +212,7 @@ fn keyed_buckets(
 #[cycle(answers)]
 fn named_buckets(
     alloc: Global,
+    mapping: &Mapping,
     buckets: &List<BucketAnswer>,
     names: &List<Text>,
     other: &Option<Text>,
@@ -211,7 +222,7 @@ fn named_buckets(
     requires { flat_map (check_bucket (map checker children.now)) buckets.now ≡ [] }
     ensures { IfOk result (λ j. view j.value ≡ object_of (map (λ b. (
       b.0,
-      bucket_tree kind.now (map tree.printer children.now) b.1,
+      bucket_tree mapping.now kind.now (map (tree.printer mapping.now) children.now) b.1,
     )) (zip (names.now ++ option_to_list other.now) buckets.now))) }
 {
     let mut object = Object::new(alloc);
@@ -222,7 +233,7 @@ fn named_buckets(
         object = object.with(
             alloc,
             name.as_str(),
-            bucket_value(alloc, bucket, kind, children)?,
+            bucket_value(alloc, mapping, bucket, kind, children)?,
         )?;
     }
     Ok(object.into_json())
@@ -232,48 +243,61 @@ fn named_buckets(
 #[cycle(answers)]
 fn single_bucket(
     alloc: Global,
+    mapping: &Mapping,
     buckets: &List<BucketAnswer>,
     kind: &Kind,
     children: &List<Agg>,
 ) -> Result<Json, AllocError>
     requires { flat_map (check_bucket (map checker children.now)) buckets.now ≡ [] }
     ensures { IfOk result (λ j. view j.value ≡ object_of (flat_map (λ b.
-        tree.bucket_members (map tree.printer children.now) (own_members kind.now b) b) buckets.now)) }
+        tree.bucket_members (map (tree.printer mapping.now) children.now) (own_members mapping.now kind.now b) b) buckets.now)) }
 {
     let mut object = Object::new(alloc);
     for bucket in buckets.as_slice() {
-        object = with_bucket(alloc, object, kind, bucket)?;
-        object = with_answers(alloc, &bucket.children, children, object)?;
+        object = with_bucket(alloc, mapping, object, kind, bucket)?;
+        object = with_answers(alloc, mapping, &bucket.children, children, object)?;
     }
     Ok(object.into_json())
 }
 
 /// The answer to one aggregation.
 #[cycle(answers)]
-fn answer_value(alloc: Global, node: &NodeAnswer, agg: &Agg) -> Result<Json, AllocError>
+fn answer_value(
+    alloc: Global,
+    mapping: &Mapping,
+    node: &NodeAnswer,
+    agg: &Agg,
+) -> Result<Json, AllocError>
     requires { checker agg.now node.now ≡ [] }
-    ensures { IfOk result (λ j. view j.value ≡ tree.printer agg.now node.now) }
+    ensures { IfOk result (λ j. view j.value ≡ tree.printer mapping.now agg.now node.now) }
 {
     match &agg.kind {
         Kind::Terms { .. } => {
-            let buckets = bucket_list(alloc, &node.buckets, &agg.kind, &agg.children)?;
+            let buckets = bucket_list(alloc, mapping, &node.buckets, &agg.kind, &agg.children)?;
             terms_object(alloc, node, buckets)
         }
         Kind::Histogram { keyed, .. } => {
             if *keyed {
-                let named = keyed_buckets(alloc, &node.buckets, &agg.kind, &agg.children)?;
+                let named = keyed_buckets(alloc, mapping, &node.buckets, &agg.kind, &agg.children)?;
                 return only(alloc, "buckets", named);
             }
-            let listed = bucket_list(alloc, &node.buckets, &agg.kind, &agg.children)?;
+            let listed = bucket_list(alloc, mapping, &node.buckets, &agg.kind, &agg.children)?;
             only(alloc, "buckets", listed)
         }
         Kind::Filters { names, other, .. } => {
             let Some(names) = names else {
-                let anonymous = bucket_list(alloc, &node.buckets, &agg.kind, &agg.children)?;
+                let anonymous = bucket_list(
+                    alloc,
+                    mapping,
+                    &node.buckets,
+                    &agg.kind,
+                    &agg.children,
+                )?;
                 return only(alloc, "buckets", anonymous);
             };
             let filtered = named_buckets(
                 alloc,
+                mapping,
                 &node.buckets,
                 names,
                 other,
@@ -283,7 +307,7 @@ fn answer_value(alloc: Global, node: &NodeAnswer, agg: &Agg) -> Result<Json, All
             only(alloc, "buckets", filtered)
         }
         Kind::Composite { sources, .. } => {
-            let page = bucket_list(alloc, &node.buckets, &agg.kind, &agg.children)?;
+            let page = bucket_list(alloc, mapping, &node.buckets, &agg.kind, &agg.children)?;
             composite_object(alloc, sources, &node.buckets, page)
         }
         Kind::Sum { .. } => sum_object(alloc, node.metric),
@@ -291,12 +315,18 @@ fn answer_value(alloc: Global, node: &NodeAnswer, agg: &Agg) -> Result<Json, All
         Kind::Max { .. } => only(alloc, "value", optional_value(node.metric.greatest)),
         Kind::Avg { .. } => average_object(alloc, node.metric),
         Kind::ValueCount { .. } => only(alloc, "value", count_value(node.metric.count)),
-        Kind::Filter { .. } => single_bucket(alloc, &node.buckets, &agg.kind, &agg.children),
-        Kind::Missing { .. } => single_bucket(alloc, &node.buckets, &agg.kind, &agg.children),
-        Kind::Global => single_bucket(alloc, &node.buckets, &agg.kind, &agg.children),
-        Kind::Nested { .. } => single_bucket(alloc, &node.buckets, &agg.kind, &agg.children),
+        Kind::Filter { .. } => {
+            single_bucket(alloc, mapping, &node.buckets, &agg.kind, &agg.children)
+        }
+        Kind::Missing { .. } => {
+            single_bucket(alloc, mapping, &node.buckets, &agg.kind, &agg.children)
+        }
+        Kind::Global => single_bucket(alloc, mapping, &node.buckets, &agg.kind, &agg.children),
+        Kind::Nested { .. } => {
+            single_bucket(alloc, mapping, &node.buckets, &agg.kind, &agg.children)
+        }
         Kind::ReverseNested { .. } => {
-            single_bucket(alloc, &node.buckets, &agg.kind, &agg.children)
+            single_bucket(alloc, mapping, &node.buckets, &agg.kind, &agg.children)
         }
     }
 }

@@ -8,10 +8,10 @@ ghost use Rattle.agg_spec.specs.Json.{with_members, count};
 ghost use Rattle.agg_spec.specs.RangeCheck.{key_in_range};
 ghost use Rattle.agg_response.specs.Buckets as tree;
 
-use crate::keys::{composite_value, with_term_key};
+use crate::keys::{composite_value, is_dated, with_term_key};
 use crate::numbers::integer_value;
 use crate::values::Object;
-use agg_model::{BucketAnswer, Kind};
+use agg_model::{BucketAnswer, Kind, Mapping};
 use std::alloc::{AllocError, Global};
 
 /// The object with the error of a bucket, where it is to be shown and is known.
@@ -35,20 +35,25 @@ fn with_error(
 /// The object with the members that a bucket has of its kind.
 fn with_own(
     alloc: Global,
+    mapping: &Mapping,
     object: Object,
     kind: &Kind,
     bucket: &BucketAnswer,
 ) -> Result<Object, AllocError>
     requires { IsTrue (key_in_range (out-BucketAnswer bucket.now).key) }
     ensures { IfOk result (λ o. members_view o.members.entries
-        ≡ with_members (tree.own_members kind.now bucket.now) (members_view object.members.entries)) }
+        ≡ with_members (tree.own_members mapping.now kind.now bucket.now) (members_view object.members.entries)) }
 {
     match kind {
-        Kind::Terms { show_error, .. } => {
-            let keyed = with_term_key(alloc, object, &bucket.key)?;
+        Kind::Terms {
+            field,
+            show_error,
+            ..
+        } => {
+            let keyed = with_term_key(alloc, object, is_dated(mapping, *field), &bucket.key)?;
             with_error(alloc, keyed, *show_error, bucket.error)
         }
-        Kind::Histogram { .. } => with_term_key(alloc, object, &bucket.key),
+        Kind::Histogram { .. } => with_term_key(alloc, object, false, &bucket.key),
         Kind::Composite { sources, .. } => {
             let key = composite_value(alloc, sources, &bucket.key)?;
             object.with(alloc, "key", key)
@@ -60,15 +65,16 @@ fn with_own(
 /// The object with all members of a bucket but the answers below it.
 pub(crate) fn with_bucket(
     alloc: Global,
+    mapping: &Mapping,
     object: Object,
     kind: &Kind,
     bucket: &BucketAnswer,
 ) -> Result<Object, AllocError>
     requires { IsTrue (key_in_range (out-BucketAnswer bucket.now).key) }
     ensures { IfOk result (λ o. members_view o.members.entries
-        ≡ with_members ((codes "doc_count", count (out-BucketAnswer bucket.now).count) ∷ tree.own_members kind.now bucket.now)
+        ≡ with_members ((codes "doc_count", count (out-BucketAnswer bucket.now).count) ∷ tree.own_members mapping.now kind.now bucket.now)
         (members_view object.members.entries)) }
 {
     let counted = object.with_count(alloc, "doc_count", bucket.count)?;
-    with_own(alloc, counted, kind, bucket)
+    with_own(alloc, mapping, counted, kind, bucket)
 }

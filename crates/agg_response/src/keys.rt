@@ -4,11 +4,13 @@ ghost use Rattle.std.specs.List.{list_all};
 ghost use Rattle.serde_json.specs.View.{view, members_view};
 ghost use Rattle.agg_spec.specs.AnswerTree as tree;
 ghost use Rattle.agg_spec.specs.Json.{with_members};
-ghost use Rattle.agg_spec.specs.RangeCheck.{key_in_range};
+ghost use Rattle.agg_spec.specs.RangeCheck.{is_in_range, key_in_range};
 
 use crate::numbers::{null_value, wide_value};
 use crate::values::{Json, Object, flag_value, text_value};
-use agg_model::{CompositeSource, Key, List};
+use agg_model::{CompositeSource, FieldKind, Key, List, Mapping};
+use date_spec::{GREATEST_INSTANT, LEAST_INSTANT};
+use date_text::print;
 use std::alloc::{AllocError, Global};
 
 /// The text of a truth value.
@@ -18,14 +20,61 @@ fn flag_text(flag: bool) -> &'static str
     if flag { "true" } else { "false" }
 }
 
-/// The object with the key of a bucket of terms; a truth value has a number and a text.
-pub(crate) fn with_term_key(alloc: Global, object: Object, key: &Key) -> Result<Object, AllocError>
+/// Whether a field of the mapping is one of dates.
+pub(crate) fn is_dated(mapping: &Mapping, field: u32) -> bool
+    ensures { result ≡ tree.is_dated mapping.now field }
+{
+    match mapping.fields.get(field as usize) {
+        Some(found) => match found.kind {
+            FieldKind::Date => true,
+            FieldKind::Long
+            | FieldKind::Integer
+            | FieldKind::Short
+            | FieldKind::Byte
+            | FieldKind::Keyword
+            | FieldKind::Boolean => false,
+        },
+        None => false,
+    }
+}
+
+/// An instant as it is printed; beyond the range of dates its number.
+fn instant_text(alloc: Global, n: i128) -> Result<String, AllocError>
+    ensures { IfOk result (λ s. string_bytes s ≡ tree.instant_text n) }
+{
+    if i128::from(LEAST_INSTANT) <= n && n <= i128::from(GREATEST_INSTANT) {
+        print(alloc, n as i64, "Z")
+    } else {
+        format!(in alloc; "{n}")
+    }
+}
+
+/// The object with a number as its key, and where that is a date with its text.
+fn with_number(alloc: Global, object: Object, dated: bool, n: i128) -> Result<Object, AllocError>
+    requires { IsTrue (is_in_range n) }
+    ensures { IfOk result (λ o. members_view o.members.entries
+        ≡ with_members (tree.number_members dated n) (members_view object.members.entries)) }
+{
+    let keyed = object.with(alloc, "key", wide_value(n))?;
+    if dated {
+        return keyed.with_text(alloc, "key_as_string", instant_text(alloc, n)?.as_str());
+    }
+    Ok(keyed)
+}
+
+/// The object with the key of a bucket, whose whole numbers are dates or not; a date and a truth value have a number and a text.
+pub(crate) fn with_term_key(
+    alloc: Global,
+    object: Object,
+    dated: bool,
+    key: &Key,
+) -> Result<Object, AllocError>
     requires { IsTrue (key_in_range key.now) }
     ensures { IfOk result (λ o. members_view o.members.entries
-        ≡ with_members (tree.term_members key.now) (members_view object.members.entries)) }
+        ≡ with_members (tree.term_members dated key.now) (members_view object.members.entries)) }
 {
     match key {
-        Key::Whole(n) => object.with(alloc, "key", wide_value(*n)),
+        Key::Whole(n) => with_number(alloc, object, dated, *n),
         Key::Word(word) => object.with_text(alloc, "key", word.as_str()),
         Key::Flag(flag) => object
             .with_count(alloc, "key", u64::from(*flag))?

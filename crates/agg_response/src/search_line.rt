@@ -52,16 +52,18 @@ fn with_aggregations(
     alloc: Global,
     object: Object,
     search: &Search,
+    mapping: &Mapping,
     answer: &Answer,
 ) -> Result<Object, AllocError>
     requires { out_of_range search.now answer.now ≡ None }
     ensures { IfOk result (λ o. members_view o.members.entries
-        ≡ with_members (definition.aggregations search.now.aggs answer.now.nodes) (members_view object.members.entries)) }
+        ≡ with_members (definition.aggregations mapping.now search.now.aggs answer.now.nodes) (members_view object.members.entries)) }
 {
     if search.aggs.is_empty() {
         return Ok(object);
     }
-    let answers = with_answers(alloc, &answer.nodes, &search.aggs, Object::new(alloc))?;
+    let empty = Object::new(alloc);
+    let answers = with_answers(alloc, mapping, &answer.nodes, &search.aggs, empty)?;
     object.with(alloc, "aggregations", answers.into_json())
 }
 
@@ -85,18 +87,18 @@ fn finished(alloc: Global, members: Object, hits: Json) -> Result<Text, AllocErr
 pub fn response(
     alloc: Global,
     search: &Search,
-    _mapping: &Mapping,
+    mapping: &Mapping,
     answer: &Answer,
     shards: u32,
     failures: &List<Failure>,
 ) -> Result<Text, AllocError>
     requires in_range { out_of_range search.now answer.now ≡ None }
     requires few { length failures.now ≤ shards }
-    ensures { IfOk result (λ t. t ≡ definition.response_line search.now _mapping.now answer.now shards failures.now) }
+    ensures { IfOk result (λ t. t ≡ definition.response_line search.now mapping.now answer.now shards failures.now) }
 {
     let told = shards_value(alloc, shards, failures)?;
     let opened = Object::new(alloc).with(alloc, "_shards", told)?;
-    let answered = with_aggregations(alloc, opened, search, answer)?;
+    let answered = with_aggregations(alloc, opened, search, mapping, answer)?;
     let hits = hits_value(alloc, answer.hits)?;
     finished(alloc, answered, hits)
 }

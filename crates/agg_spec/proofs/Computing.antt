@@ -19,6 +19,6 @@ unfolding
     Rattle.agg_model.specs.declared.answer.BucketAnswer.TheViews.out-NodeAnswer Rattle.agg_model.specs.declared.answer.BucketAnswer.TheViews.out-BucketAnswer
     Rattle.agg_model.specs.declared.answer.BucketAnswer.TheBlock.shown-the_row-BucketAnswer-1
     Rattle.agg_reading.specs.Entries.entries Rattle.agg_reading.specs.Entries.body_of Rattle.agg_reading.specs.Entries.header_members Rattle.agg_reading.specs.SettingsLines.scope_of
-    digits serde_json_on_literals
+    digits serde_json_on_literals Rattle.date_spec.proofs.Computing.computing
     denote.Hole.Carrier.out denote.Hole.Carrier.roll denote.Hole.Carrier.shown denote.Hole.Carrier.hidden
 computing = tt

@@ -1,6 +1,7 @@
 mod CompositeExamples
 pub mod Computing
 mod CountExamples
+mod DateExamples
 mod FilterExamples
 mod HistogramExamples
 mod LineExamples

@@ -69,6 +69,14 @@ items_index rows = record {
   shards = shard_rows (map (λ r. (codes "1", r)) rows) ∷ [];
 }
 
+-- an index `i` whose one field is d, of dates, with one document for each of these
+abbrev pub dates_index : List ℤ → Index
+dates_index dates = record {
+  name = codes "i";
+  mapping = mapping (field (codes "d") type.Date 0 ∷ []) [];
+  shards = shard_rows (map (λ d. (codes "1", row (record { field = 0; values = scalar.Whole d ∷ [] } ∷ []))) dates) ∷ [];
+}
+
 -- a nested object with this value of `items.s`
 abbrev pub item : List ℕ → Row
 item s = row (record { field = 0; values = scalar.Word s ∷ [] } ∷ [])
@@ -90,7 +98,7 @@ search_of query aggs = record { query = query; aggs = aggs; body_bytes = 0; part
 
 -- the text of the member `aggregations` of the response
 abbrev pub aggregations_text : Index → Search → List ℕ
-aggregations_text index search = compact_text (object_of (named_answers (map printer search.aggs) (answer_of index search (shard_numbers index)).nodes))
+aggregations_text index search = compact_text (object_of (named_answers (map (printer index.mapping) search.aggs) (answer_of index search (shard_numbers index)).nodes))
 
 abbrev pub default_limits : Limits
 default_limits = record { request = 644245094; fielddata = 429496729; inflight = 1073741824; parent = 751619276 }

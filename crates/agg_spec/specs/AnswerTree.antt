@@ -4,6 +4,11 @@ use Rattle.std.specs.List.{last_or}
 use Rattle.std.specs.Option.{option_map_or}
 use Rattle.std.specs.Fmt.{signed_decimal}
 use Rattle.serde_json.specs.Data.{Data, null, boolean, string}
+use Rattle.date_spec.specs.Instants.{is_in_range}
+use Rattle.date_spec.specs.DateTexts.{printed}
+use Rattle.agg_model.specs.declared.mapping.Mapping.{Mapping}
+use Rattle.agg_model.specs.FieldKinds.{is_date_kind}
+use Rattle.agg_evaluation.specs.QueryFits.{field_is}
 use Rattle.agg_model.specs.declared.key.Key.{Key, out-Key}
 use Rattle.agg_model.specs.declared.key.Key.TheOpen.{Key-F}
 use Rattle.agg_model.specs.declared.key.Key.TheVariants as key
@@ -12,8 +17,7 @@ use Rattle.agg_model.specs.declared.answer.NodeAnswer.{NodeAnswer, out-NodeAnswe
 use Rattle.agg_model.specs.declared.answer.BucketAnswer.TheOpen.{NodeAnswer-F}
 use Rattle.agg_model.specs.declared.aggregation.Kind.{Kind}
 use Rattle.agg_model.specs.declared.partial.Metric.{Metric}
-use Rattle.agg_model.specs.declared.aggregation.Kind.TheVariants as kind
-use Rattle.agg_model.specs.Options.{Options, options_of}
+use Rattle.agg_model.specs.Options.{Options, Measure, options_of}
 use Rattle.agg_model.specs.declared.aggregation.CompositeSource.{CompositeSource}
 use Rattle.agg_model.specs.declared.aggregation.Agg.{Agg}
 use Rattle.agg_evaluation.specs.Folds.{fold_agg}
@@ -33,12 +37,27 @@ named_answers (p ∷ ps) (n ∷ ns) = ((out-NodeAnswer n).name, p n) ∷ named_a
 abbrev pub flag_text : Bool → List ℕ
 flag_text b = if b then codes "true" else codes "false"
 
--- the key of a bucket of terms; a truth value has a number and a text
-abbrev pub term_members : Key → List Member
-term_members (key.Whole n) = (codes "key", whole_number n) ∷ []
-term_members (key.Word w) = (codes "key", string w) ∷ []
-term_members (key.Flag b) = (codes "key", count (if b then 1 else 0)) ∷ (codes "key_as_string", string (flag_text b)) ∷ []
-term_members _ = (codes "key", null) ∷ []
+-- an instant as it is printed ('key_as_string'); beyond the range of dates its number
+abbrev pub instant_text : ℤ → List ℕ
+instant_text n = if is_in_range n then printed n else signed_decimal n
+
+-- a date has a number and a text
+abbrev pub number_members : Bool → ℤ → List Member
+number_members false n = (codes "key", whole_number n) ∷ []
+number_members true n = (codes "key", whole_number n) ∷ (codes "key_as_string", string (instant_text n)) ∷ []
+
+-- the key of a bucket, whose whole numbers are dates or not; a truth value has a number and a text
+abbrev pub term_members : Bool → Key → List Member
+term_members dated key.Null = (codes "key", null) ∷ []
+term_members dated (key.Whole n) = number_members dated n
+term_members dated (key.Flag b) = (codes "key", count (if b then 1 else 0)) ∷ (codes "key_as_string", string (flag_text b)) ∷ []
+term_members dated (key.Word w) = (codes "key", string w) ∷ []
+term_members dated (key.Fixed n) = (codes "key", null) ∷ []
+term_members dated (key.Many' n parts) = (codes "key", null) ∷ []
+
+-- the field is one of dates
+abbrev pub is_dated : Mapping → ℕ → Bool
+is_dated m field = field_is m is_date_kind field
 
 -- the error of a bucket's count, where it is shown
 abbrev pub error_members : Bool → Option ℤ → List Member
@@ -47,19 +66,29 @@ error_members _ _ = []
 
 -- the name of a keyed bucket of a histogram
 abbrev pub key_number : Key → List ℕ
+key_number key.Null = []
 key_number (key.Whole n) = signed_decimal n
-key_number _ = []
+key_number (key.Flag b) = []
+key_number (key.Word w) = []
+key_number (key.Fixed n) = []
+key_number (key.Many' n parts) = []
 
 -- one part of a composite key
 abbrev pub part_value : Key → Data
+part_value key.Null = null
 part_value (key.Whole n) = whole_number n
-part_value (key.Word w) = string w
 part_value (key.Flag b) = boolean b
-part_value _ = null
+part_value (key.Word w) = string w
+part_value (key.Fixed n) = null
+part_value (key.Many' n parts) = null
 
 abbrev pub named_parts : List CompositeSource → Key-F Key → List Member
+named_parts sources Key-F.Null = []
+named_parts sources (Key-F.Whole n) = []
+named_parts sources (Key-F.Flag b) = []
+named_parts sources (Key-F.Word w) = []
+named_parts sources (Key-F.Fixed n) = []
 named_parts sources (Key-F.Many ks) = map (λ p. (p.0.name, part_value p.1)) (zip sources ks)
-named_parts sources _ = []
 
 -- a composite key, each part under the name of its source
 abbrev pub composite_value : List CompositeSource → Key → Data
@@ -69,12 +98,12 @@ composite_value sources k = object_of (named_parts sources (out-Key k))
 abbrev pub bucket_members : List Printer → List Member → BucketAnswer → List Member
 bucket_members children own b = (codes "doc_count", count (out-BucketAnswer b).count) ∷ (own ++ named_answers children (out-BucketAnswer b).children)
 
-abbrev pub term_bucket : List Printer → Bool → BucketAnswer → Data
-term_bucket children show_error b =
-    object_of (bucket_members children (term_members (out-BucketAnswer b).key ++ error_members show_error (out-BucketAnswer b).error) b)
+abbrev pub term_bucket : List Printer → Bool → Bool → BucketAnswer → Data
+term_bucket children dated show_error b =
+    object_of (bucket_members children (term_members dated (out-BucketAnswer b).key ++ error_members show_error (out-BucketAnswer b).error) b)
 
 abbrev pub number_bucket : List Printer → BucketAnswer → Data
-number_bucket children b = object_of (bucket_members children (term_members (out-BucketAnswer b).key) b)
+number_bucket children b = object_of (bucket_members children (term_members false (out-BucketAnswer b).key) b)
 
 abbrev pub plain_bucket : List Printer → BucketAnswer → Data
 plain_bucket children b = object_of (bucket_members children [] b)
@@ -98,28 +127,36 @@ histogram_buckets children false buckets = array_of (map (number_bucket children
 abbrev pub value_of : Option ℤ → Data
 value_of = λ n. option_map_or whole_number n null
 
--- what a metric of this kind shows
-abbrev pub metric_tree : Kind → Metric → Data
-metric_tree (kind.Sum field missing) m = object_of ((codes "value", whole_number m.sum) ∷ [])
-metric_tree (kind.Min field missing) m = object_of ((codes "value", value_of m.least) ∷ [])
-metric_tree (kind.Max field missing) m = object_of ((codes "value", value_of m.greatest) ∷ [])
-metric_tree (kind.Avg field missing) m = object_of (
+-- what a metric shows
+abbrev pub metric_tree : Measure → Metric → Data
+metric_tree Measure.sum m = object_of ((codes "value", whole_number m.sum) ∷ [])
+metric_tree Measure.least m = object_of ((codes "value", value_of m.least) ∷ [])
+metric_tree Measure.greatest m = object_of ((codes "value", value_of m.greatest) ∷ [])
+metric_tree Measure.average m = object_of (
     (codes "count", count m.count) ∷ (codes "sum", whole_number m.sum) ∷ (codes "value_as_string", average m.sum m.count) ∷ [])
-metric_tree _ m = object_of ((codes "value", count m.count) ∷ [])
+metric_tree Measure.value_count m = object_of ((codes "value", count m.count) ∷ [])
 
-abbrev pub tree_at : List Printer → Kind → NodeAnswer-F BucketAnswer NodeAnswer → Data
-tree_at children k n = elim (options_of k) [
+-- the number of documents of the one bucket, and the answers below it
+abbrev pub single_tree : List Printer → List BucketAnswer → Data
+single_tree children buckets = object_of (flat_map (bucket_members children []) buckets)
+
+abbrev pub tree_at : Mapping → List Printer → Kind → NodeAnswer-F BucketAnswer NodeAnswer → Data
+tree_at m children k n = elim (options_of k) [
   | Options.Terms t ↦ object_of (
-      (codes "buckets", array_of (map (term_bucket children t.show_error) n.buckets))
+      (codes "buckets", array_of (map (term_bucket children (is_dated m t.field) t.show_error) n.buckets))
       ∷ (codes "doc_count_error_upper_bound", whole_number n.error)
       ∷ (codes "sum_other_doc_count", count n.other) ∷ [])
   | Options.Histogram h ↦ object_of ((codes "buckets", histogram_buckets children h.keyed n.buckets) ∷ [])
   | Options.Filters names filters other ↦ object_of ((codes "buckets", filter_buckets children names other n.buckets) ∷ [])
+  | Options.Filter query ↦ single_tree children n.buckets
+  | Options.Missing field ↦ single_tree children n.buckets
+  | Options.Global ↦ single_tree children n.buckets
+  | Options.Nested context ↦ single_tree children n.buckets
+  | Options.ReverseNested context ↦ single_tree children n.buckets
   | Options.Composite sources size after ↦
       object_of (after_key sources n.buckets ++ (codes "buckets", array_of (map (composite_bucket sources children) n.buckets)) ∷ [])
-  | Options.Metric m ↦ metric_tree k n.metric
-  | _ ↦ object_of (flat_map (bucket_members children []) n.buckets)
+  | Options.Metric o ↦ metric_tree o.measure n.metric
 ]
 
-abbrev pub printer : Agg → Printer
-printer = fold_agg (λ a n. tree_at a.children a.kind (out-NodeAnswer n))
+abbrev pub printer : Mapping → Agg → Printer
+printer m = fold_agg (λ a n. tree_at m a.children a.kind (out-NodeAnswer n))

@@ -85,7 +85,8 @@ with_rounds rounds recent = record recent { rounds = recent.rounds ++ rounds }
 -- an accepted settings line starts the statistics anew
 abbrev pub after_change : Changed → Recent → Recent
 after_change (accepted settings) recent = record { settings = settings; rounds = [] }
-after_change _ recent = recent
+after_change (refused name) recent = recent
+after_change (too_heavy t) recent = recent
 
 -- `words` are the settings of the program's words
 module _ (change : Change) (words : Settings) (index : Index) (columns : ℕ) where

@@ -1,10 +1,10 @@
 -- The number of buckets of an answer, which `search.max_buckets` limits ('Search settings').
-use Rattle.std.specs.Prelude.{ℕ, ◌+◌, ◌-◌, ◌^◌, min, List, [], ◌∷◌, map, length, sum}
+use Rattle.std.specs.Prelude.{ℕ, ◌+◌, ◌-◌, ◌^◌, min, true, false, List, [], ◌∷◌, map, length, sum}
 use Rattle.agg_model.specs.declared.answer.BucketAnswer.{out-BucketAnswer}
 use Rattle.agg_model.specs.declared.answer.NodeAnswer.{NodeAnswer, out-NodeAnswer}
 use Rattle.agg_model.specs.declared.answer.Answer.{Answer}
 use Rattle.agg_model.specs.declared.aggregation.Kind.{Kind}
-use Rattle.agg_model.specs.declared.aggregation.Kind.TheVariants as kind
+use Rattle.agg_evaluation.specs.Profile.{profile}
 use Rattle.agg_model.specs.declared.aggregation.Agg.{Agg}
 use Rattle.agg_model.specs.declared.aggregation.Search.{Search}
 use Rattle.agg_evaluation.specs.Folds.{fold_agg}
@@ -20,12 +20,7 @@ count_each (c ∷ cs) (n ∷ ns) = c n + count_each cs ns
 
 -- how many of the buckets are members of a `buckets`: the one bucket of a single-bucket aggregation is none
 abbrev pub member_count : {A : Type 0} → Kind → List A → ℕ
-member_count (kind.Filter query) buckets = 0
-member_count (kind.Missing field) buckets = 0
-member_count kind.Global buckets = 0
-member_count (kind.Nested context) buckets = 0
-member_count (kind.ReverseNested context) buckets = 0
-member_count _ buckets = length buckets
+member_count k buckets = elim (profile k).listed [ true ↦ length buckets | false ↦ 0 ]
 
 abbrev pub counter : Agg → Counter
 counter = fold_agg (λ a n.

@@ -11,7 +11,7 @@ use Rattle.agg_spec.specs.Solo.{idle, solo_run}
 use Rattle.agg_spec.specs.Wave.{wave_ceiling}
 use Rattle.agg_spec.specs.Statistics.{is_solo}
 use Rattle.agg_spec.specs.Answers.{Change, AreAnswered}
-use Rattle.agg_spec.specs.Output.{Script, answered, script_from, text_read}
+use Rattle.agg_spec.specs.Output.{Script, refused, too_heavy, answered, script_from, text_read}
 
 module _ (index : Index) (columns : ℕ) where
   -- each search is answered by the whole reduction, with no shard left out
@@ -32,11 +32,12 @@ module _ (index : Index) (columns : ℕ) where
   HasRoom round = elim (is_solo round.settings) [ true ↦ NoneTrips round | false ↦ WaveFits round ]
 
 abbrev pub ScriptFits : Change → Settings → Script → Type 0
+ScriptFits change words (refused r) = ⊥
+ScriptFits change words (too_heavy t) = ⊥
 ScriptFits change words (answered s) =
     (s.refused ≡ None) × ((rounds : List (List Round)) →
     AreAnswered change words s.index s.columns (IsPlain s.index s.columns) (record { settings = words; rounds = [] }) s.segments rounds →
     AllByRecursion (AllByRecursion (HasRoom s.index s.columns)) rounds)
-ScriptFits change words _ = ⊥
 
 -- The script is in the grammar, the columns are within their limits, and so is each round that is answered by the whole reduction.
 -- Then, where neither source nor sink fails, the run ends with all answers plain, or for want of memory.

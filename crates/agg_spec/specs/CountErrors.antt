@@ -1,6 +1,6 @@
 -- How far a count of terms may be too low ('Terms aggregation', document counts are approximate). By this engine's own rule a
 -- shard that returned as many terms as it was asked for may have left out as many documents as its last term has.
-use Rattle.std.specs.Prelude.{ℕ, ℤ, pos, negsuc, ◌-◌, nat_lt, Bool, true, if◌then◌else◌, List, [], ◌∷◌}
+use Rattle.std.specs.Prelude.{ℕ, ℤ, pos, negsuc, ◌-◌, nat_lt, Bool, true, false, if◌then◌else◌, List, [], ◌∷◌}
 use Rattle.agg_model.specs.declared.aggregation.Order.{Order}
 use Rattle.agg_model.specs.declared.aggregation.OrderBy.{OrderBy}
 use Rattle.agg_model.specs.declared.aggregation.OrderBy.TheVariants as by
@@ -12,9 +12,10 @@ pub data Precision : Type 0 where
   unknown : Precision
 
 abbrev pub precision_by : OrderBy → Bool → Precision
-precision_by by.Key descending = exact
 precision_by by.Count true = bounded
-precision_by _ _ = unknown
+precision_by by.Count false = unknown
+precision_by by.Key descending = exact
+precision_by (by.Child i) descending = unknown
 
 -- no order means by key
 abbrev pub precision_of : List Order → Precision

@@ -24,8 +24,10 @@ breaker_name Parent = codes "parent"
 
 -- whether a later try can help
 abbrev pub durability : Which → List ℕ
+durability Request = codes "TRANSIENT"
 durability Fielddata = codes "PERMANENT"
-durability _ = codes "TRANSIENT"
+durability Inflight = codes "TRANSIENT"
+durability Parent = codes "TRANSIENT"
 
 abbrev pub breaker_reason : Tripped → List ℕ → List ℕ
 breaker_reason t label =

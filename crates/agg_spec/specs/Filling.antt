@@ -4,7 +4,7 @@ use Rattle.std.specs.Prelude.{ℕ, ℤ, pos, ◌+ℤ◌, ◌-ℤ◌, ◌*ℤ◌,
 use Rattle.std.specs.List.{reduce, range_with_len}
 use Rattle.std.specs.Int.{int_min, int_max, int_div_euclid}
 use Rattle.agg_model.specs.declared.key.Key.{Key}
-use Rattle.agg_model.specs.declared.key.Key.TheVariants.{Whole}
+use Rattle.agg_model.specs.declared.key.Key.TheVariants.{Null, Whole, Flag, Word, Fixed, Many'}
 use Rattle.agg_model.specs.declared.partial.Bucket.{Bucket}
 use Rattle.agg_model.specs.declared.aggregation.Bounds.{Bounds}
 use Rattle.agg_evaluation.specs.KeyOrder.{key_eq}
@@ -12,8 +12,12 @@ use Rattle.agg_evaluation.specs.Orders.{bucket_key, bucket_count}
 use Rattle.agg_evaluation.specs.Keys.{interval_start, is_between}
 
 abbrev pub number_of_key : Key → Option ℤ
+number_of_key Null = None
 number_of_key (Whole n) = Some n
-number_of_key _ = None
+number_of_key (Flag b) = None
+number_of_key (Word w) = None
+number_of_key (Fixed n) = None
+number_of_key (Many' n parts) = None
 
 -- from the first number to the second in steps of the interval
 abbrev pub steps_between : ℕ → Option ℤ → Option ℤ → List ℤ

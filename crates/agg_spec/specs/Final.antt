@@ -10,7 +10,7 @@ use Rattle.agg_model.specs.declared.answer.BucketAnswer.{BucketAnswer, roll-Buck
 use Rattle.agg_model.specs.declared.answer.NodeAnswer.{NodeAnswer, roll-NodeAnswer}
 use Rattle.agg_model.specs.declared.answer.Answer.{Answer}
 use Rattle.agg_model.specs.declared.aggregation.Kind.{Kind}
-use Rattle.agg_model.specs.Options.{Options, options_of}
+use Rattle.agg_evaluation.specs.Profile.{Form, profile}
 use Rattle.agg_model.specs.declared.aggregation.Order.{Order}
 use Rattle.agg_model.specs.declared.aggregation.Agg.{Agg}
 use Rattle.agg_model.specs.declared.aggregation.Agg.TheOpen.{Agg-F}
@@ -68,15 +68,15 @@ abbrev pub empty_bucket : List Finisher → Key → Bucket
 empty_bucket children key = record { key = key; count = 0; covered = 0; children = map (λ c. c.whole []) children }
 
 abbrev pub finish_at : List ℕ → List Finisher → Kind → Parts → NodeAnswer
-finish_at name children k p = elim (options_of k) [
-  | Options.Terms t ↦ terms_answer name children t.size t.min_doc_count t.order p
-  | Options.Histogram h ↦
+finish_at name children k p = elim (profile k).form [
+  | Form.terms t ↦ terms_answer name children t.size t.min_doc_count t.order p
+  | Form.histogram h ↦
       buckets_answer name (map (finish_bucket children None) (sorted (bucket_cmp (map (λ c. c.kind) children) h.order)
       (filled (empty_bucket children) h.interval h.offset h.min_doc_count h.extended h.hard p.buckets)))
-  | Options.Composite sources size after ↦
+  | Form.pages sources size after ↦
       buckets_answer name (map (finish_bucket children None) (take size (sorted (λ a b. composite_cmp sources (bucket_key a) (bucket_key b)) p.buckets)))
-  | Options.Metric m ↦ metric_answer name p.metrics
-  | _ ↦ buckets_answer name (map (finish_bucket children None) p.buckets)
+  | Form.fixed ks ↦ buckets_answer name (map (finish_bucket children None) p.buckets)
+  | Form.number o ↦ metric_answer name p.metrics
 ]
 
 abbrev pub finisher_of : Agg-F Finisher → Finisher

@@ -8,7 +8,7 @@ use Rattle.agg_model.specs.declared.partial.Node.{Node}
 use Rattle.agg_model.specs.declared.partial.Partial.{Partial}
 use Rattle.agg_model.specs.declared.aggregation.Bounds.{Bounds}
 use Rattle.agg_model.specs.declared.aggregation.Kind.{Kind}
-use Rattle.agg_model.specs.Options.{Options, options_of}
+use Rattle.agg_evaluation.specs.Profile.{Form, profile}
 use Rattle.agg_model.specs.declared.aggregation.Agg.{Agg}
 use Rattle.agg_model.specs.declared.aggregation.Agg.TheOpen.{Agg-F}
 use Rattle.agg_model.specs.declared.aggregation.Search.{Search}
@@ -61,15 +61,16 @@ abbrev pub below_empty : List Plan → ℕ
 below_empty children = plan_each children (map (λ c. c.whole []) children)
 
 abbrev pub plan_at : List Plan → Kind → Parts → ℕ
-plan_at children k p = elim (options_of k) [
-  | Options.Terms t ↦ with_children children (take t.size (sorted (bucket_cmp (map (λ c. c.kind) children) t.order) (frequent t.min_doc_count p.buckets)))
-  | Options.Histogram h ↦
+plan_at children k p = elim (profile k).form [
+  | Form.terms t ↦ with_children children (take t.size (sorted (bucket_cmp (map (λ c. c.kind) children) t.order) (frequent t.min_doc_count p.buckets)))
+  | Form.histogram h ↦
       if h.min_doc_count == 0 then
       (let filled = filled_count h.interval h.offset h.extended h.hard (filter_map (λ b. number_of_key (bucket_key b)) p.buckets) in
       with_children children p.buckets + (filled - length p.buckets) * (1 + below_empty children))
       else with_children children (frequent h.min_doc_count p.buckets)
-  | Options.Composite sources size after ↦ with_children children (take size (sorted (λ a b. composite_cmp sources (bucket_key a) (bucket_key b)) p.buckets))
-  | _ ↦ member_count k p.buckets + sum (map (λ b. plan_each children b.children) p.buckets)
+  | Form.pages sources size after ↦ with_children children (take size (sorted (λ a b. composite_cmp sources (bucket_key a) (bucket_key b)) p.buckets))
+  | Form.fixed ks ↦ member_count k p.buckets + sum (map (λ b. plan_each children b.children) p.buckets)
+  | Form.number o ↦ member_count k p.buckets + sum (map (λ b. plan_each children b.children) p.buckets)
 ]
 
 abbrev pub plan_of : Agg-F Plan → Plan

@@ -79,12 +79,20 @@ outcome index max_buckets request failures = request_outcome index max_buckets r
 -- the search that tasks run for: none where the body is refused, or where the search is too wide
 abbrev pub running : Result Search Refused → Outcome → Option Search
 running (Err r) answer = None
+running (Ok search) (ended.Response line) = Some search
+running (Ok search) (ended.Refused refused.NotJson) = Some search
+running (Ok search) (ended.Refused (refused.Bad code path)) = Some search
+running (Ok search) (ended.Refused (refused.TooManyBuckets n max)) = Some search
+running (Ok search) (ended.Refused (refused.SumRange path)) = Some search
 running (Ok search) (ended.Refused refused.TooWide) = None
-running (Ok search) answer = Some search
+running (Ok search) (ended.Tripped t) = Some search
+running (Ok search) ended.Memory = Some search
 
 abbrev pub running_search : Index → ℕ → Request → Option Search
 running_search index max_buckets request = running request.search (outcome index max_buckets request [])
 
 abbrev pub response_length : Outcome → ℕ
 response_length (ended.Response line) = length line
-response_length _ = 0
+response_length (ended.Refused r) = 0
+response_length (ended.Tripped t) = 0
+response_length ended.Memory = 0

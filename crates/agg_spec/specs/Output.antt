@@ -74,13 +74,15 @@ module _ (change : Change) (words : Settings) where
 
   -- status 0: the input was read to its end
   abbrev pub At0 : Script → List Line → Type 0
+  At0 (refused r) written = ⊥
+  At0 (too_heavy t) written = ⊥
   At0 (answered s) written = EndsWell s written
-  At0 _ written = ⊥
 
   -- status 3: the source failed behind the lines of this script
   abbrev pub At3 : Script → List Line → Type 0
+  At3 (refused r) written = written ≡ []
+  At3 (too_heavy t) written = written ≡ []
   At3 (answered s) written = EndsEarly s [] written
-  At3 _ written = written ≡ []
 
   abbrev pub EndsRefused : LoadedScript → Option ScriptRefusal → List Line → Type 0
   EndsRefused s None written = ⊥
@@ -94,8 +96,9 @@ module _ (change : Change) (words : Settings) where
 
   -- status 6: the columns are beyond a limit
   abbrev pub At6 : Script → List Line → Type 0
+  At6 (refused r) written = ⊥
   At6 (too_heavy t) written = written ≡ error (exception_line t (codes "columns") 6 []) ∷ []
-  At6 _ written = ⊥
+  At6 (answered s) written = ⊥
 
 -- status 2: words outside the grammar end the run before anything is read
 abbrev pub At2 : Usage → List Line → Type 0

@@ -6,6 +6,7 @@ use Rattle.agg_model.specs.declared.answer.BucketAnswer.{out-BucketAnswer}
 use Rattle.agg_model.specs.declared.answer.NodeAnswer.{NodeAnswer, out-NodeAnswer}
 use Rattle.agg_model.specs.declared.aggregation.Kind.{Kind}
 use Rattle.agg_model.specs.declared.aggregation.Kind.TheVariants as kind
+use Rattle.agg_evaluation.specs.Profile.{Form, profile}
 use Rattle.agg_model.specs.declared.aggregation.Agg.{Agg, out-Agg, roll-Agg}
 use Rattle.agg_model.specs.declared.aggregation.Search.{Search}
 use Rattle.agg_model.specs.declared.outcome.Failure.{Failure}
@@ -17,8 +18,13 @@ use Rattle.agg_spec.specs.Failures.{unfailed}
 use Rattle.agg_spec.specs.Outcome.{Request, answer_of}
 
 abbrev pub is_composite : Kind → Bool
-is_composite (kind.Composite sources size after) = true
-is_composite _ = false
+is_composite k = elim (profile k).form [
+  | Form.terms t ↦ false
+  | Form.histogram h ↦ false
+  | Form.pages sources size after ↦ true
+  | Form.fixed ks ↦ false
+  | Form.number o ↦ false
+]
 
 -- whether the only aggregation at the top is a composite
 abbrev pub is_paged : List Agg → Bool
@@ -26,8 +32,13 @@ is_paged (a ∷ []) = is_composite (out-Agg a).kind
 is_paged _ = false
 
 abbrev pub kind_after : Key → Kind → Kind
-kind_after key (kind.Composite sources size after) = kind.Composite sources size (Some key)
-kind_after key k = k
+kind_after key k = elim (profile k).form [
+  | Form.terms t ↦ k
+  | Form.histogram h ↦ k
+  | Form.pages sources size after ↦ kind.Composite sources size (Some key)
+  | Form.fixed ks ↦ k
+  | Form.number o ↦ k
+]
 
 abbrev pub agg_after : Key → Agg → Agg
 agg_after key a = roll-Agg (record { name = (out-Agg a).name; kind = kind_after key (out-Agg a).kind; children = (out-Agg a).children })
@@ -54,4 +65,6 @@ request_after index shards bytes (Err r) = None
 -- bucket, or that is not answered.
 abbrev pub next_page : Index → Request → Outcome → List Failure → Option Request
 next_page index request (ended.Response line) failures = request_after index (unfailed index failures) request.bytes request.search
-next_page index request _ failures = None
+next_page index request (ended.Refused r) failures = None
+next_page index request (ended.Tripped t) failures = None
+next_page index request ended.Memory failures = None

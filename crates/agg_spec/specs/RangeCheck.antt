@@ -7,7 +7,8 @@ use Rattle.agg_model.specs.declared.answer.BucketAnswer.{BucketAnswer, out-Bucke
 use Rattle.agg_model.specs.declared.answer.NodeAnswer.{NodeAnswer, out-NodeAnswer}
 use Rattle.agg_model.specs.declared.answer.Answer.{Answer}
 use Rattle.agg_model.specs.declared.aggregation.Kind.{Kind}
-use Rattle.agg_model.specs.declared.aggregation.Kind.TheVariants as kind
+use Rattle.agg_model.specs.Options.{Measure}
+use Rattle.agg_evaluation.specs.Profile.{Form, profile}
 use Rattle.agg_model.specs.declared.aggregation.Agg.{Agg}
 use Rattle.agg_model.specs.declared.aggregation.Search.{Search}
 use Rattle.agg_evaluation.specs.Folds.{fold_agg, fold_key}
@@ -17,9 +18,12 @@ is_in_range n = int_le (pos 0 -ℤ pos (2 ^ 63)) n && int_lt n (pos (2 ^ 63))
 
 -- the numbers of a key; in a composite key those of its parts
 abbrev pub part_in_range : Key-F Bool → Bool
+part_in_range Key-F.Null = true
 part_in_range (Key-F.Whole n) = is_in_range n
+part_in_range (Key-F.Flag b) = true
+part_in_range (Key-F.Word w) = true
+part_in_range (Key-F.Fixed n) = true
 part_in_range (Key-F.Many parts) = list_all (λ b. b) parts
-part_in_range _ = true
 
 abbrev pub key_in_range : Key → Bool
 key_in_range = fold_key part_in_range
@@ -38,10 +42,21 @@ abbrev pub unless : Bool → List ℕ → List (List ℕ)
 unless holds path = if holds then [] else path ∷ []
 
 -- a sum prints under `sum` and `avg`
+abbrev pub measure_in_range : Measure → ℤ → Bool
+measure_in_range Measure.sum n = is_in_range n
+measure_in_range Measure.least n = true
+measure_in_range Measure.greatest n = true
+measure_in_range Measure.average n = is_in_range n
+measure_in_range Measure.value_count n = true
+
 abbrev pub sum_in_range : Kind → ℤ → Bool
-sum_in_range (kind.Sum field missing) n = is_in_range n
-sum_in_range (kind.Avg field missing) n = is_in_range n
-sum_in_range _ n = true
+sum_in_range k n = elim (profile k).form [
+  | Form.terms t ↦ true
+  | Form.histogram h ↦ true
+  | Form.pages sources size after ↦ true
+  | Form.fixed ks ↦ true
+  | Form.number o ↦ measure_in_range o.measure n
+]
 
 abbrev pub check_bucket : List Checker → BucketAnswer → List (List ℕ)
 check_bucket children b = unless (key_in_range (out-BucketAnswer b).key) [] ++ check_each children (out-BucketAnswer b).children

@@ -26,8 +26,9 @@ loaded_index l = record {
 
 -- the refusal of a body; its reading answers no other fault
 abbrev pub refusal_of_fault : RequestFault → Refused
+refusal_of_fault fault.NotJson = refused.NotJson
 refusal_of_fault (fault.Bad code path) = refused.Bad code path
-refusal_of_fault _ = refused.NotJson
+refusal_of_fault fault.Memory = refused.NotJson
 
 abbrev pub or_refused : Result Search RequestFault → Result Search Refused
 or_refused (Ok search) = Ok search

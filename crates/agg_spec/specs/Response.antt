@@ -13,9 +13,9 @@ use Rattle.agg_spec.specs.AnswerTree.{printer, named_answers}
 use Rattle.agg_spec.specs.ErrorLines.{failures_member}
 
 -- absent where the search has no aggregation
-abbrev pub aggregations : List Agg → List NodeAnswer → List Member
-aggregations [] nodes = []
-aggregations (a ∷ rest) nodes = (codes "aggregations", object_of (named_answers (map printer (a ∷ rest)) nodes)) ∷ []
+abbrev pub aggregations : Mapping → List Agg → List NodeAnswer → List Member
+aggregations m [] nodes = []
+aggregations m (a ∷ rest) nodes = (codes "aggregations", object_of (named_answers (map (printer m) (a ∷ rest)) nodes)) ∷ []
 
 -- how many shards there are, how many failed, and why
 abbrev pub shards_member : ℕ → List Failure → Member
@@ -37,12 +37,13 @@ hits_member hits = (
       ∷ (codes "total", object_of ((codes "relation", string (codes "eq")) ∷ (codes "value", count hits) ∷ [])) ∷ []),
 )
 
-abbrev pub response : Search → Answer → ℕ → List Failure → Data
-response search answer shards failures = object_of (
+-- dates are printed by the mapping
+abbrev pub response : Search → Mapping → Answer → ℕ → List Failure → Data
+response search mapping answer shards failures = object_of (
     shards_member shards failures
-    ∷ (aggregations search.aggs answer.nodes
+    ∷ (aggregations mapping search.aggs answer.nodes
     ++ hits_member answer.hits ∷ (codes "status", count 200) ∷ (codes "timed_out", boolean false) ∷ (codes "took", count 0) ∷ []))
 
--- The line of an answer over so many shards, of which some failed. No key or value prints by the mapping yet.
+-- the line of an answer over so many shards, of which some failed
 abbrev pub response_line : Search → Mapping → Answer → ℕ → List Failure → List ℕ
-response_line search mapping answer shards failures = compact_text (response search answer shards failures)
+response_line search mapping answer shards failures = compact_text (response search mapping answer shards failures)

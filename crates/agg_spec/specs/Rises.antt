@@ -43,8 +43,11 @@ sum_of_amounts (a ∷ rest) = amounts_sum a (sum_of_amounts rest)
 
 -- an exception, unless it repeats the first failure because no shard was left
 abbrev pub exception_trips : List ℕ → Outcome → Amounts
+exception_trips [] answer = no_amounts
+exception_trips (shard ∷ left) (ended.Response line) = no_amounts
+exception_trips (shard ∷ left) (ended.Refused r) = no_amounts
 exception_trips (shard ∷ left) (ended.Tripped t) = one_at t.which
-exception_trips _ _ = no_amounts
+exception_trips (shard ∷ left) ended.Memory = no_amounts
 
 -- the refusals that an answer tells of
 abbrev pub told_trips : Index → Answered → Amounts

@@ -1,5 +1,5 @@
 -- A round: searches that are answered together, side by side or as the pages of a scan one by one ('Multi search API').
-use Rattle.std.specs.Prelude.{ℕ, ◌*◌, Bool, true, false, List, [], sum_by}
+use Rattle.std.specs.Prelude.{ℕ, ◌*◌, Bool, true, false, List, [], ◌∷◌, sum_by}
 use Rattle.std.specs.List.{list_all}
 use Rattle.agg_model.specs.declared.settings.Settings.{Settings}
 use Rattle.agg_model.specs.declared.outcome.Failure.{Failure}
@@ -22,8 +22,11 @@ plain_answer index settings request = record { outcome = outcome index settings.
 -- an answer that tells of no refusal by a breaker
 abbrev pub is_quiet : Outcome → List Failure → Bool
 is_quiet (ended.Response line) [] = true
+is_quiet (ended.Response line) (f ∷ rest) = false
 is_quiet (ended.Refused r) [] = true
-is_quiet _ _ = false
+is_quiet (ended.Refused r) (f ∷ rest) = false
+is_quiet (ended.Tripped t) failures = false
+is_quiet ended.Memory failures = false
 
 abbrev pub all_quiet : List Answered → Bool
 all_quiet = list_all (λ a. is_quiet a.outcome a.failures)

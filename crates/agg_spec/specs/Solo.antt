@@ -20,7 +20,9 @@ columns_held columns = record no_amounts { fielddata = columns; parent = columns
 -- the response is charged last
 abbrev pub response_steps : Outcome → List Step
 response_steps (ended.Response line) = charge_of AtRequest (length line)
-response_steps _ = []
+response_steps (ended.Refused r) = []
+response_steps (ended.Tripped t) = []
+response_steps ended.Memory = []
 
 abbrev pub outcome_unless : Option Tripped → Outcome → Outcome
 outcome_unless None answer = answer

@@ -57,12 +57,17 @@ abbrev pub text_of : List Line → List ℕ
 text_of = flat_map (λ l. ended_line (line_text l))
 
 abbrev pub has_memory : Outcome → Bool
+has_memory (ended.Response line) = true
+has_memory (ended.Refused r) = true
+has_memory (ended.Tripped t) = true
 has_memory ended.Memory = false
-has_memory _ = true
 
 abbrev pub is_printed : Line → Bool
+is_printed (bulk text) = true
 is_printed (answer a) = has_memory a.outcome
-is_printed _ = true
+is_printed (settings c) = true
+is_printed (error text) = true
+is_printed (statistics t) = true
 
 -- no search among them wanted memory
 abbrev pub all_printed : List Line → Bool
@@ -92,11 +97,15 @@ pub record Told : Type 0 where
 abbrev pub status_of : Outcome → ℕ
 status_of (ended.Response line) = 200
 status_of (ended.Refused r) = 400
-status_of _ = 429
+status_of (ended.Tripped t) = 429
+status_of ended.Memory = 429
 
 abbrev pub told_at : ℕ → Line → List Told
+told_at n (bulk text) = []
 told_at n (answer a) = record { line = n; status = status_of a.outcome; bytes = length (answer_text a.outcome a.failures) } ∷ []
-told_at n _ = []
+told_at n (settings c) = []
+told_at n (error text) = []
+told_at n (statistics t) = []
 
 abbrev pub told_from : ℕ → List Line → List Told
 told_from n [] = []

@@ -12,8 +12,8 @@ use Rattle.agg_model.specs.declared.key.Key.TheOpen.{Key-F}
 use Rattle.agg_evaluation.specs.KeyOrder.{key_cmp, directed}
 use Rattle.agg_evaluation.specs.Orders.{parts_cmp, composite_cmp, composite_cmp_at}
 use Rattle.agg_evaluation.proofs.KeyCompare.{key_cmp_total}
-use Rattle.bucket_order.specs.Composites.{parts_at, key_parts, first_of, rest_of, part_cmp, any_parts_cmp}
-use Rattle.agg_evaluation.specs.CompositeKeys.{has_parts, is_composite_of}
+use Rattle.bucket_order.specs.Composites.{key_parts, first_of, rest_of, part_cmp, any_parts_cmp}
+use Rattle.agg_evaluation.specs.CompositeKeys.{has_parts, is_composite_of, key_parts_at}
 use Rattle.bucket_order.proofs.TotalLaws.{null_last, null_last_total, directed_total}
 
 part_is : (d : Bool) (x y : Option Key) → null_last (λ j k. directed d (key_cmp j k)) (directed_total key_cmp key_cmp_total d) x y ≡ part_cmp d x y
@@ -38,7 +38,7 @@ same_parts (s ∷ ss) [] ks e f = absurd (omega arith)
 same_parts (s ∷ ss) (j ∷ js) [] e f = absurd (omega arith)
 same_parts (s ∷ ss) (j ∷ js) (k ∷ ks) e f = ap (ordering_then (directed s.descending (key_cmp j k))) (same_parts ss js ks (omega arith) (omega arith))
 
-same_at : (sources : List CompositeSource) (j k : Key-F Key) → has_parts (length sources) j ≡ true → has_parts (length sources) k ≡ true → any_parts_cmp sources (parts_at j) (parts_at k) ≡ composite_cmp_at sources j k
+same_at : (sources : List CompositeSource) (j k : Key-F Key) → has_parts (length sources) j ≡ true → has_parts (length sources) k ≡ true → any_parts_cmp sources (key_parts_at j) (key_parts_at k) ≡ composite_cmp_at sources j k
 same_at sources Key-F.Null k e f = absurd (false≢true e)
 same_at sources (Key-F.Whole n) k e f = absurd (false≢true e)
 same_at sources (Key-F.Flag b) k e f = absurd (false≢true e)

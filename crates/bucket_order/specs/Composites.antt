@@ -5,15 +5,11 @@ use Rattle.std.specs.declared.cmp.Ordering.TheVariants.{Less, Equal, Greater}
 use Rattle.std.specs.Ordering.{ordering_then}
 use Rattle.agg_model.specs.declared.aggregation.CompositeSource.{CompositeSource}
 use Rattle.agg_model.specs.declared.key.Key.{Key, out-Key}
-use Rattle.agg_model.specs.declared.key.Key.TheOpen.{Key-F}
+use Rattle.agg_evaluation.specs.CompositeKeys.{key_parts_at}
 use Rattle.agg_evaluation.specs.KeyOrder.{key_cmp, directed}
 
-abbrev pub parts_at : Key-F Key → List Key
-parts_at (Key-F.Many parts) = parts
-parts_at _ = []
-
 abbrev pub key_parts : Key → List Key
-key_parts k = parts_at (out-Key k)
+key_parts k = key_parts_at (out-Key k)
 
 abbrev pub first_of : List Key → Option Key
 first_of [] = None

@@ -44,7 +44,16 @@ fn value_of(kind: &Kind, metric: &Metric) -> Option<i128>
         Kind::Min { .. } => metric.least.map(i128::from),
         Kind::Max { .. } => metric.greatest.map(i128::from),
         Kind::ValueCount { .. } => Some(i128::from(metric.count)),
-        _ => None,
+        Kind::Terms { .. }
+        | Kind::Histogram { .. }
+        | Kind::Filters { .. }
+        | Kind::Filter { .. }
+        | Kind::Missing { .. }
+        | Kind::Global
+        | Kind::Nested { .. }
+        | Kind::ReverseNested { .. }
+        | Kind::Composite { .. }
+        | Kind::Avg { .. } => None,
     }
 }
 
@@ -55,7 +64,7 @@ fn value_at(children: &List<Agg>, place: u32, bucket: &Bucket) -> Option<i128>
     let agg = children.get(place as usize)?;
     match bucket.children.get(place as usize)? {
         Node::Number(metric) => value_of(&agg.kind, metric),
-        _ => None,
+        Node::Keyed { .. } | Node::Fixed { .. } => None,
     }
 }
 

@@ -21,6 +21,7 @@ ghost use Rattle.shard_columns.specs.Made.{IsAggFor, IsSearchFor};
 use crate::phase::Phase;
 use crate::top_tree::{TopTree, begin, collect, finish};
 use agg_model::{Agg, List, Node, Search};
+use growing_tree::TableRoom;
 use shard_columns::Shard;
 use std::alloc::{AllocError, Global};
 
@@ -43,9 +44,10 @@ fn begin_trees(alloc: Global, shard: &Shard, aggs: &List<Agg>) -> Result<Vec<Top
     ensures ready { IfOk result (λ trees. AreTopsFor shard.now aggs.now trees.items) }
     ensures nodes { IfOk result (λ trees. AreNodes shard.now aggs.now (λ place a. empty_node a) trees.items) }
 {
+    let mut room = TableRoom::new();
     let mut trees = Vec::new(alloc);
     for place in 0..aggs.len() {
-        let tree = begin(alloc, shard, &aggs.as_slice()[place])?;
+        let tree = begin(alloc, shard, &aggs.as_slice()[place], &mut room)?;
         trees.push(tree)?;
     }
     Ok(trees)

@@ -20,7 +20,7 @@ ghost use Rattle.shard_columns.specs.Made.{IsAggFor};
 use crate::phase::{Phase, is_composite, is_global};
 use agg_model::{Agg, List, Node};
 use growing_page::{Page, finish_page, gather_root};
-use growing_tree::{Ready, Tree, count_each, gather_each};
+use growing_tree::{Ready, TableRoom, Tree, count_each, gather_each};
 use shard_columns::Shard;
 use std::alloc::{AllocError, Global};
 
@@ -46,8 +46,13 @@ fn begin_page(alloc: Global, shard: &Shard, agg: &Agg) -> Result<TopTree, AllocE
     Ok(TopTree::Page { children, page })
 }
 
-/// The tree over no root.
-pub(crate) fn begin(alloc: Global, shard: &Shard, agg: &Agg) -> Result<TopTree, AllocError>
+/// The tree over no root, whose tables take room of the task's.
+pub(crate) fn begin(
+    alloc: Global,
+    shard: &Shard,
+    agg: &Agg,
+    room: &mut TableRoom,
+) -> Result<TopTree, AllocError>
     requires built { IsShard shard.now }
     requires made { IsAggFor shard.now agg.now }
     ensures ready { IfOk result (IsTopFor shard.now agg.now) }
@@ -57,7 +62,7 @@ pub(crate) fn begin(alloc: Global, shard: &Shard, agg: &Agg) -> Result<TopTree, 
         let top = begin_page(alloc, shard, agg)?;
         return Ok(top);
     }
-    let ready = growing_tree::prepare(alloc, shard, agg)?;
+    let ready = growing_tree::prepare(alloc, shard, agg, room)?;
     let tree = growing_tree::begin(alloc, agg, &ready)?;
     Ok(TopTree::Tree { ready, tree })
 }

@@ -2,7 +2,7 @@
 use Rattle.std.proofs.Common.{◌≡◌, refl, ℕ, Bool, true, List, [], ◌∷◌, inl, inr, sym, ◌∙◌, ap}
 use Rattle.std.specs.List.{list_all}
 use Rattle.agg_model.specs.declared.mapping.FieldKind.{FieldKind}
-use Rattle.agg_model.specs.declared.mapping.FieldKind.TheVariants.{Long, Integer, Short, Byte, Keyword, Boolean}
+use Rattle.agg_model.specs.declared.mapping.FieldKind.TheVariants.{Long, Integer, Short, Byte, Keyword, Boolean, Date}
 use Rattle.agg_model.specs.declared.row.Scalar.{Scalar}
 use Rattle.agg_model.specs.declared.row.Scalar.TheVariants as scalar
 use Rattle.agg_evaluation.specs.Rows.{PlacedRow, values_of, row_of}
@@ -32,6 +32,9 @@ same_content Keyword (scalar.Flag b) = refl
 same_content Boolean (scalar.Whole n) = refl
 same_content Boolean (scalar.Word w) = refl
 same_content Boolean (scalar.Flag b) = refl
+same_content Date (scalar.Whole n) = refl
+same_content Date (scalar.Word w) = refl
+same_content Date (scalar.Flag b) = refl
 
 pub all_members : (p : Scalar → Bool) (vs : List Scalar) (v : Scalar) → list_all p vs ≡ true → In v vs → p v ≡ true
 all_members p [] v all is = absurd is
@@ -54,3 +57,4 @@ words_are_keywords Short e = absurd (cc e)
 words_are_keywords Byte e = absurd (cc e)
 words_are_keywords Keyword e = refl
 words_are_keywords Boolean e = absurd (cc e)
+words_are_keywords Date e = absurd (cc e)

@@ -10,9 +10,10 @@ use Rattle.std.proofs.lemmas.Bool.{false≢true, and_parts, and_from, ltb-true}
 use Rattle.std.proofs.lemmas.Bool.Decides.{nat_tests}
 use Rattle.std.proofs.lemmas.Int.{ints}
 use Rattle.agg_model.specs.FieldKinds.{fits_below}
+use Rattle.agg_model.proofs.InstantBits.{instant_in_64}
 use Rattle.agg_model.specs.declared.mapping.Field.{Field}
 use Rattle.agg_model.specs.declared.mapping.FieldKind.{FieldKind}
-use Rattle.agg_model.specs.declared.mapping.FieldKind.TheVariants.{Long, Integer, Short, Byte, Keyword, Boolean}
+use Rattle.agg_model.specs.declared.mapping.FieldKind.TheVariants.{Long, Integer, Short, Byte, Keyword, Boolean, Date}
 use Rattle.agg_model.specs.declared.mapping.Mapping.{Mapping}
 use Rattle.agg_model.specs.declared.row.Document.{Document}
 use Rattle.agg_model.specs.declared.row.FieldValues.{FieldValues}
@@ -47,6 +48,7 @@ value_fits Short z h = wider (2 ^ 15) (2 ^ 63) z (omega arith) h
 value_fits Byte z h = wider (2 ^ 7) (2 ^ 63) z (omega arith) h
 value_fits Keyword z h = absurd (false≢true h)
 value_fits Boolean z h = absurd (false≢true h)
+value_fits Date z h = instant_in_64 z h
 
 module _ (m : Mapping) (z : ℤ) where
   own_fits : (context field : ℕ) (vs : List Scalar) → is_own m context field vs ≡ true → In (Whole z) vs → fits_below (2 ^ 63) z ≡ true

@@ -5,13 +5,13 @@ use Rattle.std.specs.List.{list_any}
 use Rattle.std.specs.Ordering.{nat_cmp, int_cmp, is_lt, is_eq}
 use Rattle.std.specs.Cmp.Lexicographic.{slice_cmp}
 use Rattle.agg_model.specs.declared.mapping.FieldKind.{FieldKind}
-use Rattle.agg_model.specs.declared.mapping.FieldKind.TheVariants.{Keyword, Boolean}
 use Rattle.agg_model.specs.declared.row.Scalar.{Scalar}
 use Rattle.agg_model.specs.declared.row.Scalar.TheVariants as scalar
 use Rattle.agg_model.specs.declared.query.Probe.{Probe}
 use Rattle.agg_model.specs.declared.query.RangeOp.{RangeOp}
 use Rattle.agg_model.specs.declared.query.RangeOp.TheVariants.{Gt, Gte, Lt, Lte}
 use Rattle.agg_model.specs.declared.query.RangeTest.{RangeTest}
+use Rattle.agg_model.specs.FieldKinds.{ValueKind, value_kind}
 use Rattle.agg_evaluation.specs.KeyOrder.{key_eq}
 use Rattle.agg_model.specs.ValueKeys.{scalar_key, probe_key}
 use Rattle.agg_evaluation.specs.Matching.{allows, passes}
@@ -25,15 +25,18 @@ use Rattle.column_query.specs.declared.bounds.Bound.TheVariants as bound
 
 -- what a field of each kind holds
 abbrev pub content_of : FieldKind → Content
-content_of Keyword = content.Words
-content_of Boolean = content.Flags
-content_of _ = content.Wholes
+content_of kind = elim (value_kind kind) [ ValueKind.wholes half ↦ content.Wholes | ValueKind.words ↦ content.Words | ValueKind.flags ↦ content.Flags | ValueKind.dates ↦ content.Wholes ]
 
 abbrev pub is_content : Content → Scalar → Bool
+is_content content.Words (scalar.Whole n) = false
 is_content content.Words (scalar.Word w) = true
+is_content content.Words (scalar.Flag b) = false
+is_content content.Flags (scalar.Whole n) = false
+is_content content.Flags (scalar.Word w) = false
 is_content content.Flags (scalar.Flag b) = true
 is_content content.Wholes (scalar.Whole n) = true
-is_content _ _ = false
+is_content content.Wholes (scalar.Word w) = false
+is_content content.Wholes (scalar.Flag b) = false
 
 -- how many of the first words come before this one
 unfoldable pub place_among : Words → List ℕ → ℕ

@@ -20,9 +20,11 @@ fn of_kind(kind: FieldKind) -> Content
     match kind {
         FieldKind::Keyword => Content::Words,
         FieldKind::Boolean => Content::Flags,
-        FieldKind::Long | FieldKind::Integer | FieldKind::Short | FieldKind::Byte => {
-            Content::Wholes
-        }
+        FieldKind::Long
+        | FieldKind::Integer
+        | FieldKind::Short
+        | FieldKind::Byte
+        | FieldKind::Date => Content::Wholes,
     }
 }
 

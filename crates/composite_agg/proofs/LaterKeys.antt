@@ -13,7 +13,8 @@ use Rattle.agg_evaluation.specs.Keys.{combinations, composite_keys, source_keys}
 use Rattle.agg_evaluation.specs.Rows.{PlacedRow}
 use Rattle.agg_evaluation.proofs.Computing.{computing}
 use Rattle.agg_evaluation.proofs.FoldLaws.{out-Many}
-use Rattle.bucket_order.specs.Composites.{any_parts_cmp, key_parts, parts_at}
+use Rattle.agg_evaluation.specs.CompositeKeys.{key_parts_at}
+use Rattle.bucket_order.specs.Composites.{any_parts_cmp, key_parts}
 use Rattle.growth_laws.proofs.Combinations.{composite-combinations}
 use Rattle.list_laws.proofs.Booleans.{and_left, and_right, both}
 use Rattle.composite_agg.specs.InOrder.{page_cmp}
@@ -56,7 +57,7 @@ pub all-keys : (ss : List CompositeSource) (row : PlacedRow) (parts : List Key) 
 all-keys ss row parts all = subst (λ qs. T (list_all (λ q. is_lt (page_cmp ss (key.Many parts) q)) qs)) (sym (composite-combinations ss row)) (each (combinations (map (source_keys row) ss)) all)
   where
     own : (js : List Key) → any_parts_cmp ss parts js ≡ page_cmp ss (key.Many parts) (key.Many js)
-    own js = ap (λ xs. any_parts_cmp ss xs js) (sym (ap parts_at (out-Many parts))) ∙ ap (any_parts_cmp ss (key_parts (key.Many parts))) (sym (ap parts_at (out-Many js)))
+    own js = ap (λ xs. any_parts_cmp ss xs js) (sym (ap key_parts_at (out-Many parts))) ∙ ap (any_parts_cmp ss (key_parts (key.Many parts))) (sym (ap key_parts_at (out-Many js)))
 
     each : (kss : List (List Key)) → T (list_all (λ js. is_lt (any_parts_cmp ss parts js)) kss) → T (list_all (λ q. is_lt (page_cmp ss (key.Many parts) q)) (map key.Many kss))
     each [] all = tt

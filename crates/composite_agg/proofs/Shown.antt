@@ -11,7 +11,8 @@ use Rattle.agg_model.specs.declared.aggregation.CompositeSource.{CompositeSource
 use Rattle.agg_model.specs.declared.key.Key.{Key}
 use Rattle.agg_model.specs.declared.key.Key.TheVariants.{Many}
 use Rattle.agg_evaluation.proofs.FoldLaws.{out-Many}
-use Rattle.bucket_order.specs.Composites.{any_parts_cmp, first_of, key_parts, part_cmp, parts_at, rest_of}
+use Rattle.agg_evaluation.specs.CompositeKeys.{key_parts_at}
+use Rattle.bucket_order.specs.Composites.{any_parts_cmp, first_of, key_parts, part_cmp, rest_of}
 use Rattle.composite_agg.specs.InOrder.{page_cmp}
 use Rattle.composite_agg.specs.Odometer.{shown_key, shown_parts}
 use Rattle.composite_agg.specs.declared.odometer.Wheel.{Wheel}
@@ -76,7 +77,7 @@ other-then Greater p other = refl
 
 -- a key of parts
 pub of-many : (ss : List CompositeSource) (j : Key) (ks : List Key) → any_parts_cmp ss (key_parts j) ks ≡ page_cmp ss j (Many ks)
-of-many ss j ks = ap (any_parts_cmp ss (key_parts j)) (sym (ap parts_at (out-Many ks)))
+of-many ss j ks = ap (any_parts_cmp ss (key_parts j)) (sym (ap key_parts_at (out-Many ks)))
 
 flipped : (o : Ordering) → is_lt o ≡ is_gt (ordering_reverse o)
 flipped Less = refl

@@ -10,11 +10,11 @@ use Rattle.agg_model.specs.declared.partial.Node.{Node, out-Node}
 use Rattle.agg_model.specs.declared.partial.Node.TheOpen.{Node-F}
 use Rattle.agg_model.specs.declared.partial.Node.TheVariants.{Keyed}
 use Rattle.agg_model.specs.declared.aggregation.Kind.{Kind}
-use Rattle.agg_model.specs.declared.aggregation.Kind.TheVariants as kind
 use Rattle.agg_model.specs.declared.aggregation.CompositeSource.{CompositeSource}
 use Rattle.list_laws.specs.Sorting.{sorted}
 use Rattle.agg_evaluation.specs.CompositeKeys.{is_composite_of}
 use Rattle.agg_evaluation.specs.Orders.{bucket_key, composite_cmp}
+use Rattle.agg_evaluation.specs.Profile.{Form, profile}
 use Rattle.agg_evaluation.specs.Shard.{page, sorted_by_key}
 use Rattle.agg_evaluation.specs.Whole.{parts}
 use Rattle.bucket_order.specs.Composites.{any_parts_cmp, key_parts}
@@ -45,9 +45,19 @@ node_buckets n = (parts n).buckets
 abbrev pub node_keys : Node → List Key
 node_keys n = map bucket_key (node_buckets n)
 
+abbrev pub paged_level : List CompositeSource → ℕ → Option Key → Node-F Node Bucket → Node → Node
+paged_level sources size after (Node-F.Keyed buckets error full cut) n = Keyed (page_buckets sources size after buckets) 0 0 0
+paged_level sources size after (Node-F.Fixed buckets) n = n
+paged_level sources size after (Node-F.Number m) n = n
+
 abbrev pub paged_at : Kind → Node-F Node Bucket → Node → Node
-paged_at (kind.Composite sources size after) (Node-F.Keyed buckets error full cut) n = Keyed (page_buckets sources size after buckets) 0 0 0
-paged_at _ _ n = n
+paged_at k level n = elim (profile k).form [
+  | Form.terms t ↦ n
+  | Form.histogram h ↦ n
+  | Form.pages sources size after ↦ paged_level sources size after level n
+  | Form.fixed ks ↦ n
+  | Form.number o ↦ n
+]
 
 -- the page of a composite's buckets; nodes of other kinds stay as they are
 abbrev pub paged : Kind → Node → Node
@@ -55,10 +65,20 @@ paged k n = paged_at k (out-Node n) n
 
 -- the keys of the page are the page of the keys
 abbrev pub keys_of_page : Kind → List Key → List Key
-keys_of_page (kind.Composite sources size after) ks = page sources size after ks
-keys_of_page _ ks = ks
+keys_of_page k ks = elim (profile k).form [
+  | Form.terms t ↦ ks
+  | Form.histogram h ↦ ks
+  | Form.pages sources size after ↦ page sources size after ks
+  | Form.fixed places ↦ ks
+  | Form.number o ↦ ks
+]
 
 -- the keys of the node, and the one that the page comes after, have a part for each source
 abbrev pub can_page : Kind → Node → Bool
-can_page (kind.Composite sources size after) n = are_composite (length sources) (node_buckets n) && is_cursor (length sources) after
-can_page _ n = true
+can_page k n = elim (profile k).form [
+  | Form.terms t ↦ true
+  | Form.histogram h ↦ true
+  | Form.pages sources size after ↦ are_composite (length sources) (node_buckets n) && is_cursor (length sources) after
+  | Form.fixed ks ↦ true
+  | Form.number o ↦ true
+]

@@ -30,7 +30,19 @@ pub fn page(_alloc: Global, kind: &Kind, node: Node) -> Result<Node, AllocError>
             Node::Fixed { buckets } => Ok(Node::Fixed { buckets }),
             Node::Number(metric) => Ok(Node::Number(metric)),
         },
-        _ => Ok(node),
+        Kind::Terms { .. }
+        | Kind::Histogram { .. }
+        | Kind::Filters { .. }
+        | Kind::Filter { .. }
+        | Kind::Missing { .. }
+        | Kind::Global
+        | Kind::Nested { .. }
+        | Kind::ReverseNested { .. }
+        | Kind::Sum { .. }
+        | Kind::Min { .. }
+        | Kind::Max { .. }
+        | Kind::Avg { .. }
+        | Kind::ValueCount { .. } => Ok(node),
     }
 }
 

@@ -8,7 +8,7 @@ use Rattle.agg_model.specs.declared.answer.NodeAnswer.{NodeAnswer, out-NodeAnswe
 use Rattle.agg_model.specs.declared.aggregation.CompositeSource.{CompositeSource}
 use Rattle.agg_model.specs.declared.aggregation.Kind.{Kind}
 use Rattle.agg_model.specs.declared.aggregation.Search.{Search}
-use Rattle.agg_model.specs.Options.{Options, options_of}
+use Rattle.agg_evaluation.specs.Profile.{Form, profile}
 use Rattle.agg_evaluation.specs.Groups.{all_keys}
 use Rattle.agg_evaluation.specs.Keys.{distinct_keys}
 use Rattle.agg_evaluation.specs.Matching.{matched_roots}
@@ -31,9 +31,12 @@ is_after sources after key = option_map_or (λ a. is_gt (composite_cmp sources k
 
 -- the keys that come after `after`, in the order of the sources
 abbrev pub keys_after : List (List PlacedRow) → Search → Kind → List Key
-keys_after shards request kind = elim (options_of kind) [
-  | Options.Composite sources size after ↦ filter (is_after sources after) (sorted (composite_cmp sources) (matched_keys shards request kind))
-  | _ ↦ []
+keys_after shards request kind = elim (profile kind).form [
+  | Form.terms t ↦ []
+  | Form.histogram h ↦ []
+  | Form.pages sources size after ↦ filter (is_after sources after) (sorted (composite_cmp sources) (matched_keys shards request kind))
+  | Form.fixed ks ↦ []
+  | Form.number o ↦ []
 ]
 
 -- the groups of the search's first aggregation, a composite, that are greater than its `after`
@@ -51,4 +54,10 @@ answered_groups n = map group_answer (out-NodeAnswer n).buckets
 
 -- how many groups a page has
 abbrev pub page_size : Kind → Option ℕ
-page_size kind = elim (options_of kind) [ Options.Composite sources size after ↦ Some size | _ ↦ None ]
+page_size kind = elim (profile kind).form [
+  | Form.terms t ↦ None
+  | Form.histogram h ↦ None
+  | Form.pages sources size after ↦ Some size
+  | Form.fixed ks ↦ None
+  | Form.number o ↦ None
+]

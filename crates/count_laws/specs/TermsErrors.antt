@@ -8,9 +8,9 @@ use Rattle.agg_model.specs.declared.partial.Bucket.{Bucket}
 use Rattle.agg_model.specs.declared.aggregation.Order.{Order}
 use Rattle.agg_model.specs.declared.aggregation.OrderBy.TheVariants.{Count}
 use Rattle.agg_model.specs.declared.aggregation.Kind.{Kind}
-use Rattle.agg_model.specs.Options.{Options, options_of}
 use Rattle.agg_evaluation.specs.KeyOrder.{has_key}
 use Rattle.agg_evaluation.specs.Orders.{bucket_key}
+use Rattle.agg_evaluation.specs.Profile.{Form, profile}
 
 abbrev pub BeginsByCount : List Order → Type 0
 BeginsByCount [] = ⊥
@@ -18,7 +18,13 @@ BeginsByCount (o ∷ later) = o ≡ record { by = Count; descending = true }
 
 -- terms whose first order is by descending count, of which a shard returns at least one
 abbrev pub IsTermsByCount : Kind → Type 0
-IsTermsByCount k = elim (options_of k) [ Options.Terms t ↦ (0 < t.shard_size) × BeginsByCount t.order | _ ↦ ⊥ ]
+IsTermsByCount k = elim (profile k).form [
+  | Form.terms t ↦ (0 < t.shard_size) × BeginsByCount t.order
+  | Form.histogram h ↦ ⊥
+  | Form.pages sources size after ↦ ⊥
+  | Form.fixed ks ↦ ⊥
+  | Form.number o ↦ ⊥
+]
 
 -- the true count of a returned bucket lies between its count and that plus its error
 pub record IsWithinError (true_count : Key → ℕ) (b : BucketAnswer) : Type 0 where

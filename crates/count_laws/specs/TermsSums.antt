@@ -5,7 +5,7 @@ use Rattle.agg_model.specs.declared.answer.BucketAnswer.{BucketAnswer, out-Bucke
 use Rattle.agg_model.specs.declared.answer.NodeAnswer.{NodeAnswer, out-NodeAnswer}
 use Rattle.agg_model.specs.declared.partial.Node.{Node}
 use Rattle.agg_model.specs.declared.aggregation.Kind.{Kind}
-use Rattle.agg_model.specs.Options.{Options, options_of}
+use Rattle.agg_evaluation.specs.Profile.{Form, profile}
 use Rattle.agg_model.specs.declared.aggregation.Agg.{Agg}
 use Rattle.agg_evaluation.specs.Rows.{PlacedRow}
 use Rattle.agg_evaluation.specs.Orders.{bucket_count}
@@ -29,7 +29,13 @@ below_minimum_count min_doc_count buckets = sum_by bucket_count (filter (λ b. n
 
 -- the minimum count of an aggregation that is terms
 abbrev pub minimum_of_terms : Kind → Option ℕ
-minimum_of_terms k = elim (options_of k) [ Options.Terms t ↦ Some t.min_doc_count | _ ↦ None ]
+minimum_of_terms k = elim (profile k).form [
+  | Form.terms t ↦ Some t.min_doc_count
+  | Form.histogram h ↦ None
+  | Form.pages sources size after ↦ None
+  | Form.fixed ks ↦ None
+  | Form.number o ↦ None
+]
 
 -- the whole of the answers to an aggregation of some rows of each shard: all rows of the shard, and those that it is handed
 abbrev pub whole_of_rows : Agg → List (List PlacedRow × List PlacedRow) → Node

@@ -12,7 +12,7 @@ use Rattle.std.proofs.Common.{sym, ◌∙◌, ap, subst, arith, ⊎_elim, add-on
 use Rattle.std.proofs.lemmas.Bool.{cases_Bool, true≢false, false≢true, and_parts}
 use Rattle.std.proofs.lemmas.Cmp.{on_total, then_total, nat_cmp_total, int_cmp_total, nat_list_cmp_total}
 use Rattle.agg_model.specs.declared.mapping.FieldKind.{FieldKind}
-use Rattle.agg_model.specs.declared.mapping.FieldKind.TheVariants.{Long, Integer, Short, Byte, Keyword, Boolean}
+use Rattle.agg_model.specs.declared.mapping.FieldKind.TheVariants.{Long, Integer, Short, Byte, Keyword, Boolean, Date}
 use Rattle.agg_model.specs.declared.row.Scalar.{Scalar}
 use Rattle.agg_model.specs.declared.row.Scalar.TheVariants.{Whole, Word, Flag}
 use Rattle.list_laws.specs.Sorting.{sorted, insert_sorted}
@@ -236,6 +236,7 @@ rank_of Long = 0
 rank_of Integer = 0
 rank_of Short = 0
 rank_of Byte = 0
+rank_of Date = 0
 
 has_rank : (kind : FieldKind) (s : Scalar) → is_of_kind kind s ≡ true → rank s ≡ rank_of kind
 has_rank Keyword (Word w) e = refl
@@ -256,6 +257,9 @@ has_rank Short (Flag b) e = absurd (false≢true e)
 has_rank Byte (Whole z) e = refl
 has_rank Byte (Word w) e = absurd (false≢true e)
 has_rank Byte (Flag b) e = absurd (false≢true e)
+has_rank Date (Whole z) e = refl
+has_rank Date (Word w) e = absurd (false≢true e)
+has_rank Date (Flag b) e = absurd (false≢true e)
 
 ranks : (kind : FieldKind) (xs : List Scalar) → list_all (is_of_kind kind) xs ≡ true → OfRank (rank_of kind) xs
 ranks kind [] e = tt

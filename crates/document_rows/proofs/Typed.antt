@@ -1,5 +1,5 @@
 -- The walk of a document gives each field values of its kind alone.
-use Rattle.std.specs.Prelude.{◌≡◌, refl, ℕ, ◌+◌, List, [], ◌∷◌, ◌++◌, Option, Some, None, Ok, Err, Bool, true, false, not, ◌&&◌, ◌==◌, cond, ⊤, nat_le, nat_lt, length, ℤ}
+use Rattle.std.specs.Prelude.{◌≡◌, refl, ℕ, ◌+◌, List, [], ◌∷◌, ◌++◌, Option, Some, None, Result, Ok, Err, Bool, true, false, not, ◌&&◌, ◌==◌, cond, ⊤, nat_le, nat_lt, length, ℤ}
 use Rattle.std.specs.declared.cmp.Ordering.TheVariants.{Less, Equal, Greater}
 use Rattle.std.specs.Ordering.{nat_cmp, match_ordering}
 use Rattle.std.specs.List.{list_all}
@@ -7,10 +7,14 @@ use Rattle.std.proofs.Common.{sym, ◌∙◌, ap, subst, arith}
 use Rattle.std.proofs.lemmas.Bool.{and_parts, and_from}
 use Rattle.std.proofs.lemmas.Cmp.{ranked}
 use Rattle.std.proofs.lemmas.List.Folds.{list_all-append}
+use Rattle.date_spec.specs.declared.fault.DateFault.{DateFault}
+use Rattle.date_spec.specs.declared.fault.DateFault.TheVariants.{Malformed, OutOfRange}
+use Rattle.date_spec.specs.DateTexts.{read_date}
+use Rattle.serde_json.specs.Find.{as_integer}
 use Rattle.serde_json.specs.Data.{Data, null, boolean, number, string, array, object, Items, no_items, item, Members, no_members, member}
 use Rattle.agg_model.specs.declared.mapping.Field.{Field}
 use Rattle.agg_model.specs.declared.mapping.FieldKind.{FieldKind}
-use Rattle.agg_model.specs.declared.mapping.FieldKind.TheVariants.{Long, Integer, Short, Byte, Keyword, Boolean}
+use Rattle.agg_model.specs.declared.mapping.FieldKind.TheVariants.{Long, Integer, Short, Byte, Keyword, Boolean, Date}
 use Rattle.agg_model.specs.declared.mapping.NestedPath.{NestedPath}
 use Rattle.agg_model.specs.declared.mapping.Mapping.{Mapping}
 use Rattle.agg_model.specs.declared.row.Scalar.{Scalar}
@@ -24,7 +28,7 @@ use Rattle.agg_reading.specs.Fields.{field_from, nested_from}
 use Rattle.agg_reading.specs.Scalars.{whole, word}
 use Rattle.agg_model.specs.FieldKinds.{fits_kind, is_of_kind}
 use Rattle.agg_reading.specs.Rows.{with_value, count_in, empty_draft}
-use Rattle.agg_reading.specs.Document.{State, leads_deeper, nested_role, inner_role, field_role, role_of, number_value, word_value, is_ignored, document_flag, scalar_at, with_scalar, leaf_at, around, object_by, chosen, value_at, items_at, members_at}
+use Rattle.agg_reading.specs.Document.{State, leads_deeper, nested_role, inner_role, field_role, role_of, number_value, word_value, is_ignored, document_flag, instant_value, date_value, scalar_at, with_scalar, leaf_at, around, object_by, chosen, value_at, items_at, members_at}
 use Rattle.document_rows.specs.Drafts.{is_typed}
 use Rattle.document_rows.specs.Roles.{kind_in, IsRoleIn}
 use Rattle.document_rows.proofs.Places.{kind_found, nested_found}
@@ -80,6 +84,19 @@ flag_kind : (path : List ℕ) (b : Option Bool) → OfKind Boolean (or_refuse 21
 flag_kind path None = tt
 flag_kind path (Some b) = refl
 
+instant_kind : (path : List ℕ) (read : Result ℤ DateFault) → OfKind Date (instant_value path read)
+instant_kind path (Ok z) = refl
+instant_kind path (Err Malformed) = tt
+instant_kind path (Err OutOfRange) = tt
+
+date_kind : (path : List ℕ) (d : Data) → OfKind Date (date_value path d)
+date_kind path null = tt
+date_kind path (boolean b) = tt
+date_kind path (number n) = whole_kind Date path (as_integer n) (λ n. refl)
+date_kind path (string s) = instant_kind path (read_date s)
+date_kind path (array ds) = tt
+date_kind path (object ms) = tt
+
 scalar_kind : (kind : FieldKind) (above : Option ℕ) (path : List ℕ) (d : Data) → OfKind kind (scalar_at kind above path d)
 unfolding scalar_at
 scalar_kind Keyword above path d = word_kind above path (word d)
@@ -88,6 +105,7 @@ scalar_kind Long above path d = whole_kind Long path (whole d) (λ n. refl)
 scalar_kind Integer above path d = whole_kind Integer path (whole d) (λ n. refl)
 scalar_kind Short above path d = whole_kind Short path (whole d) (λ n. refl)
 scalar_kind Byte above path d = whole_kind Byte path (whole d) (λ n. refl)
+scalar_kind Date above path d = date_kind path d
 
 typed-with : (fields : List Field) (field : ℕ) (v : Scalar) (fs : List FieldValues) → is_of_kind (kind_in fields field) v ≡ true → is_typed fields fs ≡ true → is_typed fields (with_value field v fs) ≡ true
 unfolding with_value

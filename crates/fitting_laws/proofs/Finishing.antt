@@ -8,7 +8,7 @@ use Rattle.std.proofs.Common.{sym, ◌∙◌, ap, subst, arith}
 use Rattle.std.proofs.lemmas.Bool.{false≢true, and_parts, and_from}
 use Rattle.std.proofs.lemmas.Cmp.{int_cmp_total, nat_list_cmp_total}
 use Rattle.agg_model.specs.declared.mapping.FieldKind.{FieldKind}
-use Rattle.agg_model.specs.declared.mapping.FieldKind.TheVariants.{Long, Integer, Short, Byte, Keyword, Boolean}
+use Rattle.agg_model.specs.declared.mapping.FieldKind.TheVariants.{Long, Integer, Short, Byte, Keyword, Boolean, Date}
 use Rattle.agg_model.specs.declared.row.Scalar.{Scalar}
 use Rattle.agg_model.specs.declared.row.Scalar.TheVariants.{Whole, Word, Flag}
 use Rattle.agg_reading.specs.Rows.{scalar_cmp, insert_value, finished_values}
@@ -54,6 +54,10 @@ kind_alike Byte (Whole m) (Word w) p q = absurd (false≢true q)
 kind_alike Byte (Whole m) (Flag w) p q = absurd (false≢true q)
 kind_alike Byte (Word m) t p q = absurd (false≢true p)
 kind_alike Byte (Flag m) t p q = absurd (false≢true p)
+kind_alike Date (Whole m) (Word w) p q = absurd (false≢true q)
+kind_alike Date (Whole m) (Flag w) p q = absurd (false≢true q)
+kind_alike Date (Word m) t p q = absurd (false≢true p)
+kind_alike Date (Flag m) t p q = absurd (false≢true p)
 
 up : (s t : Scalar) → alike s t ≡ true → scalar_cmp s t ≡ Less → follows s t ≡ true
 up (Whole m) (Whole n) a e = ap is_le e

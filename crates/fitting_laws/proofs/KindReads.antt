@@ -9,7 +9,7 @@ use Rattle.serde_json.specs.Data.{Data, null, boolean, number, string, array, ob
 use Rattle.serde_json.specs.Find.{as_u64}
 use Rattle.agg_model.specs.declared.mapping.Field.{Field}
 use Rattle.agg_model.specs.declared.mapping.FieldKind.{FieldKind}
-use Rattle.agg_model.specs.declared.mapping.FieldKind.TheVariants.{Long, Integer, Short, Byte, Keyword, Boolean}
+use Rattle.agg_model.specs.declared.mapping.FieldKind.TheVariants.{Long, Integer, Short, Byte, Keyword, Boolean, Date}
 use Rattle.agg_model.specs.declared.mapping.Mapping.{Mapping}
 use Rattle.agg_model.specs.declared.query.Probe.{Probe}
 use Rattle.agg_model.specs.declared.query.Probe.TheVariants as probe
@@ -25,13 +25,13 @@ use Rattle.agg_reading.specs.Reading.{refuse, or_refuse}
 use Rattle.agg_reading.specs.Pointer.{item_step}
 use Rattle.agg_reading.specs.Json.{object_at, optional, known}
 use Rattle.agg_reading.specs.Numbers.{number_at, in_range, whole_at, signed_at, truth_at, choice_at}
-use Rattle.agg_reading.specs.Scalars.{stored}
-use Rattle.agg_model.specs.FieldKinds.{is_whole_kind, fits_below}
+use Rattle.agg_reading.specs.Scalars.{may_be_stored, stored}
+use Rattle.agg_model.specs.FieldKinds.{is_whole_kind, is_number_kind}
 use Rattle.agg_reading.specs.Leaves.{value_at, field_in, values_at}
 use Rattle.agg_reading.specs.Terms.{missing_at, term_members, term_lists_in, term_counts_in, term_sizes_in, terms_in, terms_at}
 use Rattle.agg_reading.specs.Histogram.{whole_field_in, bounds_at, unbounded, histogram_members, histogram_ranges_in, histogram_counts_in, histogram_rules, histogram_in, histogram_at}
 use Rattle.agg_model.specs.BoundsOrder.{is_at_most, lies_within}
-use Rattle.agg_reading.specs.Metrics.{Metered, metered_in, number_metric_at, any_metric_at}
+use Rattle.agg_reading.specs.Metrics.{Metered, metered_in, number_metric_at, number_field_in, extreme_at, any_metric_at}
 use Rattle.agg_reading.specs.Orders.{order_at, orders_from, item_count, orders_at, by_default, with_order}
 use Rattle.agg_reading.specs.Aggregations as aggregations
 use Rattle.agg_reading.proofs.Steps.{then_ok, next_ok, if_ok}
@@ -60,11 +60,11 @@ whole_at-ok least most at d = then_ok (Between least most) (number_at at d) _ (�
 abbrev pub Stored : FieldKind → Scalar → Type 0
 Stored k s = is_stored k s ≡ true
 
-whole_stored : (k : FieldKind) (at : List ℕ) (z : ℤ) → ((z : ℤ) → is_stored k (scalar.Whole z) ≡ fits_below (2 ^ 63) z) → IfOk (or_refuse 104 at (stored (probe.Whole z))) (Stored k)
+whole_stored : (k : FieldKind) (at : List ℕ) (z : ℤ) → ((z : ℤ) → is_stored k (scalar.Whole z) ≡ may_be_stored k z) → IfOk (or_refuse 104 at (stored k (probe.Whole z))) (Stored k)
 whole_stored k at z same =
-    elim (fits_below (2 ^ 63) z) as (λ b. fits_below (2 ^ 63) z ≡ b → IfOk (or_refuse 104 at (if b then Some (scalar.Whole z) else None)) (Stored k)) [ true ↦ λ e. same z ∙ e | false ↦ λ e. tt ] refl
+    elim (may_be_stored k z) as (λ b. may_be_stored k z ≡ b → IfOk (or_refuse 104 at (if b then Some (scalar.Whole z) else None)) (Stored k)) [ true ↦ λ e. same z ∙ e | false ↦ λ e. tt ] refl
 
-stored_ok : (k : FieldKind) (at : List ℕ) (p : Probe) → Asked k p → IfOk (or_refuse 104 at (stored p)) (Stored k)
+stored_ok : (k : FieldKind) (at : List ℕ) (p : Probe) → Asked k p → IfOk (or_refuse 104 at (stored k p)) (Stored k)
 stored_ok Keyword at (probe.Word w) a = refl
 stored_ok Keyword at (probe.Whole w) a = absurd (false≢true a)
 stored_ok Keyword at (probe.Flag w) a = absurd (false≢true a)
@@ -83,6 +83,9 @@ stored_ok Short at (probe.Flag w) a = absurd (false≢true a)
 stored_ok Byte at (probe.Whole z) a = whole_stored Byte at z (λ z. refl)
 stored_ok Byte at (probe.Word w) a = absurd (false≢true a)
 stored_ok Byte at (probe.Flag w) a = absurd (false≢true a)
+stored_ok Date at (probe.Whole z) a = whole_stored Date at z (λ z. refl)
+stored_ok Date at (probe.Word w) a = absurd (false≢true a)
+stored_ok Date at (probe.Flag w) a = absurd (false≢true a)
 
 missing_at-ok : (k : FieldKind) (at : List ℕ) (d : Data) → IfOk (missing_at k at d) (Stored k)
 unfolding missing_at
@@ -107,6 +110,13 @@ pub whole_field_in-is : (m : Mapping) (at : List ℕ) (ms : Members) → IfOk (w
 unfolding whole_field_in
 whole_field_in-is m at ms = next_ok (IsFieldOf m) (IsWholeField m) (field_in m at ms) _ (field_in-is m at ms) (λ f there. if_ok (IsWholeField m) (is_whole_kind f.1.kind) (Ok f) _ (λ e. (there, e)) (λ e. tt))
 
+abbrev IsNumberField : Mapping → ℕ × Field → Type 0
+IsNumberField m f = IsFieldOf m f × (is_number_kind f.1.kind ≡ true)
+
+number_field_in-is : (m : Mapping) (at : List ℕ) (ms : Members) → IfOk (number_field_in m at ms) (IsNumberField m)
+unfolding number_field_in
+number_field_in-is m at ms = next_ok (IsFieldOf m) (IsNumberField m) (field_in m at ms) _ (field_in-is m at ms) (λ f there. if_ok (IsNumberField m) (is_number_kind f.1.kind) (Ok f) _ (λ e. (there, e)) (λ e. tt))
+
 -- metrics
 
 abbrev MeteredIs : ℕ × Field → Metered → Type 0
@@ -127,6 +137,16 @@ number_metric_ok m at d =
     next_ok (IsWholeField m) P (whole_field_in m at ms) _ (whole_field_in-is m at ms) (λ f there.
     weaken (MeteredIs f) P (metered_in f at ms) (metered_ok f at ms) (λ r h.
     ap (λ (n : ℕ). is_whole_field m n r.1) h.0 ∙ of_field m (λ k. is_whole_kind k && is_missing k r.1) f there.0 (and_from _ _ there.1 h.1)))))
+
+pub extreme_ok : (m : Mapping) (at : List ℕ) (d : Data) → IfOk (extreme_at m at d) (λ r. field_is m (λ k. is_number_kind k && is_missing k r.1) r.0 ≡ true)
+unfolding extreme_at
+extreme_ok m at d =
+    let P : Metered → Type 0 = λ r. field_is m (λ k. is_number_kind k && is_missing k r.1) r.0 ≡ true in
+    then_ok P (object_at 103 at d) _ (λ ms.
+    then_ok P (known 101 _ at ms) _ (λ _.
+    next_ok (IsNumberField m) P (number_field_in m at ms) _ (number_field_in-is m at ms) (λ f there.
+    weaken (MeteredIs f) P (metered_in f at ms) (metered_ok f at ms) (λ r h.
+    ap (λ (n : ℕ). field_is m (λ k. is_number_kind k && is_missing k r.1) n) h.0 ∙ of_field m (λ k. is_number_kind k && is_missing k r.1) f there.0 (and_from _ _ there.1 h.1)))))
 
 pub any_metric_ok : (m : Mapping) (at : List ℕ) (d : Data) → IfOk (any_metric_at m at d) (λ r. field_is m (λ k. is_missing k r.1) r.0 ≡ true)
 unfolding any_metric_at

@@ -24,7 +24,7 @@ use Rattle.agg_reading.specs.declared.parts.IndexLine.{IndexLine}
 use Rattle.agg_reading.specs.Reading.{Reading, refuse, or_refuse}
 use Rattle.agg_reading.specs.Pointer.{member_step}
 use Rattle.agg_reading.specs.Json.{reading, object_at, known, optional}
-use Rattle.agg_reading.specs.Properties.{is_before, place, is_field_name, bound_at, leaf_names, leaf_at, is_full, with_nested, with_object, fields_from, properties_at, properties_of, inner_at, by_type, type_in, property_at}
+use Rattle.agg_reading.specs.Properties.{is_before, place, is_field_name, format_at, bound_at, leaf_names, leaf_at, is_full, with_nested, with_object, fields_from, properties_at, properties_of, inner_at, by_type, type_in, property_at}
 use Rattle.agg_reading.specs.Mapping.{found_from, context_of, numbered, numbered_path, found_in, nothing_found, dynamic_at, mapping_at, empty_mapping}
 use Rattle.agg_reading.proofs.Steps.{then_ok, next_ok, if_ok}
 use Rattle.agg_reading.specs.IndexLine.{settings_at, index_name_at, index_value_at, index_line_at}
@@ -105,7 +105,8 @@ unfolding leaf_at
 leaf_good kind within path at found ms g =
     if_ok Good (is_full found) (refuse 31 at) _ (λ e. tt) (λ e.
     then_ok Good (known 31 (leaf_names kind) at ms) _ (λ _.
-    then_ok Good (optional bound_at (codes "ignore_above") at ms) _ (λ above. g)))
+    then_ok Good (optional format_at (codes "format") at ms) _ (λ _.
+    then_ok Good (optional bound_at (codes "ignore_above") at ms) _ (λ above. g))))
 
 abbrev Keeps : (List ℕ → List ℕ → List ℕ → Found → Data → Reading Found) → Type 0
 Keeps field = (within path at : List ℕ) (found : Found) (d : Data) → is_before within path ≡ true → Good found → IfOk (field within path at found d) Good

@@ -7,9 +7,10 @@ use Rattle.std.proofs.lemmas.Bool.{false≢true, and_parts, and_from}
 use Rattle.std.proofs.lemmas.List.Folds.{list_all-append}
 use Rattle.std.proofs.lemmas.List.Sums.{sum_by-cons}
 use Rattle.agg_model.specs.FieldKinds.{fits_below}
+use Rattle.agg_model.proofs.InstantBits.{instant_in_64}
 use Rattle.agg_model.specs.declared.mapping.Field.{Field}
 use Rattle.agg_model.specs.declared.mapping.FieldKind.{FieldKind}
-use Rattle.agg_model.specs.declared.mapping.FieldKind.TheVariants.{Long, Integer, Short, Byte, Keyword, Boolean}
+use Rattle.agg_model.specs.declared.mapping.FieldKind.TheVariants.{Long, Integer, Short, Byte, Keyword, Boolean, Date}
 use Rattle.agg_model.specs.declared.mapping.Mapping.{Mapping}
 use Rattle.agg_model.specs.declared.row.FieldValues.{FieldValues}
 use Rattle.agg_model.specs.declared.row.Scalar.{Scalar}
@@ -42,6 +43,7 @@ value_64 Short (Whole z) h = size_wider (2 ^ 15) (2 ^ 63) z (omega arith) h
 value_64 Byte (Whole z) h = size_wider (2 ^ 7) (2 ^ 63) z (omega arith) h
 value_64 Keyword (Whole z) h = absurd (false≢true h)
 value_64 Boolean (Whole z) h = absurd (false≢true h)
+value_64 Date (Whole z) h = instant_in_64 z h
 
 stored_64 : (k : FieldKind) (v : Scalar) → is_stored k v ≡ true → is_64 v ≡ true
 stored_64 k (Word w) h = refl
@@ -52,6 +54,7 @@ stored_64 Short (Whole z) h = h
 stored_64 Byte (Whole z) h = h
 stored_64 Keyword (Whole z) h = absurd (false≢true h)
 stored_64 Boolean (Whole z) h = absurd (false≢true h)
+stored_64 Date (Whole z) h = instant_in_64 z h
 
 abbrev pub all_64 : List Scalar → Bool
 all_64 vs = list_all is_64 vs

@@ -1,16 +1,22 @@
 -- Queries that are read are made for the mapping.
-use Rattle.std.specs.Prelude.{◌≡◌, refl, ℕ, zero, suc, ◌+◌, List, [], ◌∷◌, ◌++◌, map, slice_get, Option, Some, None, Ok, Bool, true, false, ◌&&◌, nat_le, IfOk, option_map, codes}
+use Rattle.std.specs.Prelude.{◌≡◌, refl, ℕ, ℤ, zero, suc, ◌+◌, ◌^◌, List, [], ◌∷◌, ◌++◌, map, slice_get, Option, Some, None, Ok, Err, Bool, true, false, ◌&&◌, cond, nat_le, IfOk, option_map, option_and_then, codes}
+use Rattle.std.specs.Result.{result_ok}
 use Rattle.std.specs.List.{list_all}
 use Rattle.std.specs.Option.{option_map_or}
 use Rattle.std.proofs.Common.{sym, ◌∙◌, ap, arith}
 use Rattle.std.proofs.lemmas.Bool.{and_from}
 use Rattle.std.proofs.lemmas.List.Folds.{list_all-append}
 use Rattle.serde_json.specs.Data.{Data, null, boolean, number, string, array, object, Items, no_items, item, Members}
-use Rattle.serde_json.specs.Find.{get_member}
+use Rattle.serde_json.specs.Find.{as_integer, get_member}
+use Rattle.date_spec.specs.declared.fault.DateFault.TheVariants.{OutOfRange}
+use Rattle.date_spec.specs.DateTexts.{named_instant, ranged}
+use Rattle.date_spec.specs.Instants.{is_in_range}
+use Rattle.agg_model.specs.FieldKinds.{fits_below}
+use Rattle.agg_model.proofs.InstantBits.{instant_in_64}
 use Rattle.agg_model.specs.declared.limits.TheConstants.{MAX_QUERIES}
 use Rattle.agg_model.specs.declared.mapping.Field.{Field}
 use Rattle.agg_model.specs.declared.mapping.FieldKind.{FieldKind}
-use Rattle.agg_model.specs.declared.mapping.FieldKind.TheVariants.{Long, Integer, Short, Byte, Keyword, Boolean}
+use Rattle.agg_model.specs.declared.mapping.FieldKind.TheVariants.{Long, Integer, Short, Byte, Keyword, Boolean, Date}
 use Rattle.agg_model.specs.declared.mapping.Mapping.{Mapping}
 use Rattle.agg_model.specs.declared.mapping.NestedPath.{NestedPath}
 use Rattle.agg_model.specs.declared.query.Probe.{Probe}
@@ -26,7 +32,7 @@ use Rattle.agg_reading.specs.declared.names.QueryName.TheVariants as name
 use Rattle.agg_reading.specs.Reading.{Reading, ◌>>=◌, refuse, or_refuse}
 use Rattle.agg_reading.specs.Pointer.{member_step, item_step}
 use Rattle.agg_reading.specs.Json.{object_at, list_at, text_at, required, optional, known, sole_at}
-use Rattle.agg_reading.specs.Scalars.{whole, word, flag, probe_of}
+use Rattle.agg_reading.specs.Scalars.{whole, word, flag, within_64, instant, probe_of}
 use Rattle.agg_reading.specs.Fields.{field_from, nested_from, field_at}
 use Rattle.agg_model.specs.Contexts.{is_in_context}
 use Rattle.agg_reading.specs.Leaves.{value_at, field_in, about, match_all_at, boxed_value, term_value, term_at, values_from, values_at, terms_at, test_of, test_at, is_boolean, tests_at, range_at, exists_at, ids_from, ids_at}
@@ -71,6 +77,25 @@ mapped_ok : {A : Type 0} (k : FieldKind) (f : A → Probe) (code : ℕ) (at : Li
 mapped_ok k f code at None h = tt
 mapped_ok k f code at (Some x) h = h x
 
+number_asked : (at : List ℕ) (z : Option ℤ) → IfOk (or_refuse 104 at (option_map probe.Whole (option_and_then within_64 z))) (Asked Date)
+number_asked at None = tt
+number_asked at (Some z) =
+    elim (fits_below (2 ^ 63) z) as (λ b. fits_below (2 ^ 63) z ≡ b → IfOk (or_refuse 104 at (option_map probe.Whole (cond b (Some z) None))) (Asked Date)) [ true ↦ λ e. e | false ↦ λ e. tt ] refl
+
+text_asked : (at : List ℕ) (z : Option ℤ) → IfOk (or_refuse 104 at (option_map probe.Whole (result_ok (ranged z)))) (Asked Date)
+text_asked at None = tt
+text_asked at (Some z) =
+    elim (is_in_range z) as (λ b. is_in_range z ≡ b → IfOk (or_refuse 104 at (option_map probe.Whole (result_ok (cond b (Ok z) (Err OutOfRange))))) (Asked Date)) [ true ↦ λ e. instant_in_64 z e | false ↦ λ e. tt ] refl
+
+date_asked : (at : List ℕ) (d : Data) → IfOk (or_refuse 104 at (option_map probe.Whole (instant d))) (Asked Date)
+unfolding instant
+date_asked at null = tt
+date_asked at (boolean b) = tt
+date_asked at (number n) = number_asked at (as_integer n)
+date_asked at (string s) = text_asked at (named_instant s)
+date_asked at (array ds) = tt
+date_asked at (object ms) = tt
+
 pub value_asked : (k : FieldKind) (at : List ℕ) (d : Data) → IfOk (value_at k at d) (Asked k)
 unfolding value_at probe_of
 value_asked Keyword at d = mapped_ok Keyword probe.Word 104 at (word d) (λ x. refl)
@@ -79,6 +104,7 @@ value_asked Long at d = mapped_ok Long probe.Whole 104 at (whole d) (λ x. refl)
 value_asked Integer at d = mapped_ok Integer probe.Whole 104 at (whole d) (λ x. refl)
 value_asked Short at d = mapped_ok Short probe.Whole 104 at (whole d) (λ x. refl)
 value_asked Byte at d = mapped_ok Byte probe.Whole 104 at (whole d) (λ x. refl)
+value_asked Date at d = date_asked at d
 
 boxed_asked : (k : FieldKind) (at : List ℕ) (ms : Members) → IfOk (boxed_value k at ms) (Asked k)
 unfolding boxed_value

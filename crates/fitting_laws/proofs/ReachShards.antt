@@ -14,7 +14,7 @@ use Rattle.agg_model.specs.Options.{TermsOptions, terms_kind}
 use Rattle.agg_model.specs.declared.key.Key.{Key}
 use Rattle.agg_model.specs.declared.mapping.Field.{Field}
 use Rattle.agg_model.specs.declared.mapping.Mapping.{Mapping}
-use Rattle.agg_model.specs.FieldKinds.{is_whole_kind}
+use Rattle.agg_model.specs.FieldKinds.{is_number_kind, is_whole_kind}
 use Rattle.agg_model.specs.declared.partial.Bucket.{Bucket}
 use Rattle.agg_model.specs.declared.partial.Metric.{Metric}
 use Rattle.agg_model.specs.declared.partial.Node.{Node}
@@ -50,6 +50,14 @@ whole_field m field missing h =
     elim (slice_get m.fields field) as (λ o. option_map_or (λ (f : Field). is_whole_kind f.kind && is_missing f.kind missing) o false ≡ true → option_map_or (λ (f : Field). is_missing f.kind missing) o false ≡ true) [
       | None ↦ λ e. e
       | Some f ↦ λ e. (and_parts (is_whole_kind f.kind) (is_missing f.kind missing) e).1
+    ] h
+
+-- a field of whole numbers or dates likewise
+pub number_field : (m : Mapping) (field : ℕ) (missing : Option Scalar) → field_is m (λ k. is_number_kind k && is_missing k missing) field ≡ true → field_is m (λ k. is_missing k missing) field ≡ true
+number_field m field missing h =
+    elim (slice_get m.fields field) as (λ o. option_map_or (λ (f : Field). is_number_kind f.kind && is_missing f.kind missing) o false ≡ true → option_map_or (λ (f : Field). is_missing f.kind missing) o false ≡ true) [
+      | None ↦ λ e. e
+      | Some f ↦ λ e. (and_parts (is_number_kind f.kind) (is_missing f.kind missing) e).1
     ] h
 
 -- A bound on the numbers: the shard weighs no more.
@@ -193,8 +201,8 @@ module _ (number : Metric → ℕ) (bound : ℕ) (all : List PlacedRow) (heavy :
         let k = kind.Composite sources size after in
         plain context cs fs laws rows counted k (page sources size after (all_keys all k rows)) refl
     node_within context cs fs laws top outer children (kind.Sum field missing) h rows counted = measured context cs fs laws rows counted (kind.Sum field missing) _ refl (numbers field missing (whole_field m field missing h) context rows counted)
-    node_within context cs fs laws top outer children (kind.Min field missing) h rows counted = measured context cs fs laws rows counted (kind.Min field missing) _ refl (numbers field missing (whole_field m field missing h) context rows counted)
-    node_within context cs fs laws top outer children (kind.Max field missing) h rows counted = measured context cs fs laws rows counted (kind.Max field missing) _ refl (numbers field missing (whole_field m field missing h) context rows counted)
+    node_within context cs fs laws top outer children (kind.Min field missing) h rows counted = measured context cs fs laws rows counted (kind.Min field missing) _ refl (numbers field missing (number_field m field missing h) context rows counted)
+    node_within context cs fs laws top outer children (kind.Max field missing) h rows counted = measured context cs fs laws rows counted (kind.Max field missing) _ refl (numbers field missing (number_field m field missing h) context rows counted)
     node_within context cs fs laws top outer children (kind.Avg field missing) h rows counted = measured context cs fs laws rows counted (kind.Avg field missing) _ refl (numbers field missing (whole_field m field missing h) context rows counted)
     node_within context cs fs laws top outer children (kind.ValueCount field missing) h rows counted = measured context cs fs laws rows counted (kind.ValueCount field missing) _ refl (numbers field missing h context rows counted)
     node_within context cs fs laws top outer children (kind.Filters a b c) h rows counted = started context cs fs laws rows counted (kind.Filters a b c) (fixed_keys (kind.Filters a b c)) refl

@@ -21,7 +21,7 @@ use Rattle.agg_reading.specs.Json.{object_at, known, json_at, optional}
 use Rattle.agg_reading.specs.Numbers.{truth_at}
 use Rattle.agg_reading.specs.Terms.{terms_at}
 use Rattle.agg_reading.specs.Histogram.{histogram_at}
-use Rattle.agg_reading.specs.Metrics.{Metered, number_metric_at, any_metric_at, missing_kind_at, global_at, nested_context_at, outer_context_at}
+use Rattle.agg_reading.specs.Metrics.{Metered, number_metric_at, extreme_at, any_metric_at, missing_kind_at, global_at, nested_context_at, outer_context_at}
 use Rattle.agg_reading.specs.Orders.{with_order, child_from, or_else, child_named, compared_by, resolved}
 use Rattle.agg_model.specs.Options.{is_sortable}
 use Rattle.agg_reading.specs.Aggregations as aggregations
@@ -44,8 +44,9 @@ use Rattle.fitting_laws.proofs.OtherReads.{filters_read, missing_read, global_re
 use Rattle.agg_reading.specs.Filters.{filters_at}
 use Rattle.agg_reading.proofs.Steps.{then_ok, next_ok, if_ok}
 use Rattle.agg_evaluation.specs.QueryFits.{query_fits, field_is}
+use Rattle.agg_model.specs.FieldKinds.{is_number_kind}
 use Rattle.fitting_laws.proofs.Queries.{top_query_fits, or_refuse_ok}
-use Rattle.fitting_laws.proofs.KindReads.{weaken, number_metric_ok, any_metric_ok, KindRead, PairRead, terms_read, histogram_read}
+use Rattle.fitting_laws.proofs.KindReads.{weaken, number_metric_ok, extreme_ok, any_metric_ok, KindRead, PairRead, terms_read, histogram_read}
 
 -- the kinds
 
@@ -74,9 +75,9 @@ module _ (m : Mapping) (context : ℕ) where
   kind_read name.Composite queries at d = next_ok (λ k. KindRead m context name.Composite k 0 context) (Read name.Composite) (composite_at m at d) _ (composite_read m context at d) (λ k r. r)
   kind_read name.Sum queries at d = next_ok (λ (r : Metered). is_whole_field m r.0 r.1 ≡ true) (Read name.Sum) (number_metric_at m at d) _ (number_metric_ok m at d) (λ f r.
       record { ready = λ children os e h. r; metric = λ os. refl; top = λ os. refl; within_is = λ os. refl })
-  kind_read name.Min queries at d = next_ok (λ (r : Metered). is_whole_field m r.0 r.1 ≡ true) (Read name.Min) (number_metric_at m at d) _ (number_metric_ok m at d) (λ f r.
+  kind_read name.Min queries at d = next_ok (λ (r : Metered). field_is m (λ k. is_number_kind k && is_missing k r.1) r.0 ≡ true) (Read name.Min) (extreme_at m at d) _ (extreme_ok m at d) (λ f r.
       record { ready = λ children os e h. r; metric = λ os. refl; top = λ os. refl; within_is = λ os. refl })
-  kind_read name.Max queries at d = next_ok (λ (r : Metered). is_whole_field m r.0 r.1 ≡ true) (Read name.Max) (number_metric_at m at d) _ (number_metric_ok m at d) (λ f r.
+  kind_read name.Max queries at d = next_ok (λ (r : Metered). field_is m (λ k. is_number_kind k && is_missing k r.1) r.0 ≡ true) (Read name.Max) (extreme_at m at d) _ (extreme_ok m at d) (λ f r.
       record { ready = λ children os e h. r; metric = λ os. refl; top = λ os. refl; within_is = λ os. refl })
   kind_read name.Avg queries at d = next_ok (λ (r : Metered). is_whole_field m r.0 r.1 ≡ true) (Read name.Avg) (number_metric_at m at d) _ (number_metric_ok m at d) (λ f r.
       record { ready = λ children os e h. r; metric = λ os. refl; top = λ os. refl; within_is = λ os. refl })

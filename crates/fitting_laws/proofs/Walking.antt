@@ -2,9 +2,13 @@
 use Rattle.std.specs.Prelude.{◌≡◌, refl, ℕ, ◌+◌, List, [], ◌∷◌, ◌++◌, Option, Some, None, Ok, Err, Bool, true, false, cond, ⊤, nat_le, nat_lt, length, ℤ, IfOk}
 use Rattle.std.proofs.Common.{◌∙◌, arith}
 use Rattle.std.proofs.lemmas.Bool.Decides.{nat_tests}
+use Rattle.serde_json.specs.Find.{as_integer}
 use Rattle.serde_json.specs.Data.{Data, null, boolean, number, string, array, object, Items, no_items, item, Members, no_members, member}
+use Rattle.date_spec.specs.declared.fault.DateFault.TheVariants.{OutOfRange}
+use Rattle.date_spec.specs.DateTexts.{named_instant, ranged}
+use Rattle.date_spec.specs.Instants.{is_in_range}
 use Rattle.agg_model.specs.declared.mapping.FieldKind.{FieldKind}
-use Rattle.agg_model.specs.declared.mapping.FieldKind.TheVariants.{Long, Integer, Short, Byte, Keyword, Boolean}
+use Rattle.agg_model.specs.declared.mapping.FieldKind.TheVariants.{Long, Integer, Short, Byte, Keyword, Boolean, Date}
 use Rattle.agg_model.specs.declared.mapping.Mapping.{Mapping}
 use Rattle.agg_model.specs.declared.row.Scalar.{Scalar}
 use Rattle.agg_model.specs.declared.row.Scalar.TheVariants.{Whole, Word, Flag}
@@ -16,7 +20,7 @@ use Rattle.agg_reading.specs.Json.{reading, object_at}
 use Rattle.agg_reading.specs.Scalars.{whole, word}
 use Rattle.agg_model.specs.FieldKinds.{fits_kind}
 use Rattle.agg_reading.specs.Rows.{with_value, count_in, empty_draft, finished}
-use Rattle.agg_reading.specs.Document.{State, role_of, number_value, word_value, is_ignored, document_flag, scalar_at, with_scalar, leaf_at, around, object_by, chosen, value_at, items_at, members_at, document_value_at, document_at}
+use Rattle.agg_reading.specs.Document.{State, role_of, number_value, word_value, is_ignored, document_flag, instant_value, date_value, scalar_at, with_scalar, leaf_at, around, object_by, chosen, value_at, items_at, members_at, document_value_at, document_at}
 use Rattle.agg_reading.proofs.Steps.{then_ok, next_ok}
 use Rattle.agg_evaluation.specs.DocumentFits.{is_value, fits}
 use Rattle.fitting_laws.proofs.Places.{IsRoleOf, role_known}
@@ -45,6 +49,19 @@ flag_kind : (path : List ℕ) (b : Option Bool) → OfKind Boolean (or_refuse 21
 flag_kind path None = tt
 flag_kind path (Some b) = refl
 
+ranged_kind : (path : List ℕ) (z : Option ℤ) → OfKind Date (instant_value path (ranged z))
+ranged_kind path None = tt
+ranged_kind path (Some z) =
+    elim (is_in_range z) as (λ b. is_in_range z ≡ b → OfKind Date (instant_value path (cond b (Ok z) (Err OutOfRange)))) [ true ↦ λ e. e | false ↦ λ e. tt ] refl
+
+date_kind : (path : List ℕ) (d : Data) → OfKind Date (date_value path d)
+date_kind path null = tt
+date_kind path (boolean b) = tt
+date_kind path (number n) = whole_kind Date path (as_integer n) (λ n. refl)
+date_kind path (string s) = ranged_kind path (named_instant s)
+date_kind path (array ds) = tt
+date_kind path (object ms) = tt
+
 scalar_kind : (kind : FieldKind) (above : Option ℕ) (path : List ℕ) (d : Data) → OfKind kind (scalar_at kind above path d)
 unfolding scalar_at
 scalar_kind Keyword above path d = word_kind above path (word d)
@@ -53,6 +70,7 @@ scalar_kind Long above path d = whole_kind Long path (whole d) (λ n. refl)
 scalar_kind Integer above path d = whole_kind Integer path (whole d) (λ n. refl)
 scalar_kind Short above path d = whole_kind Short path (whole d) (λ n. refl)
 scalar_kind Byte above path d = whole_kind Byte path (whole d) (λ n. refl)
+scalar_kind Date above path d = date_kind path d
 
 module _ (m : Mapping) where
   abbrev Good : ℕ → State → Type 0

@@ -25,6 +25,7 @@ use Rattle.agg_model.specs.declared.partial.Node.{Node}
 use Rattle.agg_model.specs.declared.partial.Node.TheVariants.{Keyed}
 use Rattle.agg_evaluation.specs.KeyOrder.{has_key, key_cmp, key_eq}
 use Rattle.agg_evaluation.specs.Orders.{bucket_cmp, bucket_count, bucket_key, cmp_by}
+use Rattle.agg_evaluation.specs.Profile.{Form, profile_of}
 use Rattle.agg_evaluation.specs.Shard.{is_terms, sorted_by_key, with_covered}
 use Rattle.agg_evaluation.proofs.Computing.{computing}
 use Rattle.bucket_order.proofs.SameOrder.{list_all-sorted}
@@ -224,7 +225,7 @@ module _ (shard : Columns) (a : Agg) (r : Ready) where
         own : AreApart (map bucket_key bs)
         own = subst (λ cs. AreApart (map bucket_key cs)) (sym (map-map finish coded_bucket (sorted by kept))) (apart-sorted made by kept made-apart)
 
-        any-order : (o : Options) → (elim o [ Options.Terms t ↦ true | _ ↦ false ]) ≡ true → trimmed_by kinds o total bs ≡ trimmed_by kinds o total (sorted_by_key bs)
+        any-order : (o : Options) → (elim (profile_of o).form [ Form.terms t ↦ true | Form.histogram h ↦ false | Form.pages sources size after ↦ false | Form.fixed ks ↦ false | Form.number m ↦ false ]) ≡ true → trimmed_by kinds o total bs ≡ trimmed_by kinds o total (sorted_by_key bs)
         any-order (Options.Terms t) e = sym (ap (λ cs. kept_node t.shard_size total (take t.shard_size cs)) (by-key-before kinds t.order bs own))
         any-order (Options.Histogram h) e = absurd (cc e)
         any-order (Options.Filters names filters other) e = absurd (cc e)

@@ -24,6 +24,7 @@ mod placing;
 mod preparing;
 mod ready;
 mod sums;
+mod table_room;
 mod tree;
 mod with_trees;
 
@@ -36,4 +37,5 @@ pub use kinds::{code_bytes, row_codes};
 pub use number::Taken;
 pub use preparing::{prepare, prepare_all};
 pub use ready::{Ready, ReadyKind, Table};
+pub use table_room::TableRoom;
 pub use tree::Tree;

@@ -6,7 +6,9 @@ ghost use Rattle.shard_columns.specs.Made.{IsAggFor};
 ghost use Rattle.growing_tree.specs.Readiness.{AreReadyFor, IsKindReady, IsReadyFor};
 
 use crate::empty_trees::{child_bytes, start_count};
+use crate::kinds::has_fixed_keys;
 use crate::ready::{Ready, ReadyKind, Table};
+use crate::table_room::TableRoom;
 use agg_model::{Agg, Kind, List};
 use filters_agg::prepare as prepare_filters;
 use histogram_agg::prepare as prepare_histogram;
@@ -14,11 +16,13 @@ use shard_columns::Shard;
 use std::alloc::{AllocError, Global};
 use terms_agg::{code_count, prepare as prepare_terms};
 
-// The tables that all trees of an aggregation have from the start have at most so many entries together, of 4 bytes each, or of 8 that
-// are counters, but where there is one tree, or each has few codes, which take no more memory in a table than in a map.
-const MOST_ENTRIES: u64 = 1 << 20;
-
+// A table of so few codes takes no more memory than a map, and less than a tree is charged.
 const FEW_CODES: u32 = 16;
+
+// What a code takes in a table, and what its counter takes, in bytes.
+const PLACE_BYTES: u64 = 4;
+
+const COUNTER_BYTES: u64 = 8;
 
 // The table of whole numbers and of intervals, of which it is not known how many there are, is for so many: those from 0 on,
 // or from the offset on. It takes 16 KiB.
@@ -61,37 +65,49 @@ fn most_buckets(shard: &Shard, kind: &Kind, ready: &ReadyKind) -> u64
     }
 }
 
-// The table of each tree, where there may be so many trees.
-fn table_of(kind: &ReadyKind, codes: u64, trees: u64) -> Table {
+// The table of each tree, where there may be so many trees. They have it from the start where all of them find room for it.
+fn table_of(agg: &Agg, kind: &ReadyKind, codes: u64, trees: u64, room: &mut TableRoom) -> Table {
     let width = match kind {
         ReadyKind::Terms(_) | ReadyKind::Histogram(_) => u32::try_from(codes).unwrap_or(OPEN_WIDTH),
         ReadyKind::Filters(_) => u32::try_from(codes).unwrap_or(0),
         ReadyKind::Single | ReadyKind::Metric | ReadyKind::Composite => 0,
     };
-    let entries = u64::from(width).saturating_mul(trees);
+    let has_all_codes = u64::from(width) == codes;
+    let entry = if has_all_codes && agg.children.is_empty() {
+        COUNTER_BYTES
+    } else {
+        PLACE_BYTES
+    };
+    let bytes = u64::from(width).saturating_mul(entry).saturating_mul(trees);
     Table {
         width,
-        has_all_codes: u64::from(width) == codes,
-        from_start: trees == 1 || width <= FEW_CODES || entries <= MOST_ENTRIES,
+        has_all_codes,
+        from_start: has_fixed_keys(kind) || width <= FEW_CODES || room.take(bytes),
     }
 }
 
 // The aggregation and those below it, where there may be so many trees of it.
-fn prepare_within(alloc: Global, shard: &Shard, agg: &Agg, trees: u64) -> Result<Ready, AllocError>
+fn prepare_within(
+    alloc: Global,
+    shard: &Shard,
+    agg: &Agg,
+    trees: u64,
+    room: &mut TableRoom,
+) -> Result<Ready, AllocError>
     requires built { IsShard shard.now }
     requires made { IsAggFor shard.now agg.now }
     ensures ready { IfOk result (λ ready. IsReadyFor shard.now agg.now ready) }
 {
     let kind = prepare_kind(alloc, shard, &agg.kind)?;
     let buckets = most_buckets(shard, &agg.kind, &kind);
+    let table = table_of(agg, &kind, buckets, trees, room);
     let trees_below = trees.saturating_mul(buckets);
     let mut children = List::new(alloc);
     for child in agg.children.as_slice() {
-        let ready = prepare_within(alloc, shard, child, trees_below)?;
+        let ready = prepare_within(alloc, shard, child, trees_below, room)?;
         children.push(ready)?;
     }
     let bytes = child_bytes(&agg.children)?;
-    let table = table_of(&kind, buckets, trees);
     Ok(Ready {
         kind,
         table,
@@ -104,14 +120,19 @@ fn prepare_within(alloc: Global, shard: &Shard, agg: &Agg, trees: u64) -> Result
 /// than 64 bits of bytes before its first row is answered as want of memory.
 ///
 /// It takes time and memory by the aggregations, and by what each kind takes to prepare. One tree is to grow of the aggregation:
-/// its codes are looked up in a table from the start, and so are those of aggregations below where all their trees have tables of
-/// 4 MiB at most, or counters of 8; any other tree gets its table once it has many codes.
-pub fn prepare(alloc: Global, shard: &Shard, agg: &Agg) -> Result<Ready, AllocError>
+/// the codes of it and of those below are looked up in tables, or have counters, from the start where the task has room for those
+/// of all their trees; any other tree gets its table once it has many codes.
+pub fn prepare(
+    alloc: Global,
+    shard: &Shard,
+    agg: &Agg,
+    room: &mut TableRoom,
+) -> Result<Ready, AllocError>
     requires built { IsShard shard.now }
     requires made { IsAggFor shard.now agg.now }
     ensures ready { IfOk result (λ ready. IsReadyFor shard.now agg.now ready) }
 {
-    prepare_within(alloc, shard, agg, 1)
+    prepare_within(alloc, shard, agg, 1, room)
 }
 
 /// Aggregations side by side, prepared for the shard: the children of buckets, of which any number may come, so that a tree gets a
@@ -126,9 +147,10 @@ pub fn prepare_all(
     ensures ready { IfOk result (λ ready. AreReadyFor shard.now aggs.now ready) }
     ensures many { IfOk result (λ ready. length ready ≡ length aggs.now) }
 {
+    let mut room = TableRoom::new();
     let mut all = List::new(alloc);
     for agg in aggs.as_slice() {
-        let ready = prepare_within(alloc, shard, agg, u64::MAX)?;
+        let ready = prepare_within(alloc, shard, agg, u64::MAX, &mut room)?;
         all.push(ready)?;
     }
     Ok(all)

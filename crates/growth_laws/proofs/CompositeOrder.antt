@@ -69,7 +69,7 @@ made-Many n k e = by (out-Key k) refl
     by (Key-F.Word w) f = absurd (false≢true (sym (ap (has_parts n) f) ∙ e))
     by (Key-F.Fixed m) f = absurd (false≢true (sym (ap (has_parts n) f) ∙ e))
     by (Key-F.Many ks) f =
-        let parts : key_parts k ≡ ks = ap Rattle.bucket_order.specs.Composites.parts_at f in
+        let parts : key_parts k ≡ ks = ap Rattle.agg_evaluation.specs.CompositeKeys.key_parts_at f in
         (ap Many parts ∙ ap roll-Key (sym f) ∙ roll-out-Key k, ap length parts ∙ eqb-true _ _ (sym (ap (has_parts n) f) ∙ e))
 
 module _ (sources : List CompositeSource) where

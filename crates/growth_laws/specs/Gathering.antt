@@ -6,7 +6,7 @@ use Rattle.std.specs.Ordering.{match_ordering}
 use Rattle.agg_model.specs.declared.aggregation.Agg.{Agg}
 use Rattle.agg_model.specs.declared.aggregation.Agg.TheOpen.{Agg-F}
 use Rattle.agg_model.specs.declared.aggregation.Kind.{Kind}
-use Rattle.agg_model.specs.declared.aggregation.Kind.TheVariants as kind
+use Rattle.agg_evaluation.specs.Profile.{Form, profile}
 use Rattle.agg_model.specs.declared.key.Key.{Key}
 use Rattle.agg_model.specs.declared.partial.Bucket.{Bucket}
 use Rattle.agg_model.specs.declared.partial.Metric.{Metric}
@@ -57,9 +57,13 @@ put_rows gs rows k (b ∷ bs) = match_ordering (key_cmp k b.key)
 
 -- the buckets that a composite aggregation keeps are those of its page; the others keep all
 abbrev pub kept_buckets : Kind → List Bucket → List Bucket
-kept_buckets (kind.Composite sources size after) bs =
-    filter (λ b. has_key (bucket_key b) (page sources size after (map bucket_key bs))) bs
-kept_buckets _ bs = bs
+kept_buckets k bs = elim (profile k).form [
+  | Form.terms t ↦ bs
+  | Form.histogram h ↦ bs
+  | Form.pages sources size after ↦ filter (λ b. has_key (bucket_key b) (page sources size after (map bucket_key bs))) bs
+  | Form.fixed ks ↦ bs
+  | Form.number o ↦ bs
+]
 
 -- key by key, with the rows of each
 abbrev pub put_groups : (Key → List PlacedRow) → List Gatherer → Kind → List Key → List Bucket → List Bucket

@@ -4,10 +4,12 @@
 ghost use Rattle.std.specs.Prelude.{◌≡◌, IfOk, option_map};
 ghost use Rattle.std.specs.Str.{all_ascii_digits};
 ghost use Rattle.serde_json.specs.View.{view};
-ghost use Rattle.agg_reading.specs.Scalars.{digits_of, is_decimal, decimal_of, whole, word, flag, flag_of, probe_of};
+ghost use Rattle.agg_reading.specs.Scalars.{digits_of, is_decimal, decimal_of, whole, word, flag, flag_of, within_64, instant, probe_of};
 
+use crate::ranges::fits_kind;
 use agg_model::limits::MAX_DIGITS;
 use agg_model::{FieldKind, Probe, Text};
+use date_text::read;
 use serde_json::{Number, Value};
 use std::alloc::{AllocError, Global};
 
@@ -106,6 +108,35 @@ pub fn flag(value: &Value) -> Option<bool>
     }
 }
 
+/// The number, where it is one of 64 bits, signed.
+fn within_64(number: i128) -> Option<i128>
+    ensures { result ≡ within_64 number }
+{
+    if fits_kind(FieldKind::Long, number) {
+        Some(number)
+    } else {
+        None
+    }
+}
+
+/// The instant of a whole number of 64 bits, signed, or of a text that names one in the range of dates; none for any other value.
+#[tactic(auto, unfolding(agg_reading::specs::Scalars::instant))]
+fn instant(value: &Value) -> Option<i128>
+    ensures { result ≡ instant (view value.now) }
+{
+    match value {
+        Value::Number(number) => match number.as_i128() {
+            Some(n) => within_64(n),
+            None => None,
+        },
+        Value::String(text) => match read(text.as_str()) {
+            Ok(found) => Some(i128::from(found)),
+            Err(_) => None,
+        },
+        _ => None,
+    }
+}
+
 /// What a query asks a field of this kind for; none where the value is none for such a field.
 #[tactic(auto, unfolding(agg_reading::specs::Scalars::probe_of))]
 pub fn probe_of(alloc: Global, kind: FieldKind, value: &Value) -> Result<Option<Probe>, AllocError>
@@ -117,5 +148,6 @@ pub fn probe_of(alloc: Global, kind: FieldKind, value: &Value) -> Result<Option<
         FieldKind::Long | FieldKind::Integer | FieldKind::Short | FieldKind::Byte => {
             Ok(whole(value).map(Probe::Whole))
         }
+        FieldKind::Date => Ok(instant(value).map(Probe::Whole)),
     }
 }

@@ -66,9 +66,14 @@ merge_bucket_at b c =
 
 abbrev pub merge_node_at : Node-F OtherNode OtherBucket → Node-F Node Bucket → Node
 merge_node_at (Node-F.Keyed bs error full cut) (Node-F.Keyed cs error' full' cut') = Keyed (united bs cs) (sum_u64 error' error) (sum_u32 full' full) (sum_u64 cut' cut)
+merge_node_at (Node-F.Keyed bs error full cut) (Node-F.Fixed cs) = roll-Node (Node-F.Fixed cs)
+merge_node_at (Node-F.Keyed bs error full cut) (Node-F.Number n) = roll-Node (Node-F.Number n)
+merge_node_at (Node-F.Fixed bs) (Node-F.Keyed cs error full cut) = roll-Node (Node-F.Keyed cs error full cut)
 merge_node_at (Node-F.Fixed bs) (Node-F.Fixed cs) = Fixed (united bs cs)
+merge_node_at (Node-F.Fixed bs) (Node-F.Number n) = roll-Node (Node-F.Number n)
+merge_node_at (Node-F.Number m) (Node-F.Keyed cs error full cut) = roll-Node (Node-F.Keyed cs error full cut)
+merge_node_at (Node-F.Number m) (Node-F.Fixed cs) = roll-Node (Node-F.Fixed cs)
 merge_node_at (Node-F.Number m) (Node-F.Number n) = Number (merged_metric m n)
-merge_node_at _ n = roll-Node n
 
 -- the other tree, and then the first
 abbrev pub merged : Node → Node → Node

@@ -1,8 +1,8 @@
 //! Whole runs of many workers, behind gates that hold them up and without. What is wanted of one worker was computed by another
 //! program; what meets by the cost model.
-use crate::runs::{NO_FAULT, Setup, run_in_memory};
+use crate::runs::run_words;
 use crate::scripts::{seven_shards, two_shards};
-use agg_model::{Bytes, Text};
+use agg_model::Bytes;
 use serde_json::Value;
 use std::alloc::{AllocError, Global};
 use std::process::Abort;
@@ -23,15 +23,6 @@ const TWO_MET: &str =
 {"breakers":{"fielddata":{"estimated_size_in_bytes":28,"granted_size_in_bytes":28,"limit_size_in_bytes":429496729,"overhead_percent":103,"tripped":0},"inflight_requests":{"estimated_size_in_bytes":0,"granted_size_in_bytes":76,"limit_size_in_bytes":1073741824,"overhead_percent":200,"tripped":0},"parent":{"estimated_size_in_bytes":28,"granted_size_in_bytes":4970,"limit_size_in_bytes":751619276,"overhead_percent":100,"tripped":0},"request":{"estimated_size_in_bytes":0,"granted_size_in_bytes":4866,"limit_size_in_bytes":5200,"overhead_percent":100,"tripped":1}}}
 "#;
 
-/// The words of a text, which are split at blanks.
-fn words_in(alloc: Global, text: &str) -> Result<Vec<Text>, AllocError> {
-    let mut words = Vec::new(alloc);
-    for word in text.split_whitespace() {
-        words.push(Text::of(alloc, word)?)?;
-    }
-    Ok(words)
-}
-
 /// What a run with these words prints behind a gate. It is answered to its end.
 fn printed<R: Threads + Abort + Sync>(
     rt: &R,
@@ -40,14 +31,7 @@ fn printed<R: Threads + Abort + Sync>(
     script: Bytes,
     gate: &dyn Gate,
 ) -> Result<String, Fail> {
-    let texts = words_in(alloc, words)?;
-    let setup = Setup {
-        words: texts.as_slice(),
-        piece: 65_536,
-        faults: NO_FAULT,
-        rooms: &[],
-    };
-    let ended = run_in_memory(rt, alloc, script, setup, gate)?;
+    let ended = run_words(rt, alloc, words, script, gate)?;
     assert_eq!(rt; ended.status, 0, "{words}");
     let text = str::from_utf8(ended.sink.written())?;
     Ok(String::from_str(alloc, text)?)

@@ -7,6 +7,8 @@ mod batches;
 #[cfg(test)]
 mod cases;
 #[cfg(test)]
+mod classes;
+#[cfg(test)]
 mod ends;
 #[cfg(test)]
 mod faults;

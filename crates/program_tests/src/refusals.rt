@@ -3,7 +3,7 @@ use crate::cases::{Case, columns_of};
 use crate::ends::Wanted;
 use crate::parts::Counts;
 use crate::pools::Account;
-use crate::scripts::seven_shards;
+use crate::scripts::{seven_empty_shards, seven_shards};
 use shard_pool::{Gate, OpenGate, Point};
 use std::alloc::Global;
 use std::process::Abort;
@@ -187,6 +187,61 @@ fn a_refusal_stops_its_own_search_and_no_other(rt: HostRuntime) -> Result<(), Fa
     check(&rt, rt.alloc(), 1, &BOTH_WHOLE, &OpenGate)?;
     for case in &HELD_UP {
         check_held_up(&rt, rt.alloc(), case)?;
+    }
+    Ok(())
+}
+
+/// Sixteen levels of three filters: 64,570,080 buckets that exist from the start, of 19,284,930,560 bytes.
+const FILTERS: &str = r#"{"aggs":
+{"a":{"filters":{"filters":[{"match_all":{}},{"match_all":{}},{"match_all":{}}]},"aggs":
+{"a":{"filters":{"filters":[{"match_all":{}},{"match_all":{}},{"match_all":{}}]},"aggs":
+{"a":{"filters":{"filters":[{"match_all":{}},{"match_all":{}},{"match_all":{}}]},"aggs":
+{"a":{"filters":{"filters":[{"match_all":{}},{"match_all":{}},{"match_all":{}}]},"aggs":
+{"a":{"filters":{"filters":[{"match_all":{}},{"match_all":{}},{"match_all":{}}]},"aggs":
+{"a":{"filters":{"filters":[{"match_all":{}},{"match_all":{}},{"match_all":{}}]},"aggs":
+{"a":{"filters":{"filters":[{"match_all":{}},{"match_all":{}},{"match_all":{}}]},"aggs":
+{"a":{"filters":{"filters":[{"match_all":{}},{"match_all":{}},{"match_all":{}}]},"aggs":
+{"a":{"filters":{"filters":[{"match_all":{}},{"match_all":{}},{"match_all":{}}]},"aggs":
+{"a":{"filters":{"filters":[{"match_all":{}},{"match_all":{}},{"match_all":{}}]},"aggs":
+{"a":{"filters":{"filters":[{"match_all":{}},{"match_all":{}},{"match_all":{}}]},"aggs":
+{"a":{"filters":{"filters":[{"match_all":{}},{"match_all":{}},{"match_all":{}}]},"aggs":
+{"a":{"filters":{"filters":[{"match_all":{}},{"match_all":{}},{"match_all":{}}]},"aggs":
+{"a":{"filters":{"filters":[{"match_all":{}},{"match_all":{}},{"match_all":{}}]},"aggs":
+{"a":{"filters":{"filters":[{"match_all":{}},{"match_all":{}},{"match_all":{}}]},"aggs":
+{"a":{"filters":{"filters":[{"match_all":{}},{"match_all":{}},{"match_all":{}}]}}}}}}}}}}}}}}}}}}}}}}}}}}}}}}}}}}"#;
+
+/// A shard without documents charges what others do, and its empty trees before any is built.
+const WITHOUT_DOCUMENTS: [Case; 2] = [
+    // Each task answers its empty tree, of 512 bytes, and these are merged.
+    Case {
+        limit: 8_000,
+        size: 8,
+        bodies: &[TERMS],
+        ends: &[Wanted::Whole([0, 0, 0])],
+        request: Account {
+            held: 512,
+            granted: 7 * 4_608 + 7 * 512,
+            trips: 0,
+        },
+    },
+    Case {
+        limit: 1_000_000,
+        size: 8,
+        bodies: &[FILTERS],
+        ends: &[Wanted::Stopped(19_284_934_656)],
+        request: Account {
+            held: 0,
+            granted: 0,
+            trips: 1,
+        },
+    },
+];
+
+#[test]
+fn shards_without_documents_charge_their_empty_trees(rt: HostRuntime) -> Result<(), Fail> {
+    for case in &WITHOUT_DOCUMENTS {
+        let script = seven_empty_shards(rt.alloc())?;
+        let _columns = columns_of(&rt, rt.alloc(), script, 1, case, &OpenGate)?;
     }
     Ok(())
 }

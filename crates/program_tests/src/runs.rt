@@ -124,6 +124,33 @@ pub(crate) fn run_in_memory<R: Threads + Sync>(
     })
 }
 
+/// The words of a text, which are split at blanks.
+fn words_in(alloc: Global, text: &str) -> Result<Vec<Text>, AllocError> {
+    let mut words = Vec::new(alloc);
+    for word in text.split_whitespace() {
+        words.push(Text::of(alloc, word)?)?;
+    }
+    Ok(words)
+}
+
+/// Runs over memory with the words of a text, and no listener.
+pub(crate) fn run_words<R: Threads + Sync>(
+    rt: &R,
+    alloc: Global,
+    words: &str,
+    input: Bytes,
+    gate: &dyn Gate,
+) -> Result<Ended, AllocError> {
+    let texts = words_in(alloc, words)?;
+    let setup = Setup {
+        words: texts.as_slice(),
+        piece: 65_536,
+        faults: NO_FAULT,
+        rooms: &[],
+    };
+    run_in_memory(rt, alloc, input, setup, gate)
+}
+
 // Asserts how a run ended, and all that it wrote.
 pub(crate) fn expect_end(rt: &impl Abort, ended: &Ended, status: u8, output: &str) {
     assert_eq!(rt; ended.status, status);

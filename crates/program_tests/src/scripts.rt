@@ -40,6 +40,13 @@ pub(crate) fn two_shards(alloc: Global, searches: usize) -> Result<Bytes, AllocE
     with_searches(alloc, TWO_SHARDS, searches)
 }
 
+/// Seven shards without documents.
+pub(crate) fn seven_empty_shards(alloc: Global) -> Result<Bytes, AllocError> {
+    let mut lines = String::from_str(alloc, SEVEN_SHARDS)?;
+    lines.push_str("\n")?;
+    with_searches(alloc, lines.as_str(), 0)
+}
+
 /// The documents 1 to 20 on seven shards, of which the first twelve have the word `a` and the others `b`; and so many searches.
 ///
 /// | shard | 0 | 1 | 2 | 3 | 4 | 5 | 6 |

@@ -141,6 +141,10 @@ fn the_first_refusal_of_a_line_has_its_pointer(rt: HostRuntime) {
             "{\"index\":\"i\",\"mappings\":{\"properties\":{\"a\":{\"ignore_above\":1,\"type\":\"long\"}}}}",
             "/mappings/properties/a/ignore_above",
         ),
+        (
+            "{\"index\":\"i\",\"mappings\":{\"properties\":{\"a\":{\"format\":\"epoch_millis\",\"type\":\"date\"}}}}",
+            "/mappings/properties/a/format",
+        ),
     ];
     expect_refused(&rt, rt.alloc(), rows);
 }

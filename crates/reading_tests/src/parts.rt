@@ -168,21 +168,27 @@ fn words_of_fields(rt: HostRuntime) -> Result<(), Fail> {
     expect_words(&rt, rt.alloc(), rows)
 }
 
-/// Whether a JSON text is this number to a byte field, or none.
-fn is_whole(alloc: Global, json: &str, wanted: Option<i128>) -> Result<bool, Fail> {
+/// Whether a JSON text is this number to a field of this kind, or none.
+fn is_whole(
+    alloc: Global,
+    kind: FieldKind,
+    json: &str,
+    wanted: Option<i128>,
+) -> Result<bool, Fail> {
     let value = value_of(alloc, json.as_bytes())?;
-    let found = probe_of(alloc, FieldKind::Byte, &value)?;
+    let found = probe_of(alloc, kind, &value)?;
     Ok(found == wanted.map(Probe::Whole))
 }
 
-/// Asserts the number that each JSON text is.
+/// Asserts the number that each JSON text is to a field of this kind.
 fn expect_wholes(
     rt: &impl Abort,
     alloc: Global,
+    kind: FieldKind,
     rows: &[(&str, Option<i128>)],
 ) -> Result<(), Fail> {
     for &(json, wanted) in rows {
-        assert!(rt; is_whole(alloc, json, wanted)?, "{json}");
+        assert!(rt; is_whole(alloc, kind, json, wanted)?, "{json}");
     }
     Ok(())
 }
@@ -197,14 +203,36 @@ fn numbers_of_fields(rt: HostRuntime) -> Result<(), Fail> {
         (r#""000000000000000000000000000000000000001""#, None),
         ("true", None),
     ];
-    expect_wholes(&rt, rt.alloc(), rows)
+    expect_wholes(&rt, rt.alloc(), FieldKind::Byte, rows)
+}
+
+#[test]
+fn dates_of_fields(rt: HostRuntime) -> Result<(), Fail> {
+    let rows = &[
+        (r#""2024-03-01""#, Some(1_709_251_200_000)),
+        (r#""2024-02-29T23:59:59.999Z""#, Some(1_709_251_199_999)),
+        ("1709251200000", Some(1_709_251_200_000)),
+        ("253402214400000", Some(253_402_214_400_000)),
+        (r#""253402214400000""#, None),
+        (r#""9999-12-31""#, None),
+        (r#""2023-02-29""#, None),
+        ("9223372036854775808", None),
+        ("1.0", None),
+        ("true", None),
+        ("null", None),
+    ];
+    expect_wholes(&rt, rt.alloc(), FieldKind::Date, rows)
 }
 
 #[test]
 fn values_of_fields_are_bounded(rt: HostRuntime) -> Result<(), Fail> {
     assert!(rt; fits_kind(FieldKind::Byte, -128) && !fits_kind(FieldKind::Byte, 128));
+    assert!(rt; fits_kind(FieldKind::Date, -62_167_219_200_000));
+    assert!(rt; !fits_kind(FieldKind::Date, -62_167_219_200_001));
     assert!(rt; is_longer("\u{e9}\u{e9}", 1) && !is_longer("\u{e9}\u{e9}", 2));
-    assert!(rt; stored(Probe::Whole(9_223_372_036_854_775_808)).is_none());
-    assert!(rt; stored(Probe::Word(Text::of(rt.alloc(), "w")?)).is_some());
+    assert!(rt; stored(FieldKind::Long, Probe::Whole(9_223_372_036_854_775_808)).is_none());
+    assert!(rt; stored(FieldKind::Keyword, Probe::Word(Text::of(rt.alloc(), "w")?)).is_some());
+    assert!(rt; stored(FieldKind::Date, Probe::Whole(253_402_214_399_999)).is_some());
+    assert!(rt; stored(FieldKind::Date, Probe::Whole(253_402_214_400_000)).is_none());
     Ok(())
 }

@@ -1,12 +1,12 @@
-//! Fields of whole numbers, and nested paths that enclose a context.
+//! Fields of whole numbers and of dates, and nested paths that enclose a context.
 
 ghost use Rattle.std.specs.Prelude.{◌≡◌};
 ghost use Rattle.serde_json.specs.View.{members_view};
 ghost use Rattle.json_walk.specs.Places.{pointer};
 ghost use Rattle.agg_reading.specs.Reading.{Gives};
-ghost use Rattle.agg_model.specs.FieldKinds.{is_whole_kind};
+ghost use Rattle.agg_model.specs.FieldKinds.{is_number_kind, is_whole_kind};
 ghost use Rattle.agg_reading.specs.Histogram.{whole_field_in};
-ghost use Rattle.agg_reading.specs.Metrics.{enclosing_at};
+ghost use Rattle.agg_reading.specs.Metrics.{enclosing_at, number_field_in};
 
 use agg_mapping::OrderedMapping;
 use agg_model::body_refusal::{NO_SUCH_FIELD, NO_SUCH_PATH};
@@ -23,6 +23,20 @@ fn is_whole_kind(kind: FieldKind) -> bool
 {
     match kind {
         FieldKind::Long | FieldKind::Integer | FieldKind::Short | FieldKind::Byte => true,
+        FieldKind::Keyword | FieldKind::Boolean | FieldKind::Date => false,
+    }
+}
+
+/// Whether a field of this kind has whole numbers or dates.
+fn is_number_kind(kind: FieldKind) -> bool
+    ensures { result ≡ is_number_kind kind }
+{
+    match kind {
+        FieldKind::Long
+        | FieldKind::Integer
+        | FieldKind::Short
+        | FieldKind::Byte
+        | FieldKind::Date => true,
         FieldKind::Keyword | FieldKind::Boolean => false,
     }
 }
@@ -40,6 +54,24 @@ pub fn whole_field_in<'m>(
 {
     let (place, field) = field_in(alloc, mapping, at, members)?;
     if !is_whole_kind(field.kind) {
+        return At::Member(at, "field").refuse(alloc, NO_SUCH_FIELD);
+    }
+    Ok((place, field))
+}
+
+/// The field of whole numbers or dates that the member `field` names, and its place. Refused as any field is, and the member
+/// with `NO_SUCH_FIELD` where the field has neither.
+#[tactic(auto, unfolding(agg_reading::specs::Metrics::number_field_in))]
+pub fn number_field_in<'m>(
+    alloc: Global,
+    mapping: &OrderedMapping<'m>,
+    at: &At<'_>,
+    members: &Map<String, Value>,
+) -> Result<(u32, &'m Field), RequestFault>
+    ensures { Gives (λ f. (f.0, f.1.now)) result (number_field_in mapping.now (pointer at.now) (members_view members.now.entries)) }
+{
+    let (place, field) = field_in(alloc, mapping, at, members)?;
+    if !is_number_kind(field.kind) {
         return At::Member(at, "field").refuse(alloc, NO_SUCH_FIELD);
     }
     Ok((place, field))

@@ -9,7 +9,9 @@ ghost use Rattle.agg_reading.specs.Aggregations.{kind_name, kind_at};
 use crate::composite::composite;
 use crate::filters::filters;
 use crate::histogram::histogram;
-use crate::metrics::{any_metric, global, missing, nested_context, number_metric, outer_context};
+use crate::metrics::{
+    any_metric, extreme, global, missing, nested_context, number_metric, outer_context,
+};
 use crate::terms::terms;
 use agg_mapping::OrderedMapping;
 use agg_model::limits::MAX_QUERIES;
@@ -124,11 +126,11 @@ pub fn kind_at(
             Ok(plain(alloc, context, before, Kind::Sum { field, missing }))
         }
         KindName::Min => {
-            let (field, missing) = number_metric(alloc, mapping, at, value)?;
+            let (field, missing) = extreme(alloc, mapping, at, value)?;
             Ok(plain(alloc, context, before, Kind::Min { field, missing }))
         }
         KindName::Max => {
-            let (field, missing) = number_metric(alloc, mapping, at, value)?;
+            let (field, missing) = extreme(alloc, mapping, at, value)?;
             Ok(plain(alloc, context, before, Kind::Max { field, missing }))
         }
         KindName::Avg => {

@@ -6,9 +6,9 @@ ghost use Rattle.serde_json.specs.Find.{get_member};
 ghost use Rattle.serde_json.specs.View.{view, members_view};
 ghost use Rattle.json_walk.specs.Places.{pointer};
 ghost use Rattle.agg_reading.specs.Reading.{Gives};
-ghost use Rattle.agg_reading.specs.Metrics.{metered_in, number_metric_at, any_metric_at, missing_kind_at, global_at, nested_context_at, enclosing_at, outer_of, outer_context_at};
+ghost use Rattle.agg_reading.specs.Metrics.{metered_in, number_metric_at, extreme_at, any_metric_at, missing_kind_at, global_at, nested_context_at, enclosing_at, outer_of, outer_context_at};
 
-use crate::fields::{enclosing, whole_field_in};
+use crate::fields::{enclosing, number_field_in, whole_field_in};
 use agg_mapping::OrderedMapping;
 use agg_model::body_refusal::{NO_SUCH_PATH, UNKNOWN_MEMBER, WRONG_TYPE};
 use agg_model::{Field, Kind, Scalar};
@@ -33,7 +33,7 @@ fn metered(
     Ok((place, missing))
 }
 
-/// What `sum`, `min`, `max` and `avg` say: a field of whole numbers by its place, and the value of rows without one.
+/// What `sum` and `avg` say: a field of whole numbers by its place, and the value of rows without one.
 #[tactic(auto, unfolding(agg_reading::specs::Metrics::number_metric_at))]
 pub fn number_metric(
     alloc: Global,
@@ -46,6 +46,22 @@ pub fn number_metric(
     let members = object(alloc, WRONG_TYPE, at, value)?;
     check_names(alloc, UNKNOWN_MEMBER, at, members, &["field", "missing"])?;
     let (place, field) = whole_field_in(alloc, mapping, at, members)?;
+    metered(alloc, place, field, at, members)
+}
+
+/// What `min` and `max` say: a field of whole numbers or dates by its place, and the value of rows without one.
+#[tactic(auto, unfolding(agg_reading::specs::Metrics::extreme_at))]
+pub fn extreme(
+    alloc: Global,
+    mapping: &OrderedMapping<'_>,
+    at: &At<'_>,
+    value: &Value,
+) -> Result<(u32, Option<Scalar>), RequestFault>
+    ensures { Gives (λ x. x) result (extreme_at mapping.now (pointer at.now) (view value.now)) }
+{
+    let members = object(alloc, WRONG_TYPE, at, value)?;
+    check_names(alloc, UNKNOWN_MEMBER, at, members, &["field", "missing"])?;
+    let (place, field) = number_field_in(alloc, mapping, at, members)?;
     metered(alloc, place, field, at, members)
 }
 

@@ -1,8 +1,9 @@
 -- The third section of a script as it is read, entry by entry (Elasticsearch Reference 8, 'Multi search API', 'Cluster update
 -- settings API').
-use Rattle.std.specs.Prelude.{◌≡◌, ℕ, List, [], ◌∷◌, ◌++◌, take, Option, Some, None, Result, Ok, Err, Bool, true, ⊤}
+use Rattle.std.specs.Prelude.{◌≡◌, ◌≤◌, ℕ, List, [], ◌∷◌, ◌++◌, length, take, Option, Some, None, Result, Ok, Err, Bool, true, ⊤}
 use Rattle.serde_json.specs.Data.{Data}
 use Rattle.serde_json.specs.View.{view}
+use Rattle.agg_model.specs.declared.limits.TheConstants.{MAX_LINE}
 use Rattle.agg_model.specs.Lines.{Line, lines}
 use Rattle.agg_base.specs.Lines.{unread, position, has_ended, bytes_read}
 use Rattle.agg_base.specs.declared.lines.Lines.{Lines}
@@ -101,11 +102,13 @@ abbrev pub Reads : {S : Type 0} {g : Ghosts S} → (List Line → Entries) → L
 Reads whole bytes before result reader =
     ReadsAt whole bytes before result (place_of reader) (unread reader) (position reader) (has_ended reader) (bytes_read reader)
 
--- an entry that is a settings line has the form of one
+-- an entry that is a settings line has the form of one, and a body is no longer than a line
 abbrev pub IsFormed : Option Entry → Type 0
+IsFormed None = ⊤
+IsFormed (Some (Body text)) = length text ≤ MAX_LINE
 IsFormed (Some (Settings value)) = is_settings_line (view value) ≡ true
-IsFormed _ = ⊤
 
 abbrev pub IsFormedHeader : Option Header → Type 0
+IsFormedHeader None = ⊤
+IsFormedHeader (Some header.Search) = ⊤
 IsFormedHeader (Some (header.Settings value)) = is_settings_line (view value) ≡ true
-IsFormedHeader _ = ⊤

@@ -1,8 +1,9 @@
 //! The next line of a script.
-ghost use Rattle.std.specs.Prelude.{◌≡◌, ◌≢◌, ◌≤◌, ◌<◌, ◌+◌, ℕ, [], List, None, Some, Ok, Err, IfOk, IfErr, IfSome, IfNone, OnOk, OnSome};
+ghost use Rattle.std.specs.Prelude.{◌≡◌, ◌≢◌, ◌≤◌, ◌<◌, ◌+◌, ℕ, [], List, None, Some, Ok, Err, IfOk, IfErr, IfSome, IfNone, OnOk, OnSome, length};
 ghost use Rattle.std.specs.Io.KnownBytes.{IsAtEnd};
 ghost use Rattle.agg_base.specs.Lines.{source_of, source_name, kept, handed, position, unread, bytes_read, has_ended, Gave};
 ghost use Rattle.agg_base.specs.Outside.{Rose};
+ghost use Rattle.agg_model.specs.declared.limits.TheConstants.{MAX_LINE};
 ghost use Rattle.agg_model.specs.Lines.{Line};
 ghost use Rattle.agg_reading.specs.Lines.{is_empty_line};
 ghost use Rattle.script_lines.specs.Handed.{IsHanded};
@@ -60,6 +61,7 @@ pub fn next_line<S: Source>(
     ensures line { IfSome (rest_of lines.old) (λ rest. Reads (place_of lines.old) rest result (place_of lines.new) (rest_of lines.new)) }
     ensures front { (bytes : List ℕ) (front : List Line) → IsHanded bytes front (unread lines.old) (position lines.old) (has_ended lines.old) → Hands bytes front result (unread lines.new) (position lines.new) (has_ended lines.new) (bytes_read lines.new) }
 
+    ensures short { IfOk result (λ line. IfSome line (λ text. length text ≤ MAX_LINE)) }
     ensures fault { result ≡ Err Read → Rose (S.faults (source_of lines.old)) (S.faults (source_of lines.new)) }
     ensures never_falls { S.faults (source_of lines.old) ≤ S.faults (source_of lines.new) }
     ensures gave { Gave lines.old lines.new }
@@ -95,6 +97,7 @@ pub fn take_line<S: Source>(
     ensures line { IfSome (rest_of lines.old) (λ rest. Takes missing (place_of lines.old) rest result (place_of lines.new) (rest_of lines.new)) }
     ensures front { (bytes : List ℕ) (front : List Line) → IsHanded bytes front (unread lines.old) (position lines.old) (has_ended lines.old) → TakesFront bytes front result (unread lines.new) (position lines.new) (has_ended lines.new) (bytes_read lines.new) }
 
+    ensures short { IfOk result (λ text. length text ≤ MAX_LINE) }
     ensures fault { result ≡ Err Read → Rose (S.faults (source_of lines.old)) (S.faults (source_of lines.new)) }
     ensures never_falls { S.faults (source_of lines.old) ≤ S.faults (source_of lines.new) }
     ensures gave { Gave lines.old lines.new }

@@ -1,8 +1,9 @@
 //! The next entry of a script.
-ghost use Rattle.std.specs.Prelude.{◌≡◌, ◌≤◌, ◌<◌, ℕ, List, None, Some, Ok, Err, IfOk, IfNone, OnOk, OnSome};
+ghost use Rattle.std.specs.Prelude.{◌≡◌, ◌≤◌, ◌<◌, ℕ, List, None, Some, Ok, Err, IfOk, IfNone, OnOk, OnSome, length};
 ghost use Rattle.std.specs.Io.KnownBytes.{IsAtEnd};
 ghost use Rattle.agg_base.specs.Lines.{source_of, source_name, kept, position, Gave};
 ghost use Rattle.agg_base.specs.Outside.{Rose};
+ghost use Rattle.agg_model.specs.declared.limits.TheConstants.{MAX_LINE};
 ghost use Rattle.agg_model.specs.Lines.{Line};
 ghost use Rattle.agg_reading.specs.Entries.{Entries, body_of};
 ghost use Rattle.agg_reading.specs.Entries.{Entry as Defined};
@@ -61,6 +62,7 @@ fn next_body<S: Source>(alloc: Global, lines: &mut Lines<'_, S>) -> Result<Bytes
     requires { kept lines.old ≡ None }
     ensures script { (bytes : List ℕ) (whole : List Line → Entries) (before : List Defined) →
         GoesOn whole bytes (λ later. behind before (body_of (place_of lines.old) later)) lines.old → Bodies whole bytes before result lines.new }
+    ensures short { IfOk result (λ text. length text ≤ MAX_LINE) }
     ensures fault { result ≡ Err Read → Rose (S.faults (source_of lines.old)) (S.faults (source_of lines.new)) }
     ensures never_falls { S.faults (source_of lines.old) ≤ S.faults (source_of lines.new) }
     ensures gave { Gave lines.old lines.new }

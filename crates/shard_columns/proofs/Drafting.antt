@@ -12,7 +12,7 @@ use Rattle.std.proofs.lemmas.Option.{same_Some, slice_get_within}
 use Rattle.std.proofs.Math.Facts.{eqb_yes}
 use Rattle.agg_model.specs.FieldKinds.{is_of_kind}
 use Rattle.agg_model.specs.declared.mapping.FieldKind.{FieldKind}
-use Rattle.agg_model.specs.declared.mapping.FieldKind.TheVariants.{Long, Integer, Short, Byte, Keyword, Boolean}
+use Rattle.agg_model.specs.declared.mapping.FieldKind.TheVariants.{Long, Integer, Short, Byte, Keyword, Boolean, Date}
 use Rattle.agg_model.specs.declared.row.Scalar.{Scalar}
 use Rattle.agg_model.specs.declared.row.Scalar.TheVariants as scalar
 use Rattle.agg_model.specs.declared.row.FieldValues.{FieldValues}
@@ -87,6 +87,11 @@ taken-of-kind Byte (typed.Wholes ns) (scalar.Word w) typed_is is = absurd (cc is
 taken-of-kind Byte (typed.Wholes ns) (scalar.Flag b) typed_is is = absurd (cc is)
 taken-of-kind Byte (typed.Words ps) v typed_is is = absurd (cc typed_is)
 taken-of-kind Byte (typed.Flags bs) v typed_is is = absurd (cc typed_is)
+taken-of-kind Date (typed.Wholes ns) (scalar.Whole n) typed_is is = refl
+taken-of-kind Date (typed.Wholes ns) (scalar.Word w) typed_is is = absurd (cc is)
+taken-of-kind Date (typed.Wholes ns) (scalar.Flag b) typed_is is = absurd (cc is)
+taken-of-kind Date (typed.Words ps) v typed_is is = absurd (cc typed_is)
+taken-of-kind Date (typed.Flags bs) v typed_is is = absurd (cc typed_is)
 
 pub all-taken-of-kind : (k : FieldKind) (t : Typed) (vs : List Scalar) → is_typed k t ≡ true → list_all (is_of_kind k) vs ≡ true → list_all (is_taken t) vs ≡ true
 all-taken-of-kind k t [] typed_is all = refl

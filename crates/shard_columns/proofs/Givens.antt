@@ -9,7 +9,7 @@ use Rattle.std.proofs.lemmas.Bool.Decides.{nat_tests}
 use Rattle.agg_model.specs.declared.limits.TheConstants.{MAX_PATHS, WEIGHT_LIMIT}
 use Rattle.agg_model.specs.declared.mapping.Field.{Field}
 use Rattle.agg_model.specs.declared.mapping.FieldKind.{FieldKind}
-use Rattle.agg_model.specs.declared.mapping.FieldKind.TheVariants.{Long, Integer, Short, Byte, Keyword, Boolean}
+use Rattle.agg_model.specs.declared.mapping.FieldKind.TheVariants.{Long, Integer, Short, Byte, Keyword, Boolean, Date}
 use Rattle.agg_model.specs.declared.mapping.Mapping.{Mapping}
 use Rattle.agg_model.specs.declared.row.Scalar.{Scalar}
 use Rattle.agg_model.specs.declared.row.Scalar.TheVariants.{Whole, Word, Flag}
@@ -123,6 +123,9 @@ module _ (m : Mapping) where
   of_kind Byte (Whole w) h = refl
   of_kind Byte (Word w) h = absurd (false≢true h)
   of_kind Byte (Flag w) h = absurd (false≢true h)
+  of_kind Date (Whole w) h = refl
+  of_kind Date (Word w) h = absurd (false≢true h)
+  of_kind Date (Flag w) h = absurd (false≢true h)
 
   all_of_kind : (k : FieldKind) (vs : List Scalar) → list_all (is_value k) vs ≡ true → list_all (is_of_kind k) vs ≡ true
   all_of_kind k [] h = refl

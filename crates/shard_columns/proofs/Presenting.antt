@@ -7,9 +7,9 @@ use Rattle.std.specs.Option.{option_map_or}
 use Rattle.std.specs.List.{list_all, range_with_len}
 use Rattle.std.proofs.lemmas.Bool.{cases_lt}
 use Rattle.std.proofs.Math.Facts.{eqb_yes}
-use Rattle.agg_model.specs.FieldKinds.{is_of_kind, is_whole_kind}
+use Rattle.agg_model.specs.FieldKinds.{is_of_kind, is_number_kind}
 use Rattle.agg_model.specs.declared.mapping.FieldKind.{FieldKind}
-use Rattle.agg_model.specs.declared.mapping.FieldKind.TheVariants.{Long, Integer, Short, Byte, Keyword, Boolean}
+use Rattle.agg_model.specs.declared.mapping.FieldKind.TheVariants.{Long, Integer, Short, Byte, Keyword, Boolean, Date}
 use Rattle.agg_model.specs.declared.row.Scalar.{Scalar}
 use Rattle.agg_model.specs.declared.row.Scalar.TheVariants as scalar
 use Rattle.agg_model.specs.declared.row.FieldValues.{FieldValues}
@@ -144,7 +144,7 @@ lent-ordinals ws (typed.Words ps) s taken =
     let got = shown-words ws (cut ps.items s) ps (ap (list_all (is_taken (typed.Words ps))) (sym is) ∙ taken) in
     (got.0 ∙ ap words_in (sym is), got.1)
 
-pub wholes-all : (k : FieldKind) (vs : List Scalar) → is_whole_kind k ≡ true → list_all (is_of_kind k) vs ≡ true → map scalar.Whole (wholes_in vs) ≡ vs
+pub wholes-all : (k : FieldKind) (vs : List Scalar) → is_number_kind k ≡ true → list_all (is_of_kind k) vs ≡ true → map scalar.Whole (wholes_in vs) ≡ vs
 wholes-all k [] whole all = refl
 wholes-all Long (scalar.Whole n ∷ vs) whole all = ap (λ (xs : List Scalar). scalar.Whole n ∷ xs) (wholes-all Long vs whole all)
 wholes-all Long (scalar.Word w ∷ vs) whole all = absurd (cc all)
@@ -158,6 +158,9 @@ wholes-all Short (scalar.Flag b ∷ vs) whole all = absurd (cc all)
 wholes-all Byte (scalar.Whole n ∷ vs) whole all = ap (λ (xs : List Scalar). scalar.Whole n ∷ xs) (wholes-all Byte vs whole all)
 wholes-all Byte (scalar.Word w ∷ vs) whole all = absurd (cc all)
 wholes-all Byte (scalar.Flag b ∷ vs) whole all = absurd (cc all)
+wholes-all Date (scalar.Whole n ∷ vs) whole all = ap (λ (xs : List Scalar). scalar.Whole n ∷ xs) (wholes-all Date vs whole all)
+wholes-all Date (scalar.Word w ∷ vs) whole all = absurd (cc all)
+wholes-all Date (scalar.Flag b ∷ vs) whole all = absurd (cc all)
 wholes-all Keyword (v ∷ vs) whole all = absurd (cc whole)
 wholes-all Boolean (v ∷ vs) whole all = absurd (cc whole)
 

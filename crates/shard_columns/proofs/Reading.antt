@@ -23,7 +23,7 @@ use Rattle.agg_model.specs.declared.mapping.FieldKind.{FieldKind}
 use Rattle.agg_model.specs.declared.mapping.FieldKind.TheVariants.{Keyword}
 use Rattle.shard_columns.specs.Dictionary.{words_of}
 use Rattle.agg_evaluation.specs.ColumnBytes.{value_count, dictionary_bytes}
-use Rattle.agg_model.specs.FieldKinds.{is_of_kind, is_whole_kind}
+use Rattle.agg_model.specs.FieldKinds.{is_of_kind, is_number_kind}
 use Rattle.agg_model.specs.declared.row.Scalar.{Scalar}
 use Rattle.agg_model.specs.declared.row.FieldValues.{FieldValues}
 use Rattle.shard_columns.specs.Columns.{Columns}
@@ -282,7 +282,7 @@ module _ (s : Inside) (v : Columns) (view : columns_of s ≡ v) (sound : IsSound
   pub whole-values : (n field : ℕ) (r : List ℤ) → r ≡ wholes_in (values_of field (row_of v.rows n)) → holds_numbers v.kinds field ≡ true → map scalar.Whole r ≡ values_of field (row_of v.rows n)
   whole-values n field r is holds = by_kind (slice_get v.kinds field) refl holds
     where
-      by_kind : (o : Option FieldKind) → slice_get v.kinds field ≡ o → option_map_or is_whole_kind o false ≡ true → map scalar.Whole r ≡ values_of field (row_of v.rows n)
+      by_kind : (o : Option FieldKind) → slice_get v.kinds field ≡ o → option_map_or is_number_kind o false ≡ true → map scalar.Whole r ≡ values_of field (row_of v.rows n)
       by_kind None e whole = absurd (cc whole)
       by_kind (Some k) e whole = ap (map scalar.Whole) is ∙ wholes-all k (values_of field (row_of v.rows n)) whole (of-kind n field k e)
 

@@ -12,7 +12,7 @@ use Rattle.std.proofs.lemmas.Grind.{flat_map-append}
 use Rattle.std.proofs.lemmas.Slice.{between_is, between_to_end}
 use Rattle.std.proofs.Math.Seq.{get_or-append_seam}
 use Rattle.agg_model.specs.declared.mapping.FieldKind.{FieldKind}
-use Rattle.agg_model.specs.declared.mapping.FieldKind.TheVariants.{Long, Integer, Short, Byte, Keyword, Boolean}
+use Rattle.agg_model.specs.declared.mapping.FieldKind.TheVariants.{Long, Integer, Short, Byte, Keyword, Boolean, Date}
 use Rattle.agg_model.specs.declared.row.Scalar.{Scalar}
 use Rattle.agg_model.specs.declared.row.Scalar.TheVariants as scalar
 use Rattle.agg_model.specs.declared.row.FieldValues.{FieldValues}
@@ -260,6 +260,7 @@ kind-same Long a b = refl
 kind-same Integer a b = refl
 kind-same Short a b = refl
 kind-same Byte a b = refl
+kind-same Date a b = refl
 
 pub kind-same-words : (k : FieldKind) (a b : _) → is_typed k (typed.Words a) ≡ is_typed k (typed.Words b)
 kind-same-words Keyword a b = refl
@@ -268,6 +269,7 @@ kind-same-words Long a b = refl
 kind-same-words Integer a b = refl
 kind-same-words Short a b = refl
 kind-same-words Byte a b = refl
+kind-same-words Date a b = refl
 
 kind-same-flags : (k : FieldKind) (a b : _) → is_typed k (typed.Flags a) ≡ is_typed k (typed.Flags b)
 kind-same-flags Keyword a b = refl
@@ -276,6 +278,7 @@ kind-same-flags Long a b = refl
 kind-same-flags Integer a b = refl
 kind-same-flags Short a b = refl
 kind-same-flags Byte a b = refl
+kind-same-flags Date a b = refl
 
 taken-same : (v : Scalar) (a b : _) → is_taken (typed.Wholes a) v ≡ is_taken (typed.Wholes b) v
 taken-same (scalar.Whole n) a b = refl

@@ -1,7 +1,7 @@
 -- The values that a shard lends: those of one type among the values of a row.
 use Rattle.std.specs.Prelude.{ℕ, ℤ, Bool, false, List, [], ◌∷◌, flat_map, slice_get, slice_index_or}
 use Rattle.std.specs.Option.{option_map_or}
-use Rattle.agg_model.specs.FieldKinds.{is_whole_kind}
+use Rattle.agg_model.specs.FieldKinds.{is_number_kind}
 use Rattle.agg_model.specs.declared.mapping.FieldKind.{FieldKind}
 use Rattle.agg_model.specs.declared.row.Scalar.{Scalar}
 use Rattle.agg_model.specs.declared.row.Scalar.TheVariants.{Whole, Word, Flag}
@@ -28,6 +28,6 @@ flags_in = flat_map flag_in
 abbrev pub word_at : List (List ℕ) → ℕ → List ℕ
 word_at words place = slice_index_or words place []
 
--- the field is one of whole numbers
+-- the field is one of whole numbers, or of dates
 abbrev pub holds_numbers : List FieldKind → ℕ → Bool
-holds_numbers kinds field = option_map_or is_whole_kind (slice_get kinds field) false
+holds_numbers kinds field = option_map_or is_number_kind (slice_get kinds field) false

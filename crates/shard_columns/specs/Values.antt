@@ -4,7 +4,7 @@ use Rattle.std.specs.Option.{option_map_or}
 use Rattle.std.specs.List.{range_with_len}
 use Rattle.std.specs.List.Sorted.{IsStrictlyIncreasing}
 use Rattle.agg_model.specs.declared.mapping.FieldKind.{FieldKind}
-use Rattle.agg_model.specs.declared.mapping.FieldKind.TheVariants.{Keyword, Boolean}
+use Rattle.agg_model.specs.FieldKinds.{ValueKind, value_kind}
 use Rattle.agg_model.specs.declared.row.Scalar.{Scalar}
 use Rattle.agg_model.specs.declared.row.Scalar.TheVariants as scalar
 use Rattle.agg_model.specs.declared.row.FieldValues.{FieldValues}
@@ -50,21 +50,35 @@ typed_len (typed.Wholes ns) = length ns.items
 typed_len (typed.Words ps) = length ps.items
 typed_len (typed.Flags bs) = length bs.items
 
+abbrev pub hold : ValueKind → Typed → Bool
+hold (ValueKind.wholes half) (typed.Wholes ns) = true
+hold (ValueKind.wholes half) (typed.Words ps) = false
+hold (ValueKind.wholes half) (typed.Flags bs) = false
+hold ValueKind.words (typed.Wholes ns) = false
+hold ValueKind.words (typed.Words ps) = true
+hold ValueKind.words (typed.Flags bs) = false
+hold ValueKind.flags (typed.Wholes ns) = false
+hold ValueKind.flags (typed.Words ps) = false
+hold ValueKind.flags (typed.Flags bs) = true
+hold ValueKind.dates (typed.Wholes ns) = true
+hold ValueKind.dates (typed.Words ps) = false
+hold ValueKind.dates (typed.Flags bs) = false
+
 -- values of a kind are of this type
 abbrev pub is_typed : FieldKind → Typed → Bool
-is_typed Keyword (typed.Words ps) = true
-is_typed Keyword _ = false
-is_typed Boolean (typed.Flags bs) = true
-is_typed Boolean _ = false
-is_typed _ (typed.Wholes ns) = true
-is_typed _ _ = false
+is_typed kind values = hold (value_kind kind) values
 
 -- a value is of this type
 abbrev pub is_taken : Typed → Scalar → Bool
 is_taken (typed.Wholes ns) (scalar.Whole n) = true
+is_taken (typed.Wholes ns) (scalar.Word w) = false
+is_taken (typed.Wholes ns) (scalar.Flag b) = false
+is_taken (typed.Words ps) (scalar.Whole n) = false
 is_taken (typed.Words ps) (scalar.Word w) = true
+is_taken (typed.Words ps) (scalar.Flag b) = false
+is_taken (typed.Flags bs) (scalar.Whole n) = false
+is_taken (typed.Flags bs) (scalar.Word w) = false
 is_taken (typed.Flags bs) (scalar.Flag b) = true
-is_taken _ _ = false
 
 abbrev pub no_span : Span
 no_span = record { start = 0; end = 0 }

@@ -57,9 +57,11 @@ fn no_values(alloc: Global, kind: FieldKind) -> Typed
     match kind {
         FieldKind::Keyword => Typed::Words(Vec::new(alloc)),
         FieldKind::Boolean => Typed::Flags(Vec::new(alloc)),
-        FieldKind::Long | FieldKind::Integer | FieldKind::Short | FieldKind::Byte => {
-            Typed::Wholes(Vec::new(alloc))
-        }
+        FieldKind::Long
+        | FieldKind::Integer
+        | FieldKind::Short
+        | FieldKind::Byte
+        | FieldKind::Date => Typed::Wholes(Vec::new(alloc)),
     }
 }
 

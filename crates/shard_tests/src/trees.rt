@@ -4,7 +4,7 @@ ghost use Rattle.shard_tests.specs.Example.{example_agg, example_values, example
 
 use crate::sample::sample_shard;
 use agg_model::{Agg, Bucket, Key, Kind, List, Node, Order, OrderBy, Text};
-use growing_tree::{begin, finish, gather, prepare};
+use growing_tree::{TableRoom, begin, finish, gather, prepare};
 use std::alloc::{AllocError, Global};
 use std::test::Fail;
 
@@ -128,7 +128,7 @@ fn a_document_becomes_the_tree_of_its_shard(rt: HostRuntime) -> Result<(), Fail>
     let alloc = rt.alloc();
     let shard = sample_shard(alloc)?;
     let agg = items(alloc)?;
-    let ready = prepare(alloc, &shard, &agg)?;
+    let ready = prepare(alloc, &shard, &agg, &mut TableRoom::new())?;
     let mut tree = begin(alloc, &agg, &ready)?;
     let mut rows = List::new(alloc);
     rows.push(0)?;

@@ -12,7 +12,7 @@ use Rattle.std.proofs.lemmas.Option.{slice_get-map, slice_get_within}
 use Rattle.agg_model.specs.declared.mapping.Mapping.{Mapping}
 use Rattle.agg_model.specs.declared.mapping.Field.{Field}
 use Rattle.agg_model.specs.declared.mapping.FieldKind.{FieldKind}
-use Rattle.agg_model.specs.declared.mapping.FieldKind.TheVariants.{Long, Integer, Short, Byte, Keyword, Boolean}
+use Rattle.agg_model.specs.declared.mapping.FieldKind.TheVariants.{Long, Integer, Short, Byte, Keyword, Boolean, Date}
 use Rattle.agg_model.specs.declared.aggregation.Kind.{Kind}
 use Rattle.agg_model.specs.declared.row.Document.{Document}
 use Rattle.agg_model.specs.declared.row.Scalar.{Scalar}
@@ -46,6 +46,9 @@ stored_content Short (Flag b) h = absurd (cc h)
 stored_content Byte (Whole n) h = refl
 stored_content Byte (Word w) h = absurd (cc h)
 stored_content Byte (Flag b) h = absurd (cc h)
+stored_content Date (Whole n) h = refl
+stored_content Date (Word w) h = absurd (cc h)
+stored_content Date (Flag b) h = absurd (cc h)
 
 there : (p : FieldKind → Bool) (o : Option Field) → option_map_or (λ f. p f.kind) o false ≡ true → (f : Field) × ((o ≡ Some f) × (p f.kind ≡ true))
 there p None h = absurd (cc h)

@@ -5,7 +5,7 @@ use Rattle.std.specs.Option.{option_map_or}
 use Rattle.agg_model.specs.declared.key.Key.{Key}
 use Rattle.agg_model.specs.declared.key.Key.TheVariants as key
 use Rattle.agg_model.specs.declared.mapping.FieldKind.{FieldKind}
-use Rattle.agg_model.specs.declared.mapping.FieldKind.TheVariants.{Keyword, Boolean}
+use Rattle.agg_model.specs.declared.mapping.FieldKind.TheVariants.{Long, Integer, Short, Byte, Keyword, Boolean, Date}
 use Rattle.agg_model.specs.declared.row.Scalar.{Scalar}
 use Rattle.agg_model.specs.declared.row.Scalar.TheVariants as scalar
 use Rattle.shard_columns.specs.Columns.{Columns}
@@ -23,7 +23,11 @@ use Rattle.terms_agg.specs.declared.prepared.PreparedTerms.{PreparedTerms}
 abbrev pub content_of : FieldKind → Content
 content_of Keyword = content.Words
 content_of Boolean = content.Flags
-content_of _ = content.Wholes
+content_of Long = content.Wholes
+content_of Integer = content.Wholes
+content_of Short = content.Wholes
+content_of Byte = content.Wholes
+content_of Date = content.Wholes
 
 abbrev pub is_content : Content → Scalar → Bool
 is_content content.Words (scalar.Word w) = true

@@ -12,7 +12,7 @@ use Rattle.evaluation_laws.proofs.Samples.{numbers, words, flat, document, by_co
 use Rattle.std.specs.Prelude.{◌+◌, ◌/◌, ◌%◌}
 use Rattle.std.specs.List.{range_with_len}
 use Rattle.agg_model.specs.declared.mapping.FieldKind.{FieldKind}
-use Rattle.agg_model.specs.declared.mapping.FieldKind.TheVariants.{Keyword, Long, Boolean}
+use Rattle.agg_model.specs.declared.mapping.FieldKind.TheVariants.{Keyword, Long, Boolean, Date}
 
 abbrev none : List PlacedRow
 none = shard_rows
@@ -48,6 +48,11 @@ missing_may_be_the_longest_word : ceiling kinds (search_of query.All ((agg (code
     ≡ (Some 10296)
 unfolding computing
 missing_may_be_the_longest_word = refl
+
+keys_of_dates_have_8_bytes : ceiling (Boolean ∷ Date ∷ Keyword ∷ []) (search_of query.All ((agg (codes "d") (terms 1) []) ∷ [])) documents
+    ≡ (Some 10848)
+unfolding computing
+keys_of_dates_have_8_bytes = refl
 
 keys_of_children_multiply : ceiling kinds (search_of query.All ((agg (codes "n") (terms 1) ((agg (codes "h") (kind.Histogram 1 10 0 0 no_bounds no_bounds false by_key None) []) ∷ (agg (codes "s") (kind.Sum 1 None) []) ∷ (agg (codes "t") (terms 2) []) ∷ [])) ∷ [])) documents
     ≡ (Some 32222)

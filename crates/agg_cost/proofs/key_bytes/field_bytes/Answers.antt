@@ -23,6 +23,6 @@ returns-in-Boolean c =
     let field = c.args.field in
     let missing = c.args.missing.now in
     let least = λ (k : FieldKind). least_bytes (Some k) in
-    let eight : least_bytes (Some c.kind.result) ≡ 8 = ⊎_elim (λ h. ap least h) (⊎_elim (λ h. ap least h) (⊎_elim (λ h. ap least h) (⊎_elim (λ h. ap least h) (λ h. ap least h)))) c.in-Boolean.is in
+    let eight : least_bytes (Some c.kind.result) ≡ 8 = ⊎_elim (λ h. ap least h) (⊎_elim (λ h. ap least h) (⊎_elim (λ h. ap least h) (⊎_elim (λ h. ap least h) (⊎_elim (λ h. ap least h) (λ h. ap least h))))) c.in-Boolean.is in
     sym (ap (λ (k : Option FieldKind). value_bytes k (option_to_list missing ++ flat_map (values_of field) rows)) c.kind.ensures.kind
     ∙ of_numbers field missing rows c.kind.result eight (c.requires.missing_fits _ c.kind.ensures.kind) c.kind.ensures.values)

@@ -11,3 +11,6 @@ returns-in-Long c =
     (λ h. ⊎_elim (λ e. rw e c.check_names-in-Long.ensures)
     (λ h. ⊎_elim (λ e. rw e c.check_names-in-Long.ensures)
     (λ e. rw e c.check_names-in-Long.ensures) h) h) h) c.in-Long.is
+
+pub returns-in-Date : goal.returns-in-Date
+returns-in-Date c = rw c.in-Date.is c.check_names-in-Date.ensures

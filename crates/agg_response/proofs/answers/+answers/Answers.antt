@@ -9,6 +9,7 @@ use Rattle.agg_model.specs.declared.answer.NodeAnswer.{out-NodeAnswer}
 use Rattle.agg_model.specs.declared.aggregation.Agg.{Agg, out-Agg}
 use Rattle.agg_model.specs.declared.aggregation.Kind.{Kind}
 use Rattle.agg_model.specs.declared.aggregation.Kind.TheVariants as kind
+use Rattle.agg_model.specs.declared.mapping.Mapping.{Mapping}
 use Rattle.agg_model.specs.declared.text.Text.{Text}
 use Rattle.agg_spec.specs.AnswerTree.{printer, named_answers, bucket_members, key_number, after_key, value_of}
 use Rattle.agg_spec.specs.Average.{average}
@@ -24,11 +25,11 @@ use Rattle.agg_response.proofs.PutLaws.{bucket_made, mapped_here, flat_here, lis
 use Rattle.agg_response.proofs.answers.+answers.Goals as goal
 
 -- what a bucket prints under the text of its key, and under its name
-abbrev keyed : Kind → List Agg → BucketAnswer → Member
-keyed kind children b = (key_number (out-BucketAnswer b).key, bucket_tree kind (map printer children) b)
+abbrev keyed : Mapping → Kind → List Agg → BucketAnswer → Member
+keyed m kind children b = (key_number (out-BucketAnswer b).key, bucket_tree m kind (map (printer m) children) b)
 
-abbrev named : Kind → List Agg → Text × BucketAnswer → Member
-named kind children b = (b.0, bucket_tree kind (map printer children) b.1)
+abbrev named : Mapping → Kind → List Agg → Text × BucketAnswer → Member
+named m kind children b = (b.0, bucket_tree m kind (map (printer m) children) b.1)
 
 pub bucket_list-bucket_value-requires : goal.bucket_list-bucket_value-requires
 bucket_list-bucket_value-requires t c = (omega (arith, c.decreases, bucket_most c.as_slice-bucket-items.result.now c.loop-bucket.bucket-index c.bucket-item.result c.loop-bucket-test.true c.bucket-item.is, ap (most size-BucketAnswer) c.as_slice-bucket-items.ensures), bucket_here (check_bucket (map checker c.args.children.now)) c.bucket-item.result (drop c.loop-bucket.bucket-index c.as_slice-bucket-items.result.now) (drop (c.loop-bucket.bucket-index + 1) c.as_slice-bucket-items.result.now) (drop_here c.as_slice-bucket-items.result.now c.loop-bucket.bucket-index c.bucket-item.result c.loop-bucket-test.true c.bucket-item.is) c.loop-bucket.invariant.in_range)
@@ -37,7 +38,7 @@ pub bucket_list-loop-bucket-preserved : goal.bucket_list-loop-bucket-preserved
 bucket_list-loop-bucket-preserved t c = record {
   in_range = buckets_later (check_bucket (map checker c.args.children.now)) c.bucket-item.result (drop c.loop-bucket.bucket-index c.as_slice-bucket-items.result.now) (drop (c.loop-bucket.bucket-index + 1) c.as_slice-bucket-items.result.now) (drop_here c.as_slice-bucket-items.result.now c.loop-bucket.bucket-index c.bucket-item.result c.loop-bucket-test.true c.bucket-item.is) c.loop-bucket.invariant.in_range;
   all =
-      listed_here (bucket_tree c.args.kind.now (map printer c.args.children.now)) c.as_slice-bucket-items.result.now c.loop-bucket.bucket-index c.bucket-item.result (view c.in_ok-bucket_value.field-0.value) (map view c.loop-bucket.values.items.items)
+      listed_here (bucket_tree c.args.mapping.now c.args.kind.now (map (printer c.args.mapping.now) c.args.children.now)) c.as_slice-bucket-items.result.now c.loop-bucket.bucket-index c.bucket-item.result (view c.in_ok-bucket_value.field-0.value) (map view c.loop-bucket.values.items.items)
       (map view c.in_ok-values.values.items.items) (drop_here c.as_slice-bucket-items.result.now c.loop-bucket.bucket-index c.bucket-item.result c.loop-bucket-test.true c.bucket-item.is) c.in_ok-bucket_value.ensures c.in_ok-values.ensures
       ∙ c.loop-bucket.invariant.all;
 }
@@ -49,7 +50,7 @@ pub keyed_buckets-loop-bucket-preserved : goal.keyed_buckets-loop-bucket-preserv
 keyed_buckets-loop-bucket-preserved t c = record {
   in_range = buckets_later (check_bucket (map checker c.args.children.now)) c.bucket-item.result (drop c.loop-bucket.bucket-index c.as_slice-bucket-items.result.now) (drop (c.loop-bucket.bucket-index + 1) c.as_slice-bucket-items.result.now) (drop_here c.as_slice-bucket-items.result.now c.loop-bucket.bucket-index c.bucket-item.result c.loop-bucket-test.true c.bucket-item.is) c.loop-bucket.invariant.in_range;
   all =
-      mapped_here (keyed c.args.kind.now c.args.children.now) c.as_slice-bucket-items.result.now c.loop-bucket.bucket-index c.bucket-item.result c.as_str.result.now (view c.in_ok-bucket_value.field-0.value) (members_view c.loop-bucket.object.members.entries) (members_view c.in_ok-object.object.members.entries)
+      mapped_here (keyed c.args.mapping.now c.args.kind.now c.args.children.now) c.as_slice-bucket-items.result.now c.loop-bucket.bucket-index c.bucket-item.result c.as_str.result.now (view c.in_ok-bucket_value.field-0.value) (members_view c.loop-bucket.object.members.entries) (members_view c.in_ok-object.object.members.entries)
       (drop_here c.as_slice-bucket-items.result.now c.loop-bucket.bucket-index c.bucket-item.result c.loop-bucket-test.true c.bucket-item.is) (c.as_str.ensures.value ∙ c.in_ok-name.ensures) c.in_ok-bucket_value.ensures c.in_ok-object.ensures
       ∙ c.loop-bucket.invariant.all;
 }
@@ -61,7 +62,7 @@ pub named_buckets-loop-place-preserved : goal.named_buckets-loop-place-preserved
 named_buckets-loop-place-preserved t c = record {
   in_range = buckets_later (check_bucket (map checker c.args.children.now)) c.bucket-item.result (drop c.loop-place.place c.as_slice-bucket-items.result.now) (drop (c.loop-place.place + 1) c.as_slice-bucket-items.result.now) (drop_here c.as_slice-bucket-items.result.now c.loop-place.place c.bucket-item.result c.loop-place-test.true c.bucket-item.is) c.loop-place.invariant.in_range;
   all =
-      pairs_put-here (named c.args.kind.now c.args.children.now) (c.args.names.now ++ option_to_list c.args.other.now) c.as_slice-bucket-items.result.now c.loop-place.place c.in-Some.name.now c.bucket-item.result c.as_str.result.now (view c.in_ok-bucket_value.field-0.value) (members_view c.loop-place.object.members.entries) (members_view c.in_ok-object.object.members.entries)
+      pairs_put-here (named c.args.mapping.now c.args.kind.now c.args.children.now) (c.args.names.now ++ option_to_list c.args.other.now) c.as_slice-bucket-items.result.now c.loop-place.place c.in-Some.name.now c.bucket-item.result c.as_str.result.now (view c.in_ok-bucket_value.field-0.value) (members_view c.loop-place.object.members.entries) (members_view c.in_ok-object.object.members.entries)
       (drop_found (c.args.names.now ++ option_to_list c.args.other.now) c.loop-place.place c.in-Some.name.now (sym (ap option_copied c.in-Some.is) ∙ c.name_at.ensures)) (drop_here c.as_slice-bucket-items.result.now c.loop-place.place c.bucket-item.result c.loop-place-test.true c.bucket-item.is) c.as_str.ensures c.in_ok-bucket_value.ensures c.in_ok-object.ensures
       ∙ c.loop-place.invariant.all;
 }
@@ -84,7 +85,7 @@ with_answers-loop-place-preserved t c =
           answers_later c.agg-item.result c.in-Some.node.now (drop c.loop-place.place c.as_slice-agg-items.result.now) (drop (c.loop-place.place + 1) c.as_slice-agg-items.result.now)
           (drop c.loop-place.place c.args.nodes.now) (drop (c.loop-place.place + 1) c.args.nodes.now) here found c.loop-place.invariant.in_range;
       all =
-          answers_here c.as_slice-agg-items.result.now c.args.nodes.now c.loop-place.place c.agg-item.result c.in-Some.node.now c.as_str.result.now (view c.in_ok-answer_value.field-0.value)
+          answers_here c.args.mapping.now c.as_slice-agg-items.result.now c.args.nodes.now c.loop-place.place c.agg-item.result c.in-Some.node.now c.as_str.result.now (view c.in_ok-answer_value.field-0.value)
           (members_view c.loop-place.object.members.entries) (members_view c.in_ok-object.object.members.entries) here found c.as_str.ensures c.in_ok-answer_value.ensures c.in_ok-object.ensures
           ∙ c.loop-place.invariant.all;
     }
@@ -93,10 +94,10 @@ pub with_answers-returns-in_default : goal.with_answers-returns-in_default
 with_answers-returns-in_default t c =
     let here = drop_here c.as_slice-agg-items.result.now c.loop-place.place c.agg-item.result c.loop-place-test.true c.agg-item.is in
     let missing = drop_missing c.args.nodes.now c.loop-place.place (sym (ap option_copied c.in_default.is) ∙ c.get.ensures) in
-    sym (answers_end c.agg-item.result (drop c.loop-place.place c.as_slice-agg-items.result.now) (drop (c.loop-place.place + 1) c.as_slice-agg-items.result.now)
+    sym (answers_end c.args.mapping.now c.agg-item.result (drop c.loop-place.place c.as_slice-agg-items.result.now) (drop (c.loop-place.place + 1) c.as_slice-agg-items.result.now)
     (drop c.loop-place.place c.args.nodes.now) (members_view c.loop-place.object.members.entries) here missing)
     ∙ c.loop-place.invariant.all
-    ∙ ap (λ xs. answers_put xs c.args.nodes.now (members_view c.args.object.members.entries)) c.as_slice-agg-items.ensures
+    ∙ ap (λ xs. answers_put c.args.mapping.now xs c.args.nodes.now (members_view c.args.object.members.entries)) c.as_slice-agg-items.ensures
 
 pub single_bucket-with_answers-requires : goal.single_bucket-with_answers-requires
 single_bucket-with_answers-requires t c = (omega (arith, c.decreases, children_less c.bucket-item.result, bucket_most c.as_slice-bucket-items.result.now c.loop-bucket.bucket-index c.bucket-item.result c.loop-bucket-test.true c.bucket-item.is, ap (most size-BucketAnswer) c.as_slice-bucket-items.ensures), children_of_bucket (map checker c.args.children.now) c.bucket-item.result (bucket_here (check_bucket (map checker c.args.children.now)) c.bucket-item.result (drop c.loop-bucket.bucket-index c.as_slice-bucket-items.result.now) (drop (c.loop-bucket.bucket-index + 1) c.as_slice-bucket-items.result.now) (drop_here c.as_slice-bucket-items.result.now c.loop-bucket.bucket-index c.bucket-item.result c.loop-bucket-test.true c.bucket-item.is) c.loop-bucket.invariant.in_range))
@@ -105,10 +106,10 @@ pub single_bucket-loop-bucket-preserved : goal.single_bucket-loop-bucket-preserv
 single_bucket-loop-bucket-preserved t c = record {
   in_range = buckets_later (check_bucket (map checker c.args.children.now)) c.bucket-item.result (drop c.loop-bucket.bucket-index c.as_slice-bucket-items.result.now) (drop (c.loop-bucket.bucket-index + 1) c.as_slice-bucket-items.result.now) (drop_here c.as_slice-bucket-items.result.now c.loop-bucket.bucket-index c.bucket-item.result c.loop-bucket-test.true c.bucket-item.is) c.loop-bucket.invariant.in_range;
   all =
-      flat_here (λ b. bucket_members (map printer c.args.children.now) (own_members c.args.kind.now b) b) c.as_slice-bucket-items.result.now c.loop-bucket.bucket-index c.bucket-item.result (members_view c.loop-bucket.object.members.entries) (members_view c.in_ok-object-2.object.members.entries)
+      flat_here (λ b. bucket_members (map (printer c.args.mapping.now) c.args.children.now) (own_members c.args.mapping.now c.args.kind.now b) b) c.as_slice-bucket-items.result.now c.loop-bucket.bucket-index c.bucket-item.result (members_view c.loop-bucket.object.members.entries) (members_view c.in_ok-object-2.object.members.entries)
       (drop_here c.as_slice-bucket-items.result.now c.loop-bucket.bucket-index c.bucket-item.result c.loop-bucket-test.true c.bucket-item.is)
-      (c.in_ok-object-2.ensures ∙ ap (with_members (named_answers (map printer c.args.children.now) (out-BucketAnswer c.bucket-item.result).children)) c.in_ok-object.ensures
-      ∙ bucket_made (map printer c.args.children.now) (own_members c.args.kind.now c.bucket-item.result) c.bucket-item.result (members_view c.loop-bucket.object.members.entries))
+      (c.in_ok-object-2.ensures ∙ ap (with_members (named_answers (map (printer c.args.mapping.now) c.args.children.now) (out-BucketAnswer c.bucket-item.result).children)) c.in_ok-object.ensures
+      ∙ bucket_made (map (printer c.args.mapping.now) c.args.children.now) (own_members c.args.mapping.now c.args.kind.now c.bucket-item.result) c.bucket-item.result (members_view c.loop-bucket.object.members.entries))
       ∙ c.loop-bucket.invariant.all;
 }
 
@@ -155,68 +156,68 @@ pub answer_value-average_object-requires : goal.answer_value-average_object-requ
 answer_value-average_object-requires t c = sym (ap (λ k. sum_in_range k (out-NodeAnswer c.args.node.now).metric.sum) c.in-Avg.is) ∙ sum_of_answer c.args.agg.now c.args.node.now c.requires
 
 pub answer_value-returns-in_ok-buckets-in-Terms : goal.answer_value-returns-in_ok-buckets-in-Terms
-answer_value-returns-in_ok-buckets-in-Terms t c = subst (λ d. IfOk c.terms_object.result (λ j. view j.value ≡ d)) (ap (λ b. object_of ((codes "buckets", b) ∷ (codes "doc_count_error_upper_bound", whole_number (out-NodeAnswer c.args.node.now).error) ∷ (codes "sum_other_doc_count", count (out-NodeAnswer c.args.node.now).other) ∷ [])) c.in_ok-buckets-in-Terms.ensures ∙ printer-kind c.args.agg.now c.args.node.now _ (λ k. object_of ((codes "buckets", array_of (map (bucket_tree k (map printer (out-Agg c.args.agg.now).children)) (out-NodeAnswer c.args.node.now).buckets)) ∷ (codes "doc_count_error_upper_bound", whole_number (out-NodeAnswer c.args.node.now).error) ∷ (codes "sum_other_doc_count", count (out-NodeAnswer c.args.node.now).other) ∷ [])) c.in-Terms.is refl) c.terms_object.ensures
+answer_value-returns-in_ok-buckets-in-Terms t c = subst (λ d. IfOk c.terms_object.result (λ j. view j.value ≡ d)) (ap (λ b. object_of ((codes "buckets", b) ∷ (codes "doc_count_error_upper_bound", whole_number (out-NodeAnswer c.args.node.now).error) ∷ (codes "sum_other_doc_count", count (out-NodeAnswer c.args.node.now).other) ∷ [])) c.in_ok-buckets-in-Terms.ensures ∙ printer-kind c.args.mapping.now c.args.agg.now c.args.node.now _ (λ k. object_of ((codes "buckets", array_of (map (bucket_tree c.args.mapping.now k (map (printer c.args.mapping.now) (out-Agg c.args.agg.now).children)) (out-NodeAnswer c.args.node.now).buckets)) ∷ (codes "doc_count_error_upper_bound", whole_number (out-NodeAnswer c.args.node.now).error) ∷ (codes "sum_other_doc_count", count (out-NodeAnswer c.args.node.now).other) ∷ [])) c.in-Terms.is refl) c.terms_object.ensures
 
 pub answer_value-returns-then-keyed : goal.answer_value-returns-then-keyed
-answer_value-returns-then-keyed t c = subst (λ d. IfOk c.only.result (λ j. view j.value ≡ d)) (ap (λ b. object_of ((codes "buckets", b) ∷ [])) c.in_ok-named-in-Histogram.ensures ∙ printer-kind c.args.agg.now c.args.node.now _ (λ k. object_of ((codes "buckets", object_of (map (keyed k (out-Agg c.args.agg.now).children) (out-NodeAnswer c.args.node.now).buckets)) ∷ [])) (c.in-Histogram.is ∙ ap (λ b. kind.Histogram c.in-Histogram.field c.in-Histogram.interval c.in-Histogram.offset c.in-Histogram.min_doc_count c.in-Histogram.extended c.in-Histogram.hard b c.in-Histogram.order c.in-Histogram.missing) c.if-keyed.true) refl) c.only.ensures
+answer_value-returns-then-keyed t c = subst (λ d. IfOk c.only.result (λ j. view j.value ≡ d)) (ap (λ b. object_of ((codes "buckets", b) ∷ [])) c.in_ok-named-in-Histogram.ensures ∙ printer-kind c.args.mapping.now c.args.agg.now c.args.node.now _ (λ k. object_of ((codes "buckets", object_of (map (keyed c.args.mapping.now k (out-Agg c.args.agg.now).children) (out-NodeAnswer c.args.node.now).buckets)) ∷ [])) (c.in-Histogram.is ∙ ap (λ b. kind.Histogram c.in-Histogram.field c.in-Histogram.interval c.in-Histogram.offset c.in-Histogram.min_doc_count c.in-Histogram.extended c.in-Histogram.hard b c.in-Histogram.order c.in-Histogram.missing) c.if-keyed.true) refl) c.only.ensures
 
 pub answer_value-returns-in_ok-listed-in-Histogram : goal.answer_value-returns-in_ok-listed-in-Histogram
-answer_value-returns-in_ok-listed-in-Histogram t c = subst (λ d. IfOk c.only-in-Histogram.result (λ j. view j.value ≡ d)) (ap (λ b. object_of ((codes "buckets", b) ∷ [])) c.in_ok-listed-in-Histogram.ensures ∙ printer-kind c.args.agg.now c.args.node.now _ (λ k. object_of ((codes "buckets", array_of (map (bucket_tree k (map printer (out-Agg c.args.agg.now).children)) (out-NodeAnswer c.args.node.now).buckets)) ∷ [])) (c.in-Histogram.is ∙ ap (λ b. kind.Histogram c.in-Histogram.field c.in-Histogram.interval c.in-Histogram.offset c.in-Histogram.min_doc_count c.in-Histogram.extended c.in-Histogram.hard b c.in-Histogram.order c.in-Histogram.missing) c.if-keyed.false) refl) c.only-in-Histogram.ensures
+answer_value-returns-in_ok-listed-in-Histogram t c = subst (λ d. IfOk c.only-in-Histogram.result (λ j. view j.value ≡ d)) (ap (λ b. object_of ((codes "buckets", b) ∷ [])) c.in_ok-listed-in-Histogram.ensures ∙ printer-kind c.args.mapping.now c.args.agg.now c.args.node.now _ (λ k. object_of ((codes "buckets", array_of (map (bucket_tree c.args.mapping.now k (map (printer c.args.mapping.now) (out-Agg c.args.agg.now).children)) (out-NodeAnswer c.args.node.now).buckets)) ∷ [])) (c.in-Histogram.is ∙ ap (λ b. kind.Histogram c.in-Histogram.field c.in-Histogram.interval c.in-Histogram.offset c.in-Histogram.min_doc_count c.in-Histogram.extended c.in-Histogram.hard b c.in-Histogram.order c.in-Histogram.missing) c.if-keyed.false) refl) c.only-in-Histogram.ensures
 
 pub answer_value-returns-in_default : goal.answer_value-returns-in_default
-answer_value-returns-in_default t c = subst (λ d. IfOk c.only-in_default.result (λ j. view j.value ≡ d)) (ap (λ b. object_of ((codes "buckets", b) ∷ [])) c.in_ok-anonymous-in-Filters.ensures ∙ printer-kind c.args.agg.now c.args.node.now _ (λ k. object_of ((codes "buckets", array_of (map (bucket_tree k (map printer (out-Agg c.args.agg.now).children)) (out-NodeAnswer c.args.node.now).buckets)) ∷ [])) (c.in-Filters.is ∙ ap (λ ns. kind.Filters ns c.in-Filters.filters c.in-Filters.other) c.in_default.is) refl) c.only-in_default.ensures
+answer_value-returns-in_default t c = subst (λ d. IfOk c.only-in_default.result (λ j. view j.value ≡ d)) (ap (λ b. object_of ((codes "buckets", b) ∷ [])) c.in_ok-anonymous-in-Filters.ensures ∙ printer-kind c.args.mapping.now c.args.agg.now c.args.node.now _ (λ k. object_of ((codes "buckets", array_of (map (bucket_tree c.args.mapping.now k (map (printer c.args.mapping.now) (out-Agg c.args.agg.now).children)) (out-NodeAnswer c.args.node.now).buckets)) ∷ [])) (c.in-Filters.is ∙ ap (λ ns. kind.Filters ns c.in-Filters.filters c.in-Filters.other) c.in_default.is) refl) c.only-in_default.ensures
 
 pub answer_value-returns-in_ok-filtered-in-Filters : goal.answer_value-returns-in_ok-filtered-in-Filters
-answer_value-returns-in_ok-filtered-in-Filters t c = subst (λ d. IfOk c.only-in-Filters.result (λ j. view j.value ≡ d)) (ap (λ b. object_of ((codes "buckets", b) ∷ [])) c.in_ok-filtered-in-Filters.ensures ∙ printer-kind c.args.agg.now c.args.node.now _ (λ k. object_of ((codes "buckets", object_of (map (named k (out-Agg c.args.agg.now).children) (zip (c.in-Some.names ++ option_to_list c.in-Filters.other) (out-NodeAnswer c.args.node.now).buckets))) ∷ [])) (c.in-Filters.is ∙ ap (λ ns. kind.Filters ns c.in-Filters.filters c.in-Filters.other) c.in-Some.is) refl) c.only-in-Filters.ensures
+answer_value-returns-in_ok-filtered-in-Filters t c = subst (λ d. IfOk c.only-in-Filters.result (λ j. view j.value ≡ d)) (ap (λ b. object_of ((codes "buckets", b) ∷ [])) c.in_ok-filtered-in-Filters.ensures ∙ printer-kind c.args.mapping.now c.args.agg.now c.args.node.now _ (λ k. object_of ((codes "buckets", object_of (map (named c.args.mapping.now k (out-Agg c.args.agg.now).children) (zip (c.in-Some.names ++ option_to_list c.in-Filters.other) (out-NodeAnswer c.args.node.now).buckets))) ∷ [])) (c.in-Filters.is ∙ ap (λ ns. kind.Filters ns c.in-Filters.filters c.in-Filters.other) c.in-Some.is) refl) c.only-in-Filters.ensures
 
 pub answer_value-returns-in_ok-page-in-Composite : goal.answer_value-returns-in_ok-page-in-Composite
-answer_value-returns-in_ok-page-in-Composite t c = subst (λ d. IfOk c.composite_object.result (λ j. view j.value ≡ d)) (ap (λ b. object_of (after_key c.in-Composite.sources (out-NodeAnswer c.args.node.now).buckets ++ (codes "buckets", b) ∷ [])) c.in_ok-page-in-Composite.ensures ∙ printer-kind c.args.agg.now c.args.node.now _ (λ k. object_of (after_key c.in-Composite.sources (out-NodeAnswer c.args.node.now).buckets ++ (codes "buckets", array_of (map (bucket_tree k (map printer (out-Agg c.args.agg.now).children)) (out-NodeAnswer c.args.node.now).buckets)) ∷ [])) c.in-Composite.is refl) c.composite_object.ensures
+answer_value-returns-in_ok-page-in-Composite t c = subst (λ d. IfOk c.composite_object.result (λ j. view j.value ≡ d)) (ap (λ b. object_of (after_key c.in-Composite.sources (out-NodeAnswer c.args.node.now).buckets ++ (codes "buckets", b) ∷ [])) c.in_ok-page-in-Composite.ensures ∙ printer-kind c.args.mapping.now c.args.agg.now c.args.node.now _ (λ k. object_of (after_key c.in-Composite.sources (out-NodeAnswer c.args.node.now).buckets ++ (codes "buckets", array_of (map (bucket_tree c.args.mapping.now k (map (printer c.args.mapping.now) (out-Agg c.args.agg.now).children)) (out-NodeAnswer c.args.node.now).buckets)) ∷ [])) c.in-Composite.is refl) c.composite_object.ensures
 
 pub answer_value-returns-in-Sum : goal.answer_value-returns-in-Sum
-answer_value-returns-in-Sum t c = subst (λ d. IfOk c.sum_object.result (λ j. view j.value ≡ d)) (printer-kind c.args.agg.now c.args.node.now _ (λ k. object_of ((codes "value", whole_number (out-NodeAnswer c.args.node.now).metric.sum) ∷ [])) c.in-Sum.is refl) c.sum_object.ensures
+answer_value-returns-in-Sum t c = subst (λ d. IfOk c.sum_object.result (λ j. view j.value ≡ d)) (printer-kind c.args.mapping.now c.args.agg.now c.args.node.now _ (λ k. object_of ((codes "value", whole_number (out-NodeAnswer c.args.node.now).metric.sum) ∷ [])) c.in-Sum.is refl) c.sum_object.ensures
 
 pub answer_value-returns-in-Min : goal.answer_value-returns-in-Min
-answer_value-returns-in-Min t c = subst (λ d. IfOk c.only-in-Min.result (λ j. view j.value ≡ d)) (ap (λ v. object_of ((codes "value", v) ∷ [])) c.optional_value.ensures ∙ printer-kind c.args.agg.now c.args.node.now _ (λ k. object_of ((codes "value", value_of (out-NodeAnswer c.args.node.now).metric.least) ∷ [])) c.in-Min.is refl) c.only-in-Min.ensures
+answer_value-returns-in-Min t c = subst (λ d. IfOk c.only-in-Min.result (λ j. view j.value ≡ d)) (ap (λ v. object_of ((codes "value", v) ∷ [])) c.optional_value.ensures ∙ printer-kind c.args.mapping.now c.args.agg.now c.args.node.now _ (λ k. object_of ((codes "value", value_of (out-NodeAnswer c.args.node.now).metric.least) ∷ [])) c.in-Min.is refl) c.only-in-Min.ensures
 
 pub answer_value-returns-in-Max : goal.answer_value-returns-in-Max
-answer_value-returns-in-Max t c = subst (λ d. IfOk c.only-in-Max.result (λ j. view j.value ≡ d)) (ap (λ v. object_of ((codes "value", v) ∷ [])) c.optional_value-in-Max.ensures ∙ printer-kind c.args.agg.now c.args.node.now _ (λ k. object_of ((codes "value", value_of (out-NodeAnswer c.args.node.now).metric.greatest) ∷ [])) c.in-Max.is refl) c.only-in-Max.ensures
+answer_value-returns-in-Max t c = subst (λ d. IfOk c.only-in-Max.result (λ j. view j.value ≡ d)) (ap (λ v. object_of ((codes "value", v) ∷ [])) c.optional_value-in-Max.ensures ∙ printer-kind c.args.mapping.now c.args.agg.now c.args.node.now _ (λ k. object_of ((codes "value", value_of (out-NodeAnswer c.args.node.now).metric.greatest) ∷ [])) c.in-Max.is refl) c.only-in-Max.ensures
 
 pub answer_value-returns-in-ValueCount : goal.answer_value-returns-in-ValueCount
-answer_value-returns-in-ValueCount t c = subst (λ d. IfOk c.only-in-ValueCount.result (λ j. view j.value ≡ d)) (ap (λ v. object_of ((codes "value", v) ∷ [])) c.count_value.ensures ∙ printer-kind c.args.agg.now c.args.node.now _ (λ k. object_of ((codes "value", count (out-NodeAnswer c.args.node.now).metric.count) ∷ [])) c.in-ValueCount.is refl) c.only-in-ValueCount.ensures
+answer_value-returns-in-ValueCount t c = subst (λ d. IfOk c.only-in-ValueCount.result (λ j. view j.value ≡ d)) (ap (λ v. object_of ((codes "value", v) ∷ [])) c.count_value.ensures ∙ printer-kind c.args.mapping.now c.args.agg.now c.args.node.now _ (λ k. object_of ((codes "value", count (out-NodeAnswer c.args.node.now).metric.count) ∷ [])) c.in-ValueCount.is refl) c.only-in-ValueCount.ensures
 
 pub answer_value-returns-in-Avg : goal.answer_value-returns-in-Avg
-answer_value-returns-in-Avg t c = subst (λ d. IfOk c.average_object.result (λ j. view j.value ≡ d)) (printer-kind c.args.agg.now c.args.node.now _ (λ k. object_of ((codes "count", count (out-NodeAnswer c.args.node.now).metric.count) ∷ (codes "sum", whole_number (out-NodeAnswer c.args.node.now).metric.sum) ∷ (codes "value_as_string", average (out-NodeAnswer c.args.node.now).metric.sum (out-NodeAnswer c.args.node.now).metric.count) ∷ [])) c.in-Avg.is refl) c.average_object.ensures
+answer_value-returns-in-Avg t c = subst (λ d. IfOk c.average_object.result (λ j. view j.value ≡ d)) (printer-kind c.args.mapping.now c.args.agg.now c.args.node.now _ (λ k. object_of ((codes "count", count (out-NodeAnswer c.args.node.now).metric.count) ∷ (codes "sum", whole_number (out-NodeAnswer c.args.node.now).metric.sum) ∷ (codes "value_as_string", average (out-NodeAnswer c.args.node.now).metric.sum (out-NodeAnswer c.args.node.now).metric.count) ∷ [])) c.in-Avg.is refl) c.average_object.ensures
 
 pub answer_value-returns-in-Filter : goal.answer_value-returns-in-Filter
-answer_value-returns-in-Filter t c = subst (λ d. IfOk c.single_bucket.result (λ j. view j.value ≡ d)) (printer-kind c.args.agg.now c.args.node.now _ (λ k. object_of (flat_map (λ b. bucket_members (map printer (out-Agg c.args.agg.now).children) (own_members k b) b) (out-NodeAnswer c.args.node.now).buckets)) c.in-Filter.is refl) c.single_bucket.ensures
+answer_value-returns-in-Filter t c = subst (λ d. IfOk c.single_bucket.result (λ j. view j.value ≡ d)) (printer-kind c.args.mapping.now c.args.agg.now c.args.node.now _ (λ k. object_of (flat_map (λ b. bucket_members (map (printer c.args.mapping.now) (out-Agg c.args.agg.now).children) (own_members c.args.mapping.now k b) b) (out-NodeAnswer c.args.node.now).buckets)) c.in-Filter.is refl) c.single_bucket.ensures
 
 pub answer_value-returns-in-Missing : goal.answer_value-returns-in-Missing
-answer_value-returns-in-Missing t c = subst (λ d. IfOk c.single_bucket-in-Missing.result (λ j. view j.value ≡ d)) (printer-kind c.args.agg.now c.args.node.now _ (λ k. object_of (flat_map (λ b. bucket_members (map printer (out-Agg c.args.agg.now).children) (own_members k b) b) (out-NodeAnswer c.args.node.now).buckets)) c.in-Missing.is refl) c.single_bucket-in-Missing.ensures
+answer_value-returns-in-Missing t c = subst (λ d. IfOk c.single_bucket-in-Missing.result (λ j. view j.value ≡ d)) (printer-kind c.args.mapping.now c.args.agg.now c.args.node.now _ (λ k. object_of (flat_map (λ b. bucket_members (map (printer c.args.mapping.now) (out-Agg c.args.agg.now).children) (own_members c.args.mapping.now k b) b) (out-NodeAnswer c.args.node.now).buckets)) c.in-Missing.is refl) c.single_bucket-in-Missing.ensures
 
 pub answer_value-returns-in-Global : goal.answer_value-returns-in-Global
-answer_value-returns-in-Global t c = subst (λ d. IfOk c.single_bucket-in-Global.result (λ j. view j.value ≡ d)) (printer-kind c.args.agg.now c.args.node.now _ (λ k. object_of (flat_map (λ b. bucket_members (map printer (out-Agg c.args.agg.now).children) (own_members k b) b) (out-NodeAnswer c.args.node.now).buckets)) c.in-Global.is refl) c.single_bucket-in-Global.ensures
+answer_value-returns-in-Global t c = subst (λ d. IfOk c.single_bucket-in-Global.result (λ j. view j.value ≡ d)) (printer-kind c.args.mapping.now c.args.agg.now c.args.node.now _ (λ k. object_of (flat_map (λ b. bucket_members (map (printer c.args.mapping.now) (out-Agg c.args.agg.now).children) (own_members c.args.mapping.now k b) b) (out-NodeAnswer c.args.node.now).buckets)) c.in-Global.is refl) c.single_bucket-in-Global.ensures
 
 pub answer_value-returns-in-Nested : goal.answer_value-returns-in-Nested
-answer_value-returns-in-Nested t c = subst (λ d. IfOk c.single_bucket-in-Nested.result (λ j. view j.value ≡ d)) (printer-kind c.args.agg.now c.args.node.now _ (λ k. object_of (flat_map (λ b. bucket_members (map printer (out-Agg c.args.agg.now).children) (own_members k b) b) (out-NodeAnswer c.args.node.now).buckets)) c.in-Nested.is refl) c.single_bucket-in-Nested.ensures
+answer_value-returns-in-Nested t c = subst (λ d. IfOk c.single_bucket-in-Nested.result (λ j. view j.value ≡ d)) (printer-kind c.args.mapping.now c.args.agg.now c.args.node.now _ (λ k. object_of (flat_map (λ b. bucket_members (map (printer c.args.mapping.now) (out-Agg c.args.agg.now).children) (own_members c.args.mapping.now k b) b) (out-NodeAnswer c.args.node.now).buckets)) c.in-Nested.is refl) c.single_bucket-in-Nested.ensures
 
 pub answer_value-returns-in-ReverseNested : goal.answer_value-returns-in-ReverseNested
-answer_value-returns-in-ReverseNested t c = subst (λ d. IfOk c.single_bucket-in-ReverseNested.result (λ j. view j.value ≡ d)) (printer-kind c.args.agg.now c.args.node.now _ (λ k. object_of (flat_map (λ b. bucket_members (map printer (out-Agg c.args.agg.now).children) (own_members k b) b) (out-NodeAnswer c.args.node.now).buckets)) c.in-ReverseNested.is refl) c.single_bucket-in-ReverseNested.ensures
+answer_value-returns-in-ReverseNested t c = subst (λ d. IfOk c.single_bucket-in-ReverseNested.result (λ j. view j.value ≡ d)) (printer-kind c.args.mapping.now c.args.agg.now c.args.node.now _ (λ k. object_of (flat_map (λ b. bucket_members (map (printer c.args.mapping.now) (out-Agg c.args.agg.now).children) (own_members c.args.mapping.now k b) b) (out-NodeAnswer c.args.node.now).buckets)) c.in-ReverseNested.is refl) c.single_bucket-in-ReverseNested.ensures
 
 pub named_buckets-returns-in_default : goal.named_buckets-returns-in_default
 named_buckets-returns-in_default t c = c.into_json.ensures ∙
     ap object (
-    sym (pairs_put-no_first (named c.args.kind.now c.args.children.now) (drop c.loop-place.place (c.args.names.now ++ option_to_list c.args.other.now)) (drop c.loop-place.place c.as_slice-bucket-items.result.now) (members_view c.loop-place.object.members.entries) (drop_missing (c.args.names.now ++ option_to_list c.args.other.now) c.loop-place.place (sym (ap option_copied c.in_default.is) ∙ c.name_at.ensures)))
+    sym (pairs_put-no_first (named c.args.mapping.now c.args.kind.now c.args.children.now) (drop c.loop-place.place (c.args.names.now ++ option_to_list c.args.other.now)) (drop c.loop-place.place c.as_slice-bucket-items.result.now) (members_view c.loop-place.object.members.entries) (drop_missing (c.args.names.now ++ option_to_list c.args.other.now) c.loop-place.place (sym (ap option_copied c.in_default.is) ∙ c.name_at.ensures)))
     ∙ c.loop-place.invariant.all
-    ∙ ap (λ bs. pairs_put (named c.args.kind.now c.args.children.now) (c.args.names.now ++ option_to_list c.args.other.now) bs (members_view c.new-object.result.members.entries)) c.as_slice-bucket-items.ensures
-    ∙ ap (pairs_put (named c.args.kind.now c.args.children.now) (c.args.names.now ++ option_to_list c.args.other.now) c.args.buckets.now) c.new-object.ensures)
+    ∙ ap (λ bs. pairs_put (named c.args.mapping.now c.args.kind.now c.args.children.now) (c.args.names.now ++ option_to_list c.args.other.now) bs (members_view c.new-object.result.members.entries)) c.as_slice-bucket-items.ensures
+    ∙ ap (pairs_put (named c.args.mapping.now c.args.kind.now c.args.children.now) (c.args.names.now ++ option_to_list c.args.other.now) c.args.buckets.now) c.new-object.ensures)
 
 pub named_buckets-returns : goal.named_buckets-returns
 named_buckets-returns t c = c.into_json-2.ensures ∙
     ap object (
-    sym (pairs_put-no_second (named c.args.kind.now c.args.children.now) (drop c.loop-place.place (c.args.names.now ++ option_to_list c.args.other.now)) (drop c.loop-place.place c.as_slice-bucket-items.result.now) (members_view c.loop-place.object.members.entries) (drop_all c.loop-place.place c.as_slice-bucket-items.result.now c.loop-place-test.false))
+    sym (pairs_put-no_second (named c.args.mapping.now c.args.kind.now c.args.children.now) (drop c.loop-place.place (c.args.names.now ++ option_to_list c.args.other.now)) (drop c.loop-place.place c.as_slice-bucket-items.result.now) (members_view c.loop-place.object.members.entries) (drop_all c.loop-place.place c.as_slice-bucket-items.result.now c.loop-place-test.false))
     ∙ c.loop-place.invariant.all
-    ∙ ap (λ bs. pairs_put (named c.args.kind.now c.args.children.now) (c.args.names.now ++ option_to_list c.args.other.now) bs (members_view c.new-object.result.members.entries)) c.as_slice-bucket-items.ensures
-    ∙ ap (pairs_put (named c.args.kind.now c.args.children.now) (c.args.names.now ++ option_to_list c.args.other.now) c.args.buckets.now) c.new-object.ensures)
+    ∙ ap (λ bs. pairs_put (named c.args.mapping.now c.args.kind.now c.args.children.now) (c.args.names.now ++ option_to_list c.args.other.now) bs (members_view c.new-object.result.members.entries)) c.as_slice-bucket-items.ensures
+    ∙ ap (pairs_put (named c.args.mapping.now c.args.kind.now c.args.children.now) (c.args.names.now ++ option_to_list c.args.other.now) c.args.buckets.now) c.new-object.ensures)
 
 pub answer_value-composite_object-requires : goal.answer_value-composite_object-requires
 answer_value-composite_object-requires t c = keys_of_buckets (map checker (out-Agg c.args.agg.now).children) (out-NodeAnswer c.args.node.now).buckets (buckets_of_answer c.args.agg.now c.args.node.now c.requires)

@@ -38,38 +38,38 @@ decreases-single_bucket l = 2 * most size-BucketAnswer l.buckets.now + 1
 abbrev pub invariant-with_answers-loop-place : goal.invariant-with_answers-loop-place
 invariant-with_answers-loop-place l = record {
   in_range : pairs_check (drop l.place l.agg-items) (drop l.place l.nodes) ≡ [];
-  all : answers_put (drop l.place l.agg-items) (drop l.place l.nodes) (members_view l.object.members.entries)
-      ≡ answers_put l.agg-items l.nodes (members_view l.initial.object.members.entries);
+  all : answers_put l.mapping (drop l.place l.agg-items) (drop l.place l.nodes) (members_view l.object.members.entries)
+      ≡ answers_put l.mapping l.agg-items l.nodes (members_view l.initial.object.members.entries);
 }
 
 abbrev pub invariant-bucket_list-loop-bucket : goal.invariant-bucket_list-loop-bucket
 invariant-bucket_list-loop-bucket l = record {
   in_range : flat_map (check_bucket (map checker l.children)) (drop l.bucket-index l.bucket-items) ≡ [];
-  all : map view l.values.items.items ++ map (bucket_tree l.kind (map printer l.children)) (drop l.bucket-index l.bucket-items)
-      ≡ map (bucket_tree l.kind (map printer l.children)) l.bucket-items;
+  all : map view l.values.items.items ++ map (bucket_tree l.mapping l.kind (map (printer l.mapping) l.children)) (drop l.bucket-index l.bucket-items)
+      ≡ map (bucket_tree l.mapping l.kind (map (printer l.mapping) l.children)) l.bucket-items;
 }
 
 abbrev pub invariant-keyed_buckets-loop-bucket : goal.invariant-keyed_buckets-loop-bucket
 invariant-keyed_buckets-loop-bucket l = record {
   in_range : flat_map (check_bucket (map checker l.children)) (drop l.bucket-index l.bucket-items) ≡ [];
-  all : with_members (map (λ (b : BucketAnswer). (key_number (out-BucketAnswer b).key, bucket_tree l.kind (map printer l.children) b)) (drop l.bucket-index l.bucket-items))
+  all : with_members (map (λ (b : BucketAnswer). (key_number (out-BucketAnswer b).key, bucket_tree l.mapping l.kind (map (printer l.mapping) l.children) b)) (drop l.bucket-index l.bucket-items))
       (members_view l.object.members.entries)
-      ≡ with_members (map (λ (b : BucketAnswer). (key_number (out-BucketAnswer b).key, bucket_tree l.kind (map printer l.children) b)) l.bucket-items)
+      ≡ with_members (map (λ (b : BucketAnswer). (key_number (out-BucketAnswer b).key, bucket_tree l.mapping l.kind (map (printer l.mapping) l.children) b)) l.bucket-items)
       (members_view l.initial.object.members.entries);
 }
 
 abbrev pub invariant-named_buckets-loop-place : goal.invariant-named_buckets-loop-place
 invariant-named_buckets-loop-place l = record {
   in_range : flat_map (check_bucket (map checker l.children)) (drop l.place l.bucket-items) ≡ [];
-  all : with_members (map (λ b. (b.0, bucket_tree l.kind (map printer l.children) b.1)) (zip (drop l.place (l.names ++ option_to_list l.other)) (drop l.place l.bucket-items)))
+  all : with_members (map (λ b. (b.0, bucket_tree l.mapping l.kind (map (printer l.mapping) l.children) b.1)) (zip (drop l.place (l.names ++ option_to_list l.other)) (drop l.place l.bucket-items)))
       (members_view l.object.members.entries)
-      ≡ with_members (map (λ b. (b.0, bucket_tree l.kind (map printer l.children) b.1)) (zip (l.names ++ option_to_list l.other) l.bucket-items))
+      ≡ with_members (map (λ b. (b.0, bucket_tree l.mapping l.kind (map (printer l.mapping) l.children) b.1)) (zip (l.names ++ option_to_list l.other) l.bucket-items))
       (members_view l.initial.object.members.entries);
 }
 
 abbrev pub invariant-single_bucket-loop-bucket : goal.invariant-single_bucket-loop-bucket
 invariant-single_bucket-loop-bucket l = record {
   in_range : flat_map (check_bucket (map checker l.children)) (drop l.bucket-index l.bucket-items) ≡ [];
-  all : with_members (flat_map (λ b. bucket_members (map printer l.children) (own_members l.kind b) b) (drop l.bucket-index l.bucket-items)) (members_view l.object.members.entries)
-      ≡ with_members (flat_map (λ b. bucket_members (map printer l.children) (own_members l.kind b) b) l.bucket-items) (members_view l.initial.object.members.entries);
+  all : with_members (flat_map (λ b. bucket_members (map (printer l.mapping) l.children) (own_members l.mapping l.kind b) b) (drop l.bucket-index l.bucket-items)) (members_view l.object.members.entries)
+      ≡ with_members (flat_map (λ b. bucket_members (map (printer l.mapping) l.children) (own_members l.mapping l.kind b) b) l.bucket-items) (members_view l.initial.object.members.entries);
 }

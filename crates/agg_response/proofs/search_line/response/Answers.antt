@@ -13,7 +13,7 @@ use Rattle.agg_response.proofs.search_line.response.Goals as goal
 pub returns : goal.returns
 returns c =
     let shown = (shards_member c.args.shards c.args.failures.now).1 in
-    let answers = aggregations c.args.search.now.aggs c.args.answer.now.nodes in
+    let answers = aggregations c.args.mapping.now c.args.search.now.aggs c.args.answer.now.nodes in
     let behind = hits_member c.args.answer.now.hits ∷ (codes "status", count 200) ∷ (codes "timed_out", boolean false) ∷ (codes "took", count 0) ∷ [] in
     subst (λ ms. IfOk c.finished.result (λ t. t ≡ compact_text (object ms)))
     (ap (λ d. with_members ((codes "hits", d) ∷ (codes "status", count 200) ∷ (codes "timed_out", boolean false) ∷ (codes "took", count 0) ∷ [])

@@ -1,4 +1,4 @@
-use Rattle.std.proofs.Common.{◌≡◌, ◌-◌, ◌^◌, ◌∙◌, List, ap, arith, map, min, sym}
+use Rattle.std.proofs.Common.{◌-◌, ◌^◌, ◌∙◌, List, ap, arith, map, min, sym}
 use Rattle.std.specs.Prelude.{sum_by}
 use Rattle.std.proofs.lemmas.List.{take_all}
 use Rattle.agg_model.specs.declared.aggregation.Agg.{Agg, out-Agg}
