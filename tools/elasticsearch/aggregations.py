@@ -18,7 +18,7 @@ ADVICE = {
     'percentiles': 'there are no estimates: a histogram has the exact counts',
     'percentile_ranks': 'there are no estimates: a histogram has the exact counts',
     'median_absolute_deviation': 'there are no estimates',
-    'date_histogram': 'dates are left out: --dates millis reads them as milliseconds, and writes what has one length as a histogram',
+    'date_histogram': 'dates have no histogram: --dates millis makes them numbers of milliseconds, and what has one length is written as a histogram',
     'auto_date_histogram': 'the interval is chosen by the answer: name one',
     'variable_width_histogram': 'the intervals are chosen by the answer: name one',
     'date_range': 'write filters with a range in each',
@@ -169,6 +169,8 @@ class Aggregations:
         if 'script' in form:
             raise Refused('there are no scripts', f'{at}/script')
         field = self._field(form, at)
+        if field.kind == 'date' and name in ('sum', 'avg'):
+            raise Refused('dates are not summed: --dates millis makes them numbers of milliseconds', at)
         out = self._without(form, at, {'format': (None, 'the answer has no text beside the number'), 'value_type': (None, 'the mapping says it')})
         out['field'] = field.path
         self._put_missing(field, out, at)
@@ -178,6 +180,8 @@ class Aggregations:
 
     def _histogram(self, form, at):
         field = self._field(form, at)
+        if field.kind == 'date':
+            raise Refused(ADVICE['date_histogram'], at)
         out = self._without(form, at, {'format': (None, 'the answer has no text of keys'), 'offset': ((0, exact.Number('0.0'), '0'), 'it is 0')})
         out['field'] = field.path
         for name in ('interval', 'offset'):
@@ -218,7 +222,7 @@ class Aggregations:
 
     def _date_histogram(self, form, at):
         field = self._field(form, at)
-        if field.read != 'date':
+        if field.read != 'date' or field.kind == 'date':
             raise Refused(ADVICE['date_histogram'], at)
         for name in form:
             if name not in ('field', 'fixed_interval', 'calendar_interval', 'interval', 'time_zone', 'offset', 'min_doc_count', 'order', 'missing',
@@ -334,6 +338,8 @@ class Aggregations:
             raise Refused('null stands first ascending, and last descending', f'{here}/missing_order')
         if isinstance(out.get('order'), str):
             out['order'] = out['order'].lower()
+        if kind != 'terms' and field.kind == 'date':
+            raise Refused(ADVICE['date_histogram'], here)
         if kind == 'date_histogram':
             if field.read != 'date':
                 raise Refused(ADVICE['date_histogram'], here)

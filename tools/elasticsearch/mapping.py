@@ -17,16 +17,17 @@ TYPES = {
     'text': 'text without a keyword below it',
     'match_only_text': 'text without a keyword below it',
     'search_as_you_type': 'text without a keyword below it',
-    'date': 'a date: --dates millis reads it as milliseconds',
+    'date': ('date', 'date'),
     'date_nanos': 'a date in nanoseconds',
     'constant_keyword': 'its value stands in the mapping, and not in the documents',
     'ip': 'addresses are ordered by their bytes, which no type here is',
     'version': 'versions are ordered by their parts, which no type here is',
 }
-# What a date becomes, by the option --dates. Once there are dates, 'dates' takes the place of the others.
+# What a date becomes, by the option --dates. Its values are written as milliseconds in either form, whatever their format was.
 DATES = {
-    'leave': 'a date: --dates millis reads it as milliseconds',
+    'dates': TYPES['date'],
     'millis': ('long', 'date'),
+    'leave': 'a date: --dates leave leaves them out',
 }
 # Members of a field that change the values that are counted, so that the field is left out.
 CHANGING = {
@@ -59,7 +60,7 @@ class Node:
 
 
 class Mapping:
-    def __init__(self, mappings, date='leave', scales=None):
+    def __init__(self, mappings, date='dates', scales=None):
         self.date, self.scales = DATES[date], dict(scales or {})
         # Fields by their path; other names of fields; paths that are left out with their reasons; nested paths.
         self.fields, self.names, self.left, self.nested = {}, {}, {}, {}

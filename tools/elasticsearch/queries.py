@@ -87,7 +87,7 @@ class Queries:
             least = self._at(at, moment, field, given, self.search.now)
             most = self._at(at, moment, field, given, self.search.now, None, 0, True)
             if least != most:
-                self.search.change(at, 'a time that leaves parts open is the range of all that it stands for')
+                self.search.change(at, 'a time that leaves parts open is the range of all that it stands for', field.kind == 'date')
                 return {'range': {field.path: {'gte': least, 'lte': most}}}
         return {'term': {field.path: self._value(field, given, at)}}
 
@@ -218,6 +218,8 @@ class Queries:
                 raise Refused(f'{name} is not known here', here)
             if bound is not None:
                 out[name] = self._value(field, bound, f'{here}/{name}', form=pattern, ahead=ahead, bound=name)
+                if field.kind == 'date' and out[name] != self._at(f'{here}/{name}', value, field, bound, self.search.now, pattern, ahead):
+                    self.search.other.append((f'{here}/{name}', f'{exact.write(bound)} stands for the end of what it names, and is taken for its beginning'))
         return {'range': {field.path: out}}
 
     def _query_string(self, form, at):

@@ -44,6 +44,8 @@ def _index(script, line, error):
         reason = TYPES.get(found)
         words = f'{".".join(it for it in parts[2:-1] if it != "properties")}: the type {found!r} is not taken'
         return words + (f' ({reason})' if isinstance(reason, str) else '') + f'; {TOOL}'
+    if parts[-1] == 'format' and _at(value, parts[:-1]).get('type') == 'date':
+        return f'{path}: dates have one format here, strict_date_optional_time||epoch_millis, and not {found!r}; {TOOL}, and writes them as milliseconds'
     if parts[-1] == 'fields':
         return f'a field has no fields below it here; {TOOL}'
     if '.' in parts[-1]:
