@@ -5,7 +5,7 @@ use Rattle.std.specs.List.{list_all}
 use Rattle.std.specs.Option.{option_map_or}
 use Rattle.std.proofs.Math.Bool.{Bool-set}
 use Rattle.std.proofs.Math.Logic.{∥∥₁_elim}
-use Rattle.std.proofs.lemmas.Bool.{and_parts, and_from, false≢true, ltb-true, leb-true}
+use Rattle.std.proofs.lemmas.Bool.{and_parts, and_from, false≢true, ltb-true, lt-ltb, leb-true}
 use Rattle.std.proofs.lemmas.Bool.Decides.{nat_tests}
 use Rattle.agg_model.specs.declared.limits.TheConstants.{MAX_FILTERS, MAX_SOURCES}
 use Rattle.agg_model.specs.declared.mapping.FieldKind.{FieldKind}
@@ -13,14 +13,21 @@ use Rattle.agg_model.specs.declared.mapping.FieldKind.TheVariants as kinds
 use Rattle.agg_model.specs.declared.mapping.Mapping.{Mapping}
 use Rattle.agg_model.specs.declared.row.Scalar.{Scalar}
 use Rattle.agg_model.specs.declared.row.Scalar.TheVariants as scalar
+use Rattle.agg_model.specs.declared.aggregation.Bounds.{Bounds}
 use Rattle.agg_model.specs.declared.aggregation.CompositeSource.{CompositeSource}
 use Rattle.agg_model.specs.declared.aggregation.Kind.{Kind}
 use Rattle.agg_model.specs.declared.aggregation.Kind.TheVariants as kind
+use Rattle.agg_model.specs.declared.aggregation.Order.{Order}
+use Rattle.agg_model.specs.declared.aggregation.Spacing.{Spacing}
+use Rattle.agg_model.specs.declared.aggregation.Spacing.TheVariants.{Numbers, Dates}
 use Rattle.agg_model.specs.FieldKinds.{is_of_kind, is_whole_kind}
+use Rattle.agg_model.specs.Options.{HistogramOptions}
 use Rattle.agg_evaluation.specs.QueryFits.{field_is, are_probes}
-use Rattle.agg_evaluation.specs.SearchFits.{kind_fits, source_fits, interval_fits, is_missing, is_stored, is_interval, is_whole_field}
+use Rattle.agg_evaluation.specs.SearchFits.{kind_fits, source_fits, interval_fits, is_missing, is_stored}
 use Rattle.composite_agg.specs.Sources.{IsPositive, ArePositive}
+use Rattle.date_agg.proofs.Made.{made-dated, made-dates}
 use Rattle.filters_agg.specs.Filtering.{IsMadeFor}
+use Rattle.histogram_agg.proofs.Made.{made-spaced}
 use Rattle.nested_agg.specs.Nesting.{goes_by_nesting}
 use Rattle.shard_columns.specs.Built.{IsShardOf}
 use Rattle.shard_columns.specs.Columns.{Columns}
@@ -114,15 +121,32 @@ module _ (shard : Columns) where
       one s None is h = subst (λ (o : Option ℕ). IfSome o (λ i. 0 < i)) (sym is) tt
       one s (Some i) is h = subst (λ (o : Option ℕ). IfSome o (λ i. 0 < i)) (sym is) (ltb-true 0 i (ap (λ (o : Option ℕ). option_map_or (λ i. nat_lt 0 i) o true) (sym is) ∙ h))
 
+  abbrev histogram : Spacing → ℕ → ℕ → Bounds → Bounds → Bool → List Order → Option Scalar → HistogramOptions
+  histogram spacing field min_doc_count extended hard keyed order missing = record {
+    field = field;
+    spacing = spacing;
+    min_doc_count = min_doc_count;
+    extended = extended;
+    hard = hard;
+    keyed = keyed;
+    order = order;
+    missing = missing;
+  }
+
   pub countable : (k : Kind) → IsMadeFor shard k → IsCountable shard k
   countable (kind.Terms field size shard_size min_doc_count order include exclude missing show_error) made =
       let h = terms-field true field size shard_size min_doc_count order include exclude missing show_error made in
       record { known = below field (λ k. is_missing k missing) h; missing_fits = content_fits (kind_at field) missing h }
   countable (kind.Histogram field interval offset min_doc_count extended hard keyed order missing) made =
-      ltb-true 0 interval (∥∥₁_elim made (Bool-set _ _) (λ found.
-      let first = (and_parts (is_whole_field found.0 field missing) _ found.1.1.1.1.1).1 in
-      let low = leb-true 1 interval (and_parts (nat_le 1 interval) (nat_lt interval (2 ^ 63)) (and_parts (is_interval interval) _ first).0).0 in
-      grind (arith, nat_tests)))
+      let h = histogram (Numbers interval offset) field min_doc_count extended hard keyed order missing in (
+        ltb-true offset interval (∥∥₁_elim made (Bool-set _ _) (λ found. lt-ltb offset interval (made-spaced found.0 found.1.1.1.0 h interval offset refl found.1.1.1.1.1).0)),
+        ltb-true interval (2 ^ 63) (∥∥₁_elim made (Bool-set _ _) (λ found. lt-ltb interval (2 ^ 63) (made-spaced found.0 found.1.1.1.0 h interval offset refl found.1.1.1.1.1).1)),
+      )
+  countable (kind.DateHistogram field period zone min_doc_count extended hard keyed order missing) made =
+      let h = histogram (Dates period zone) field min_doc_count extended hard keyed order missing in (
+        ∥∥₁_elim made (Bool-set _ _) (λ found. made-dated found.0 found.1.1.1.0 h period zone refl found.1.1.1.1.1),
+        ∥∥₁_elim made (Bool-set _ _) (λ found. made-dates found.0 shard found.1.1.1.0 h period zone refl found.1.1.1.1.0 found.1.1.1.1.1),
+      )
   countable (kind.Filters names filters other) made =
       leb-true (length filters) MAX_FILTERS (∥∥₁_elim made (Bool-set _ _) (λ found. (and_parts (nat_le (length filters) MAX_FILTERS) _ (and_parts (nat_le 1 (length filters)) _ found.1.1.1.1.1).1).0))
   countable (kind.Composite sources size after) made =
@@ -145,6 +169,7 @@ module _ (shard : Columns) where
   has-fields (kind.Composite sources size after) made =
       ∥∥₁_elim made (Bool-set _ _) (λ found. (sources_at found.0 found.1.1.1.1.0 sources (composite-sources sources size after found.0 found.1.0 found.1.1.0 found.1.1.1.0 found.1.1.1.1.1)).1)
   has-fields (kind.Histogram field interval offset min_doc_count extended hard keyed order missing) made = tt
+  has-fields (kind.DateHistogram field period zone min_doc_count extended hard keyed order missing) made = tt
   has-fields (kind.Filters names filters other) made = tt
   has-fields (kind.Filter query) made = tt
   has-fields (kind.Missing field) made = tt

@@ -48,6 +48,7 @@ module _ (all : List PlacedRow) (k : Kind) where
       there : (k : Kind) → stays k ≡ true → (r : PlacedRow) → under all (r ∷ []) k (r ∷ []) ≡ r ∷ []
       there (kind.Terms field size shard_size min_doc_count order include exclude missing show_error) h r = refl
       there (kind.Histogram field interval offset min_doc_count extended hard keyed order missing) h r = refl
+      there (kind.DateHistogram field period zone min_doc_count extended hard keyed order missing) h r = refl
       there (kind.Filters names filters other) h r = refl
       there (kind.Filter query) h r = refl
       there (kind.Missing field) h r = refl
@@ -92,6 +93,7 @@ module _ (all : List PlacedRow) (k : Kind) where
       there (kind.ReverseNested context) h f r = (λ i. sum_by (λ (inner : PlacedRow). one_key 1 refl (f inner) i) (under all (r ∷ []) (kind.ReverseNested context) (r ∷ [])))
       there (kind.Terms field size shard_size min_doc_count order include exclude missing show_error) h f r = absurd (false≢true h)
       there (kind.Histogram field interval offset min_doc_count extended hard keyed order missing) h f r = absurd (false≢true h)
+      there (kind.DateHistogram field period zone min_doc_count extended hard keyed order missing) h f r = absurd (false≢true h)
       there (kind.Filters names filters other) h f r = absurd (false≢true h)
       there (kind.Filter query) h f r = absurd (false≢true h)
       there (kind.Missing field) h f r = absurd (false≢true h)

@@ -1,6 +1,6 @@
 -- How many keys the rows of a shard have at an aggregation at most, from how many values they have.
 use Rattle.std.proofs.Common.{◌≡◌, refl, ℕ, suc, ◌+◌, ◌*◌, ◌<◌, ◌≤◌, Bool, true, false, List, [], ◌∷◌, ◌++◌, length, map, filter, take, get_or, sym, ◌∙◌, ap, arith, mul_assoc}
-use Rattle.std.specs.Prelude.{◌&&◌, not, cond, max, flat_map, Option, Some, None, is_some, if◌then◌else◌}
+use Rattle.std.specs.Prelude.{ℤ, ◌&&◌, not, cond, max, flat_map, Option, Some, None, is_some, if◌then◌else◌}
 use Rattle.std.specs.List.{list_any, enumerate_from}
 use Rattle.std.specs.Ordering.{match_ordering}
 use Rattle.std.specs.declared.cmp.Ordering.TheVariants.{Less, Equal, Greater}
@@ -15,6 +15,9 @@ use Rattle.growth_laws.proofs.Combinations.{composite-count}
 use Rattle.agg_model.specs.declared.key.Key.{Key}
 use Rattle.agg_model.specs.declared.key.Key.TheVariants.{Fixed}
 use Rattle.agg_model.specs.declared.aggregation.Kind.TheVariants as kind
+use Rattle.agg_model.specs.declared.aggregation.Spacing.{Spacing}
+use Rattle.agg_model.specs.declared.aggregation.Spacing.TheVariants.{Numbers, Dates}
+use Rattle.date_spec.specs.declared.period.Period.{Period}
 use Rattle.agg_model.specs.declared.query.Query.{Query}
 use Rattle.agg_model.specs.declared.row.Scalar.{Scalar}
 use Rattle.agg_model.specs.declared.row.Scalar.TheVariants as scalar
@@ -44,11 +47,11 @@ at_least_one None [] most low = omega arith
 at_least_one (Some s) [] most low = omega arith
 at_least_one missing (v ∷ vs) most low = omega (arith, low)
 
-starts_length : (interval offset : ℕ) (vs : List Scalar) → length (flat_map (interval_key interval offset) vs) ≤ length vs
-starts_length interval offset [] = omega arith
-starts_length interval offset (scalar.Whole n ∷ vs) = omega (arith, starts_length interval offset vs)
-starts_length interval offset (scalar.Word n ∷ vs) = omega (arith, starts_length interval offset vs)
-starts_length interval offset (scalar.Flag n ∷ vs) = omega (arith, starts_length interval offset vs)
+starts_length : (spacing : Spacing) (vs : List Scalar) → length (flat_map (interval_key spacing) vs) ≤ length vs
+starts_length spacing [] = omega arith
+starts_length spacing (scalar.Whole n ∷ vs) = omega (arith, starts_length spacing vs)
+starts_length spacing (scalar.Word n ∷ vs) = omega (arith, starts_length spacing vs)
+starts_length spacing (scalar.Flag n ∷ vs) = omega (arith, starts_length spacing vs)
 
 module _ (rows : List PlacedRow) where
   few_values : (field : ℕ) (include : _) (exclude : _) (missing : Option Scalar) (most : ℕ)
@@ -66,20 +69,24 @@ module _ (rows : List PlacedRow) where
       → HasValuesAtMost most field rows → HasKeysAtMost (max most 1) (kind.Terms field size shard_size min_doc_count order include exclude missing show_error) rows
   few-terms field size shard_size min_doc_count order include exclude missing show_error most few = few_values field include exclude missing most few
 
-  few_starts : (field interval offset : ℕ) (hard : _) (missing : Option Scalar) (most : ℕ)
-      → HasValuesAtMost most field rows → (i : ℕ) → i < length rows → length (histogram_keys field interval offset hard missing (row_of rows i)) ≤ max most 1
-  few_starts field interval offset hard missing most few i below =
+  few_starts : (field : ℕ) (spacing : Spacing) (hard : _) (missing : Option Scalar) (most : ℕ)
+      → HasValuesAtMost most field rows → (i : ℕ) → i < length rows → length (histogram_keys field spacing hard missing (row_of rows i)) ≤ max most 1
+  few_starts field spacing hard missing most few i below =
       let row = row_of rows i in
       let vs = values_or field missing row in
-      let a = passing (is_between hard) (distinct_keys (flat_map (interval_key interval offset) vs)) in
-      let b = distinct_length (flat_map (interval_key interval offset) vs) in
-      let c = starts_length interval offset vs in
+      let a = passing (is_between hard) (distinct_keys (flat_map (interval_key spacing) vs)) in
+      let b = distinct_length (flat_map (interval_key spacing) vs) in
+      let c = starts_length spacing vs in
       let d = at_least_one missing (values_of field row) most (few i below) in
       omega (arith, a, b, c, d)
 
   pub few-starts : (field interval offset min_doc_count : ℕ) (extended : _) (hard : _) (keyed : Bool) (order : _) (missing : Option Scalar) (most : ℕ)
       → HasValuesAtMost most field rows → HasKeysAtMost (max most 1) (kind.Histogram field interval offset min_doc_count extended hard keyed order missing) rows
-  few-starts field interval offset min_doc_count extended hard keyed order missing most few = few_starts field interval offset hard missing most few
+  few-starts field interval offset min_doc_count extended hard keyed order missing most few = few_starts field (Numbers interval offset) hard missing most few
+
+  pub few-periods : (field : ℕ) (period : Period) (zone : ℤ) (min_doc_count : ℕ) (extended : _) (hard : _) (keyed : Bool) (order : _) (missing : Option Scalar) (most : ℕ)
+      → HasValuesAtMost most field rows → HasKeysAtMost (max most 1) (kind.DateHistogram field period zone min_doc_count extended hard keyed order missing) rows
+  few-periods field period zone min_doc_count extended hard keyed order missing most few = few_starts field (Dates period zone) hard missing most few
 
   numbered : {A : Type 0} (n : ℕ) (xs : List A) → length (enumerate_from n xs) ≡ length xs
   numbered n [] = refl
@@ -110,8 +117,8 @@ module _ (rows : List PlacedRow) where
   few-parts : (s : CompositeSource) (most : ℕ) → HasValuesAtMost most s.field rows → (i : ℕ) → i < length rows → length (source_keys (row_of rows i) s) ≤ max most 1
   few-parts s most few i below = or_null_length s.missing_bucket _ most (by_interval s.interval)
     where
-      by_interval : (o : Option ℕ) → length (option_map_or (λ interval. histogram_keys s.field interval 0 no_bounds None (row_of rows i)) o (term_keys s.field None [] None (row_of rows i))) ≤ max most 1
-      by_interval (Some interval) = few_starts s.field interval 0 no_bounds None most few i below
+      by_interval : (o : Option ℕ) → length (option_map_or (λ interval. histogram_keys s.field (Numbers interval 0) no_bounds None (row_of rows i)) o (term_keys s.field None [] None (row_of rows i))) ≤ max most 1
+      by_interval (Some interval) = few_starts s.field (Numbers interval 0) no_bounds None most few i below
       by_interval None = few_values s.field None [] None most few i below
 
   one-more : (sources : List CompositeSource) (s : CompositeSource) (row : PlacedRow) → combination_count (sources ++ s ∷ []) row ≡ combination_count sources row * length (source_keys row s)

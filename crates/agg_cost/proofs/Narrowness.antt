@@ -62,6 +62,7 @@ module _ (rows : List PlacedRow) where
       none-filtered w (matches rows q) (roots rows) (none-filtered w _ rows none)
   narrow-matched (kind.Terms field size shard_size min_doc_count order include exclude missing show_error) q none = refl
   narrow-matched (kind.Histogram field interval offset min_doc_count extended hard keyed order missing) q none = refl
+  narrow-matched (kind.DateHistogram field period zone min_doc_count extended hard keyed order missing) q none = refl
   narrow-matched (kind.Filters names filters other) q none = refl
   narrow-matched (kind.Filter query) q none = refl
   narrow-matched (kind.Missing field) q none = refl

@@ -35,7 +35,10 @@ pub(crate) fn bucket_count(kind: &Kind, nodes: u64, paths: u64) -> u64
     ensures { (kinds : List FieldKind) (rows : List PlacedRow) → result ≡ capped (bucket_bound kinds rows kind.now (shape_of kind.now) nodes paths) }
 {
     match kind {
-        Kind::Terms { .. } | Kind::Histogram { .. } | Kind::Composite { .. } => paths,
+        Kind::Terms { .. }
+        | Kind::Histogram { .. }
+        | Kind::DateHistogram { .. }
+        | Kind::Composite { .. } => paths,
         Kind::Filters { filters, other, .. } => {
             let number = (filters.len() as u64).saturating_add(u64::from(other.is_some()));
             nodes.saturating_mul(number)

@@ -112,6 +112,7 @@ pub fn hand_on(
         Kind::ReverseNested { .. } => by_nesting(alloc, shard, kind, reached),
         Kind::Terms { .. }
         | Kind::Histogram { .. }
+        | Kind::DateHistogram { .. }
         | Kind::Filters { .. }
         | Kind::Filter { .. }
         | Kind::Missing { .. }

@@ -54,7 +54,7 @@ pub fn key_bytes(shard: &Shard, kind: &Kind) -> u64
 {
     match kind {
         Kind::Terms { field, missing, .. } => field_bytes(shard, *field, missing),
-        Kind::Histogram { .. } => NUMBER_BYTES,
+        Kind::Histogram { .. } | Kind::DateHistogram { .. } => NUMBER_BYTES,
         Kind::Composite { sources, .. } => bytes_of_parts(shard, sources),
         Kind::Filters { .. }
         | Kind::Filter { .. }

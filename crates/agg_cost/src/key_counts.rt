@@ -8,21 +8,25 @@ ghost use Rattle.filters_agg.specs.Filtering.{IsMadeFor};
 ghost use Rattle.shard_columns.specs.Built.{IsShard};
 
 use agg_model::Kind;
+use date_agg::PreparedDateHistogram;
 use filters_agg::PreparedFilters;
+use histogram_agg::PreparedHistogram;
 use shard_columns::Shard;
 use std::alloc::{AllocError, Global};
 use terms_agg::PreparedTerms;
 
-/// What the keys of rows are counted with: an aggregation's lists, prepared once for the shard.
+/// What the keys of rows are counted with: an aggregation that is prepared once for the shard.
 #[derive(Drop)]
 pub enum Counter {
     Terms(PreparedTerms),
     Filters(PreparedFilters),
-    /// The kind has no list.
+    Histogram(PreparedHistogram),
+    DateHistogram(PreparedDateHistogram),
+    /// Nothing is prepared for the kind.
     Plain,
 }
 
-/// The aggregation's lists, prepared for the shard.
+/// What the aggregation's keys are counted with in the shard.
 pub fn counter_of(alloc: Global, shard: &Shard, kind: &Kind) -> Result<Counter, AllocError>
     requires countable { IsCountable shard.now kind.now }
     requires made { IsMadeFor shard.now kind.now }
@@ -33,8 +37,9 @@ pub fn counter_of(alloc: Global, shard: &Shard, kind: &Kind) -> Result<Counter, 
         Kind::Filters { .. } | Kind::Filter { .. } | Kind::Missing { .. } => {
             Ok(Counter::Filters(filters_agg::prepare(alloc, shard, kind)?))
         }
-        Kind::Histogram { .. }
-        | Kind::Global
+        Kind::Histogram { .. } => Ok(Counter::Histogram(histogram_agg::prepare(kind))),
+        Kind::DateHistogram { .. } => Ok(Counter::DateHistogram(date_agg::prepare(kind))),
+        Kind::Global
         | Kind::Nested { .. }
         | Kind::ReverseNested { .. }
         | Kind::Composite { .. }
@@ -58,8 +63,9 @@ pub fn key_count(shard: &Shard, kind: &Kind, counter: &Counter, row: u32) -> u64
     match counter {
         Counter::Terms(terms) => terms_agg::count(shard, terms, row),
         Counter::Filters(filters) => filters_agg::count(shard, filters, row),
+        Counter::Histogram(histogram) => histogram_agg::count(shard, histogram, row),
+        Counter::DateHistogram(dates) => date_agg::count(shard, dates, row),
         Counter::Plain => match kind {
-            Kind::Histogram { .. } => histogram_agg::key_count(shard, row, kind),
             Kind::Composite { .. } => composite_agg::key_count(shard, row, kind),
             Kind::Global | Kind::Nested { .. } | Kind::ReverseNested { .. } => 1,
             Kind::Sum { .. }
@@ -68,6 +74,8 @@ pub fn key_count(shard: &Shard, kind: &Kind, counter: &Counter, row: u32) -> u64
             | Kind::Avg { .. }
             | Kind::ValueCount { .. } => 0,
             Kind::Terms { .. }
+            | Kind::Histogram { .. }
+            | Kind::DateHistogram { .. }
             | Kind::Filters { .. }
             | Kind::Filter { .. }
             | Kind::Missing { .. } => unreachable!(),

@@ -89,6 +89,7 @@ fn is_wide(shard: &Shard, kind: &Kind, reached: &[RowPaths]) -> bool
         Kind::Composite { .. } => has_wide_row(shard, kind, reached),
         Kind::Terms { .. }
         | Kind::Histogram { .. }
+        | Kind::DateHistogram { .. }
         | Kind::Filters { .. }
         | Kind::Filter { .. }
         | Kind::Missing { .. }
@@ -117,11 +118,26 @@ fn collected_bytes(
     ensures { IfOk result (λ bytes. bytes ≡ capped (node_bound shard.now.kinds shard.now.rows agg.now 1
         (collected_by (is_global (out-Agg agg.now).kind) shard.now.rows (reached_by shard.now.rows matched.now)))) }
 {
-    if let Kind::Global = &agg.kind {
-        let roots = all_roots(alloc, shard)?;
-        return node_bytes(alloc, shard, agg, 1, roots.as_slice());
+    match &agg.kind {
+        Kind::Global => {
+            let roots = all_roots(alloc, shard)?;
+            node_bytes(alloc, shard, agg, 1, roots.as_slice())
+        }
+        Kind::Terms { .. }
+        | Kind::Histogram { .. }
+        | Kind::DateHistogram { .. }
+        | Kind::Filters { .. }
+        | Kind::Filter { .. }
+        | Kind::Missing { .. }
+        | Kind::Nested { .. }
+        | Kind::ReverseNested { .. }
+        | Kind::Composite { .. }
+        | Kind::Sum { .. }
+        | Kind::Min { .. }
+        | Kind::Max { .. }
+        | Kind::Avg { .. }
+        | Kind::ValueCount { .. } => node_bytes(alloc, shard, agg, 1, matched),
     }
-    node_bytes(alloc, shard, agg, 1, matched)
 }
 
 pub(crate) fn within_greatest(bytes: u64) -> Option<u64>

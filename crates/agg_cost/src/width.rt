@@ -41,6 +41,7 @@ fn most_keys(shard: &Shard, kind: &Kind) -> Option<u64>
     match kind {
         Kind::Terms { field, .. } => Some(u64::from(shard.most_values(*field)).max(1)),
         Kind::Histogram { field, .. } => Some(u64::from(shard.most_values(*field)).max(1)),
+        Kind::DateHistogram { field, .. } => Some(u64::from(shard.most_values(*field)).max(1)),
         Kind::Filters { filters, .. } => (filters.len() as u64).checked_add(1),
         Kind::Composite { sources, .. } => most_combinations(shard, sources),
         Kind::Filter { .. }
@@ -73,6 +74,7 @@ fn most_paths(shard: &Shard, kind: &Kind) -> Option<u64>
         Kind::Nested { .. } | Kind::ReverseNested { .. } => Some(u64::from(shard.len())),
         Kind::Terms { .. }
         | Kind::Histogram { .. }
+        | Kind::DateHistogram { .. }
         | Kind::Filters { .. }
         | Kind::Filter { .. }
         | Kind::Missing { .. }
@@ -124,6 +126,7 @@ fn is_narrow(shard: &Shard, kind: &Kind) -> bool
         },
         Kind::Terms { .. }
         | Kind::Histogram { .. }
+        | Kind::DateHistogram { .. }
         | Kind::Filters { .. }
         | Kind::Filter { .. }
         | Kind::Missing { .. }

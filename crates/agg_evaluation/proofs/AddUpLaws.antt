@@ -85,6 +85,7 @@ terms-add_up all root_rows cs (kind.Terms field size shard_size min_doc_count or
     let k = kind.Terms field size shard_size min_doc_count order include exclude missing show_error in
     trimmed-adds_up (map (λ c. c.kind) cs) shard_size order (total_key_count all k rows) (map (bucket_of true all root_rows k cs rows) (all_keys all k rows)) (counts-made true all root_rows cs k rows)
 terms-add_up all root_rows cs (kind.Histogram field interval offset min_doc_count extended hard keyed order missing) e rows = absurd (subst T (sym e) tt)
+terms-add_up all root_rows cs (kind.DateHistogram field period zone min_doc_count extended hard keyed order missing) e rows = absurd (subst T (sym e) tt)
 terms-add_up all root_rows cs (kind.Filters names filters other) e rows = absurd (subst T (sym e) tt)
 terms-add_up all root_rows cs (kind.Filter query) e rows = absurd (subst T (sym e) tt)
 terms-add_up all root_rows cs (kind.Missing field) e rows = absurd (subst T (sym e) tt)

@@ -40,6 +40,7 @@ module _ (all : List PlacedRow) where
   node-begins : (cs : List Collector) (es : List Node) → Begins cs es → (k : Kind) → node_of false all [] cs k (under all [] k []) ≡ empty_by es (fixed_keys k) (shape_of k)
   node-begins cs es h (kind.Terms field size shard_size min_doc_count order include exclude missing show_error) = refl
   node-begins cs es h (kind.Histogram field interval offset min_doc_count extended hard keyed order missing) = refl
+  node-begins cs es h (kind.DateHistogram field period zone min_doc_count extended hard keyed order missing) = refl
   node-begins cs es h (kind.Composite sources size after) = ap (λ ks. Keyed (map (bucket_of false all [] (kind.Composite sources size after) cs []) ks) 0 0 0) (no_page sources size after)
   node-begins cs es h (kind.Filters names filters other) = started cs es h (kind.Filters names filters other) (fixed_keys (kind.Filters names filters other))
   node-begins cs es h (kind.Filter query) = started cs es h (kind.Filter query) (key.Fixed 0 ∷ [])

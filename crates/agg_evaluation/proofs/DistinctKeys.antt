@@ -8,6 +8,7 @@ use Rattle.std.proofs.Common.{subst, arith}
 use Rattle.agg_model.specs.declared.key.Key.{Key}
 use Rattle.agg_model.specs.declared.key.Key.TheVariants.{Fixed, Many}
 use Rattle.agg_model.specs.declared.query.Query.{Query}
+use Rattle.agg_model.specs.declared.aggregation.Spacing.TheVariants.{Numbers, Dates}
 use Rattle.agg_model.specs.declared.aggregation.Kind.{Kind}
 use Rattle.agg_model.specs.declared.aggregation.Kind.TheVariants as kind
 use Rattle.agg_evaluation.specs.KeyOrder.{key_cmp}
@@ -66,7 +67,9 @@ pub ascending-keys : (all : List PlacedRow) (k : Kind) (row : PlacedRow) → T (
 ascending-keys all (kind.Terms field size shard_size min_doc_count order include exclude missing show_error) row =
     ascending-filter (is_included include exclude) (distinct_keys (map scalar_key (values_or field missing row))) (ascending-distinct_keys (map scalar_key (values_or field missing row)))
 ascending-keys all (kind.Histogram field interval offset min_doc_count extended hard keyed order missing) row =
-    ascending-filter (is_between hard) (distinct_keys (flat_map (interval_key interval offset) (values_or field missing row))) (ascending-distinct_keys (flat_map (interval_key interval offset) (values_or field missing row)))
+    ascending-filter (is_between hard) (distinct_keys (flat_map (interval_key (Numbers interval offset)) (values_or field missing row))) (ascending-distinct_keys (flat_map (interval_key (Numbers interval offset)) (values_or field missing row)))
+ascending-keys all (kind.DateHistogram field period zone min_doc_count extended hard keyed order missing) row =
+    ascending-filter (is_between hard) (distinct_keys (flat_map (interval_key (Dates period zone)) (values_or field missing row))) (ascending-distinct_keys (flat_map (interval_key (Dates period zone)) (values_or field missing row)))
 ascending-keys all (kind.Filters names filters other) row = ascending-filter_keys (λ q. matches all q row) filters other
 ascending-keys all (kind.Filter query) row = ascending-single (matches all query row)
 ascending-keys all (kind.Missing field) row = ascending-single (not (has_value field row))

@@ -4,7 +4,8 @@ use Rattle.std.specs.Int.{int_div_euclid}
 use Rattle.std.proofs.Common.{sym, ◌∙◌, ap, subst, arith}
 use Rattle.std.proofs.lemmas.Int.{ints}
 use Rattle.std.proofs.Math.IntN.{suc_ℤ, suc_ℤ-*ℤ, +ℤ-suc_ℤ}
-use Rattle.agg_evaluation.specs.Keys.{interval_start}
+use Rattle.agg_model.specs.declared.aggregation.Spacing.TheVariants.{Numbers}
+use Rattle.agg_evaluation.specs.Spacings.{interval_start}
 use Rattle.agg_evaluation.specs.Intervals.{IsIntervalOf}
 
 -- the quotient rounds down
@@ -16,7 +17,7 @@ quotient_above : (z : ℤ) (d : ℕ) → 0 < d → z <ℤ ((int_div_euclid z (po
 quotient_above (pos a) d h = omega (arith, ints)
 quotient_above (negsuc a) d h = omega (arith, ints)
 
-pub interval_start-is : (interval offset : ℕ) (value : ℤ) → 0 < interval → IsIntervalOf interval offset value (interval_start interval offset value)
+pub interval_start-is : (interval offset : ℕ) (value : ℤ) → 0 < interval → IsIntervalOf interval offset value (interval_start (Numbers interval offset) value)
 interval_start-is interval offset value h =
     let low = quotient_at_most (value -ℤ pos offset) interval h in
     let high = quotient_above (value -ℤ pos offset) interval h in

@@ -3,6 +3,7 @@ pub mod KeyCompare
 pub mod KeyExact
 pub mod FoldLaws
 pub mod IntervalLaws
+pub mod SpacingLaws
 pub mod KeyLists
 pub mod SortedLists
 pub mod TreeLaws

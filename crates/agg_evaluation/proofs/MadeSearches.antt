@@ -1,4 +1,4 @@
--- What follows for a search that is made for a mapping: intervals above 0, and global aggregations at the top alone.
+-- What follows for a search that is made for a mapping: intervals that have a length, and global aggregations at the top alone.
 use Rattle.std.specs.Prelude.{◌≡◌, refl, ℕ, ◌^◌, List, [], ◌∷◌, map, Bool, true, false, not, ◌&&◌, ◌||◌, nat_le, nat_lt}
 use Rattle.std.specs.List.{list_all}
 use Rattle.std.proofs.Common.{arith}
@@ -8,6 +8,7 @@ use Rattle.std.proofs.lemmas.Bool.{false≢true, and_parts, and_from}
 use Rattle.std.proofs.lemmas.Bool.Decides.{nat_tests}
 use Rattle.agg_model.specs.declared.mapping.Mapping.{Mapping}
 use Rattle.agg_model.specs.declared.aggregation.Agg.{Agg, Agg', Row_of-Agg, end_of-Agg, more_of-Agg}
+use Rattle.agg_model.specs.declared.aggregation.Spacing.TheVariants.{Dates}
 use Rattle.agg_model.specs.declared.aggregation.Kind.{Kind}
 use Rattle.agg_model.specs.declared.aggregation.Kind.TheVariants as kind
 use Rattle.agg_model.specs.declared.aggregation.Search.{Search}
@@ -15,15 +16,21 @@ use Rattle.agg_evaluation.specs.Folds.{fold_aggs}
 use Rattle.agg_evaluation.specs.Placement.{has_globals_at_top, is_placed, is_placed_at}
 use Rattle.agg_evaluation.specs.Trace.{is_global}
 use Rattle.agg_evaluation.specs.QueryFits.{query_fits}
-use Rattle.agg_evaluation.specs.SearchFits.{kind_fits, Made, made_at, is_made, is_metric, no_children, handed, agg_fits, search_fits, is_whole_field, is_interval, orders_fit, IsMade}
-use Rattle.agg_evaluation.specs.Conditions.{has_interval, has_intervals}
+use Rattle.agg_evaluation.specs.SearchFits.{kind_fits, Made, made_at, is_made, is_metric, no_children, handed, agg_fits, search_fits, is_whole_field, is_date_field, is_interval, orders_fit, IsMade}
+use Rattle.agg_evaluation.specs.Conditions.{has_interval, has_intervals, is_spaced}
 use Rattle.agg_model.specs.BoundsOrder.{is_at_most, lies_within}
 
 interval_of : (m : Mapping) (top : Bool) (context : ℕ) (children : List Kind) (k : Kind) → kind_fits m top context children k ≡ true → has_interval k ≡ true
 interval_of m top context children (kind.Histogram field interval offset least extended hard keyed order missing) h =
-    let first = and_parts (is_whole_field m field missing) (is_interval interval && (nat_lt offset interval && (is_at_most extended.min extended.max && (is_at_most hard.min hard.max && (lies_within extended hard && orders_fit children order))))) h in
-    let low = (and_parts (nat_le 1 interval) (nat_lt interval (2 ^ 63)) (and_parts (is_interval interval) (nat_lt offset interval && (is_at_most extended.min extended.max && (is_at_most hard.min hard.max && (lies_within extended hard && orders_fit children order)))) first.1).0).0 in
+    let rest = is_at_most extended.min extended.max && (is_at_most hard.min hard.max && (lies_within extended hard && orders_fit children order)) in
+    let first = and_parts (is_whole_field m field missing) ((is_interval interval && nat_lt offset interval) && rest) h in
+    let made = and_parts (is_interval interval && nat_lt offset interval) rest first.1 in
+    let low = (and_parts (nat_le 1 interval) (nat_lt interval (2 ^ 63)) (and_parts (is_interval interval) (nat_lt offset interval) made.0).0).0 in
     grind (arith, nat_tests, low)
+interval_of m top context children (kind.DateHistogram field period zone least extended hard keyed order missing) h =
+    let rest = is_at_most extended.min extended.max && (is_at_most hard.min hard.max && (lies_within extended hard && orders_fit children order)) in
+    let first = and_parts (is_date_field m field missing) (is_spaced (Dates period zone) extended hard && rest) h in
+    (and_parts (is_spaced (Dates period zone) extended hard) rest first.1).0
 interval_of m top context children (kind.Terms a b c d n f g h i) e = refl
 interval_of m top context children (kind.Filters a b c) e = refl
 interval_of m top context children (kind.Filter a) e = refl
@@ -68,6 +75,7 @@ module _ (m : Mapping) where
   place_of true context children k h = refl
   place_of false context children kind.Global h = absurd (false≢true h)
   place_of false context children (kind.Histogram a b c d n f g h i) e = refl
+  place_of false context children (kind.DateHistogram a b c d n f g h i) e = refl
   place_of false context children (kind.Terms a b c d n f g h i) e = refl
   place_of false context children (kind.Filters a b c) e = refl
   place_of false context children (kind.Filter a) e = refl

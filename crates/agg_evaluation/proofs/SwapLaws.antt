@@ -1,5 +1,5 @@
 -- Two lists of trees have one whole, whichever comes first.
-use Rattle.std.specs.Prelude.{◌≡◌, refl, ℕ, zero, suc, ◌+◌, ◌+ℤ◌, ◌||◌, List, [], ◌∷◌, ◌++◌, map, filter_map, flat_map, sum_by, Some, slice_get}
+use Rattle.std.specs.Prelude.{◌≡◌, ℕ, zero, suc, ◌+◌, ◌+ℤ◌, List, [], ◌∷◌, ◌++◌, map, filter_map, flat_map, sum_by, Some, slice_get}
 use Rattle.std.specs.List.{reduce}
 use Rattle.std.specs.Int.{int_min, int_max}
 use Rattle.std.proofs.Common.{sym, ◌∙◌, ap, subst, arith}

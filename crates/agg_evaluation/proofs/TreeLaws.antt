@@ -130,6 +130,9 @@ module _ (trims : Bool) (all root_rows : List PlacedRow) where
   tree_at tests cs makes (kind.Histogram field interval offset min_doc_count extended hard is_keyed order missing) rows =
       let k = kind.Histogram field interval offset min_doc_count extended hard is_keyed order missing in
       keyed trims all root_rows tests cs makes (key.Fixed 0 ∷ []) k rows (all_keys all k rows) (ascending-distinct_keys (flat_map (keys all k) rows))
+  tree_at tests cs makes (kind.DateHistogram field period zone min_doc_count extended hard is_keyed order missing) rows =
+      let k = kind.DateHistogram field period zone min_doc_count extended hard is_keyed order missing in
+      keyed trims all root_rows tests cs makes (key.Fixed 0 ∷ []) k rows (all_keys all k rows) (ascending-distinct_keys (flat_map (keys all k) rows))
   tree_at tests cs makes (kind.Composite sources size after) rows =
       let k = kind.Composite sources size after in
       keyed trims all root_rows tests cs makes (key.Fixed 0 ∷ []) k rows (page sources size after (all_keys all k rows))

@@ -72,6 +72,7 @@ pub ascending-fixed_keys : (k : Kind) → T (is_ascending (fixed_keys k))
 ascending-fixed_keys (kind.Filters names filters other) = ascending-range 0 _
 ascending-fixed_keys (kind.Terms field size shard_size min_doc_count order include exclude missing show_error) = tt
 ascending-fixed_keys (kind.Histogram field interval offset min_doc_count extended hard keyed order missing) = tt
+ascending-fixed_keys (kind.DateHistogram field period zone min_doc_count extended hard keyed order missing) = tt
 ascending-fixed_keys (kind.Filter query) = tt
 ascending-fixed_keys (kind.Missing field) = tt
 ascending-fixed_keys kind.Global = tt

@@ -1,20 +1,24 @@
 -- Which wholes can be finished: those of shard answers to the search, in whose terms no number leaves its type ('Terms
--- aggregation', sum of other document counts and errors of counts; 'Histogram' and 'Composite aggregation', keys).
-use Rattle.std.specs.Prelude.{ℕ, ℤ, pos, ◌+◌, ◌^◌, ◌-ℤ◌, Bool, true, false, ◌&&◌, nat_lt, nat_le, int_le, int_lt, List, map, length, sum_by}
+-- aggregation', sum of other document counts and errors of counts; 'Histogram', 'Date histogram' and 'Composite aggregation', keys).
+use Rattle.std.specs.Prelude.{ℤ, pos, ◌+◌, ◌^◌, ◌-ℤ◌, Bool, true, false, ◌&&◌, nat_lt, nat_le, int_le, int_lt, List, map, length, sum_by}
 use Rattle.std.specs.List.{list_all}
 use Rattle.std.specs.Ordering.{int_eq}
+use Rattle.date_spec.specs.declared.range.TheConstants.{GREATEST_INSTANT, LEAST_INSTANT}
 use Rattle.agg_model.specs.declared.key.Key.{Key}
 use Rattle.agg_model.specs.declared.key.Key.TheVariants.{Null, Whole, Flag, Word, Fixed, Many'}
 use Rattle.agg_model.specs.declared.partial.Bucket.{Bucket}
 use Rattle.agg_model.specs.declared.partial.Node.{Node, out-Node}
 use Rattle.agg_model.specs.declared.partial.Partial.{Partial}
 use Rattle.agg_model.specs.declared.aggregation.Bounds.{Bounds}
+use Rattle.agg_model.specs.declared.aggregation.Spacing.{Spacing}
+use Rattle.agg_model.specs.declared.aggregation.Spacing.TheVariants.{Numbers, Dates}
 use Rattle.agg_model.specs.declared.aggregation.Kind.{Kind}
 use Rattle.agg_evaluation.specs.Profile.{Form, profile}
 use Rattle.agg_model.specs.declared.aggregation.Agg.{Agg}
 use Rattle.agg_model.specs.declared.aggregation.Search.{Search}
 use Rattle.agg_evaluation.specs.Folds.{fold_agg}
-use Rattle.agg_evaluation.specs.Keys.{interval_start, is_between}
+use Rattle.agg_evaluation.specs.Spacings.{interval_start}
+use Rattle.agg_evaluation.specs.Keys.{is_between}
 use Rattle.agg_evaluation.specs.Orders.{bucket_key, bucket_count}
 use Rattle.agg_evaluation.specs.Shard.{fixed_keys}
 use Rattle.agg_evaluation.specs.Trees.{is_tree_at, pass_each}
@@ -25,23 +29,24 @@ use Rattle.agg_evaluation.specs.Whole.{Parts, parts, shape_of}
 abbrev pub terms_fit : Parts → Bool
 terms_fit p = nat_lt (p.cut + sum_by bucket_count p.buckets) (2 ^ 64) && (nat_lt p.error (2 ^ 63) && list_all (λ b. nat_le b.covered p.error) p.buckets)
 
--- whether the key can be that of a number of 64 bits, where the interval has 64 bits too
-abbrev pub is_near : ℤ → Bool
-is_near key = int_le (pos 0 -ℤ pos (2 ^ 65)) key && int_lt key (pos (2 ^ 63))
+-- whether the key can be that of a number of 64 bits, where the interval has 64 bits too; or of an instant in the range of dates
+abbrev pub is_near : Spacing → ℤ → Bool
+is_near (Numbers interval offset) key = int_le (pos 0 -ℤ pos (2 ^ 65)) key && int_lt key (pos (2 ^ 63))
+is_near (Dates period zone) key = int_le (interval_start (Dates period zone) LEAST_INSTANT) key && int_le key GREATEST_INSTANT
 
 -- a key as a histogram has it: the start of an interval, within `hard_bounds`
-abbrev pub is_histogram_key : ℕ → ℕ → Bounds → Key → Bool
-is_histogram_key interval offset hard Null = false
-is_histogram_key interval offset hard (Whole key) = int_eq (interval_start interval offset key) key && (is_near key && is_between hard (Whole key))
-is_histogram_key interval offset hard (Flag b) = false
-is_histogram_key interval offset hard (Word w) = false
-is_histogram_key interval offset hard (Fixed n) = false
-is_histogram_key interval offset hard (Many' n parts) = false
+abbrev pub is_histogram_key : Spacing → Bounds → Key → Bool
+is_histogram_key spacing hard Null = false
+is_histogram_key spacing hard (Whole key) = int_eq (interval_start spacing key) key && (is_near spacing key && is_between hard (Whole key))
+is_histogram_key spacing hard (Flag b) = false
+is_histogram_key spacing hard (Word w) = false
+is_histogram_key spacing hard (Fixed n) = false
+is_histogram_key spacing hard (Many' n parts) = false
 
 abbrev pub has_histogram_keys : Kind → List Bucket → Bool
 has_histogram_keys k bs = elim (profile k).form [
   | Form.terms t ↦ true
-  | Form.histogram h ↦ list_all (λ b. is_histogram_key h.interval h.offset h.hard (bucket_key b)) bs
+  | Form.histogram h ↦ list_all (λ b. is_histogram_key h.spacing h.hard (bucket_key b)) bs
   | Form.pages sources size after ↦ true
   | Form.fixed ks ↦ true
   | Form.number o ↦ true

@@ -1,15 +1,16 @@
--- The keys of a row at an aggregation: the buckets that it falls into (Elasticsearch Reference 8, 'Terms', 'Histogram',
--- 'Filters', 'Filter', 'Missing' and 'Composite aggregation').
-use Rattle.std.specs.Prelude.{ℕ, ℤ, pos, ◌+ℤ◌, ◌-ℤ◌, ◌*ℤ◌, not, ◌&&◌, Bool, true, false, if◌then◌else◌, List, [], ◌∷◌, ◌++◌, length, map, filter, flat_map, Option, None, option_to_list, is_some, int_le}
+-- The keys of a row at an aggregation: the buckets that it falls into (Elasticsearch Reference 8, 'Terms', 'Histogram', 'Date
+-- histogram', 'Filters', 'Filter', 'Missing' and 'Composite aggregation').
+use Rattle.std.specs.Prelude.{ℕ, not, ◌&&◌, Bool, true, false, if◌then◌else◌, List, [], ◌∷◌, ◌++◌, length, map, filter, flat_map, Option, None, option_to_list, is_some, int_le}
 use Rattle.std.specs.List.{list_any, enumerate_from}
 use Rattle.std.specs.Option.{option_map_or}
-use Rattle.std.specs.Int.{int_div_euclid}
 use Rattle.agg_model.specs.declared.key.Key.{Key}
 use Rattle.agg_model.specs.declared.key.Key.TheVariants.{Null, Whole, Flag, Word, Fixed, Many, Many'}
 use Rattle.agg_model.specs.declared.row.Scalar.{Scalar}
 use Rattle.agg_model.specs.declared.query.Probe.{Probe}
 use Rattle.agg_model.specs.declared.query.Query.{Query}
 use Rattle.agg_model.specs.declared.aggregation.Bounds.{Bounds}
+use Rattle.agg_model.specs.declared.aggregation.Spacing.{Spacing}
+use Rattle.agg_model.specs.declared.aggregation.Spacing.TheVariants.{Numbers}
 use Rattle.agg_model.specs.declared.aggregation.Kind.{Kind}
 use Rattle.agg_model.specs.declared.aggregation.CompositeSource.{CompositeSource}
 use Rattle.agg_model.specs.declared.row.Scalar.TheVariants as scalar
@@ -19,6 +20,7 @@ use Rattle.agg_evaluation.specs.KeyOrder.{key_cmp, has_key}
 use Rattle.agg_model.specs.ValueKeys.{scalar_key, probe_key}
 use Rattle.agg_evaluation.specs.Rows.{PlacedRow, values_of, has_value}
 use Rattle.agg_evaluation.specs.Matching.{matches}
+use Rattle.agg_evaluation.specs.Spacings.{interval_start}
 
 -- the distinct keys of a list, ascending
 abbrev pub distinct_keys : List Key → List Key
@@ -40,14 +42,11 @@ abbrev pub term_keys : ℕ → Option (List Probe) → List Probe → Option Sca
 term_keys field include exclude missing row =
     filter (is_included include exclude) (distinct_keys (map scalar_key (values_or field missing row)))
 
--- floor ((n - offset) / interval) * interval + offset
-abbrev pub interval_start : ℕ → ℕ → ℤ → ℤ
-interval_start interval offset n = int_div_euclid (n -ℤ pos offset) (pos interval) *ℤ pos interval +ℤ pos offset
-
-abbrev pub interval_key : ℕ → ℕ → Scalar → List Key
-interval_key interval offset (scalar.Whole n) = Whole (interval_start interval offset n) ∷ []
-interval_key interval offset (scalar.Word w) = []
-interval_key interval offset (scalar.Flag b) = []
+-- a number or an instant has the start of its interval
+abbrev pub interval_key : Spacing → Scalar → List Key
+interval_key spacing (scalar.Whole n) = Whole (interval_start spacing n) ∷ []
+interval_key spacing (scalar.Word w) = []
+interval_key spacing (scalar.Flag b) = []
 
 -- whether the key lies within the bounds that are given
 abbrev pub is_between : Bounds → Key → Bool
@@ -58,9 +57,9 @@ is_between bounds (Word w) = false
 is_between bounds (Fixed n) = false
 is_between bounds (Many' n parts) = false
 
-abbrev pub histogram_keys : ℕ → ℕ → ℕ → Bounds → Option Scalar → PlacedRow → List Key
-histogram_keys field interval offset hard missing row =
-    filter (is_between hard) (distinct_keys (flat_map (interval_key interval offset) (values_or field missing row)))
+abbrev pub histogram_keys : ℕ → Spacing → Bounds → Option Scalar → PlacedRow → List Key
+histogram_keys field spacing hard missing row =
+    filter (is_between hard) (distinct_keys (flat_map (interval_key spacing) (values_or field missing row)))
 
 -- the one key of a single-bucket aggregation, where the row falls into its bucket
 abbrev pub single_key : Bool → List Key
@@ -83,7 +82,7 @@ no_bounds = record { min = None; max = None }
 -- a source with an interval is a histogram of offset 0, and one without has the row's values
 abbrev pub source_keys : PlacedRow → CompositeSource → List Key
 source_keys row s =
-    or_null s.missing_bucket (option_map_or (λ interval. histogram_keys s.field interval 0 no_bounds None row) s.interval (term_keys s.field None [] None row))
+    or_null s.missing_bucket (option_map_or (λ interval. histogram_keys s.field (Numbers interval 0) no_bounds None row) s.interval (term_keys s.field None [] None row))
 
 -- one item of each list, in all ways
 abbrev pub combinations : List (List Key) → List (List Key)
@@ -98,7 +97,7 @@ composite_keys sources row = distinct_keys (map Many (combinations (map (source_
 abbrev pub keys : List PlacedRow → Kind → PlacedRow → List Key
 keys all k row = elim (options_of k) [
   | Options.Terms t ↦ term_keys t.field t.include t.exclude t.missing row
-  | Options.Histogram h ↦ histogram_keys h.field h.interval h.offset h.hard h.missing row
+  | Options.Histogram h ↦ histogram_keys h.field h.spacing h.hard h.missing row
   | Options.Filters names filters other ↦ filter_keys (λ q. matches all q row) filters other
   | Options.Filter query ↦ single_key (matches all query row)
   | Options.Missing field ↦ single_key (not (has_value field row))

@@ -3,6 +3,7 @@ pub mod Folds
 pub mod KeyOrder
 pub mod Rows
 pub mod Matching
+pub mod Spacings
 pub mod Keys
 pub mod Groups
 pub mod Orders

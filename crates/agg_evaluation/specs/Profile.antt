@@ -14,7 +14,7 @@ use Rattle.agg_model.specs.Options.{Options, TermsOptions, HistogramOptions, Met
 pub data Form : Type 0 where
   -- a bucket for each value, of which a shard and the answer return the first
   terms : TermsOptions → Form
-  -- a bucket for each interval
+  -- a bucket for each interval, of numbers or of dates
   histogram : HistogramOptions → Form
   -- a bucket for each combination of the sources' keys, a page of some size behind some key
   pages : List CompositeSource → ℕ → Option Key → Form

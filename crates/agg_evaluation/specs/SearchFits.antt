@@ -12,6 +12,9 @@ use Rattle.agg_model.specs.declared.row.Scalar.{Scalar}
 use Rattle.agg_model.specs.declared.row.Scalar.TheVariants as scalar
 use Rattle.agg_model.specs.declared.aggregation.Agg.{Agg}
 use Rattle.agg_model.specs.declared.aggregation.Agg.TheOpen.{Agg-F}
+use Rattle.agg_model.specs.declared.aggregation.Bounds.{Bounds}
+use Rattle.agg_model.specs.declared.aggregation.Spacing.{Spacing}
+use Rattle.agg_model.specs.declared.aggregation.Spacing.TheVariants.{Numbers, Dates}
 use Rattle.agg_model.specs.declared.aggregation.CompositeSource.{CompositeSource}
 use Rattle.agg_model.specs.declared.aggregation.Kind.{Kind}
 use Rattle.agg_model.specs.Options.{Options, TermsOptions, HistogramOptions, MetricOptions, Measure, options_of, is_sortable}
@@ -23,8 +26,9 @@ use Rattle.agg_model.specs.declared.aggregation.Search.{Search}
 use Rattle.agg_evaluation.specs.Folds.{fold_agg}
 use Rattle.agg_model.specs.Contexts.{encloses}
 use Rattle.agg_model.specs.BoundsOrder.{is_at_most, lies_within}
-use Rattle.agg_model.specs.FieldKinds.{ValueKind, value_kind, is_whole_kind, is_number_kind, fits_below}
+use Rattle.agg_model.specs.FieldKinds.{ValueKind, value_kind, is_whole_kind, is_number_kind, is_date_kind, fits_below}
 use Rattle.agg_evaluation.specs.CompositeKeys.{is_composite_of}
+use Rattle.agg_evaluation.specs.Conditions.{is_spaced}
 use Rattle.agg_evaluation.specs.QueryFits.{field_is, are_probes, is_path_beneath, query_fits}
 
 -- a whole number in 64 bits, an instant in the range of dates
@@ -68,6 +72,19 @@ is_interval n = nat_le 1 n && nat_lt n (2 ^ 63)
 abbrev pub is_whole_field : Mapping → ℕ → Option Scalar → Bool
 is_whole_field m field missing = field_is m (λ k. is_whole_kind k && is_missing k missing) field
 
+abbrev pub is_date_field : Mapping → ℕ → Option Scalar → Bool
+is_date_field m field missing = field_is m (λ k. is_date_kind k && is_missing k missing) field
+
+-- a histogram is over whole numbers or over dates
+abbrev pub is_divided_field : Mapping → Spacing → ℕ → Option Scalar → Bool
+is_divided_field m (Numbers interval offset) field missing = is_whole_field m field missing
+is_divided_field m (Dates period zone) field missing = is_date_field m field missing
+
+-- an offset is below the interval
+abbrev pub spacing_made : Spacing → Bounds → Bounds → Bool
+spacing_made (Numbers interval offset) extended hard = is_interval interval && nat_lt offset interval
+spacing_made (Dates period zone) extended hard = is_spaced (Dates period zone) extended hard
+
 -- one source of a composite: an interval only over whole numbers
 abbrev pub interval_fits : Mapping → ℕ → Option ℕ → Bool
 interval_fits m field None = field_is m (λ k. true) field
@@ -105,9 +122,9 @@ terms_made m children t =
 -- in both bounds the least is at most the greatest, and the extended ones lie within the hard ones
 abbrev pub histogram_made : Mapping → List Kind → HistogramOptions → Bool
 histogram_made m children h =
-    is_whole_field m h.field h.missing
-    && (is_interval h.interval && (nat_lt h.offset h.interval && (is_at_most h.extended.min h.extended.max
-    && (is_at_most h.hard.min h.hard.max && (lies_within h.extended h.hard && orders_fit children h.order)))))
+    is_divided_field m h.spacing h.field h.missing
+    && (spacing_made h.spacing h.extended h.hard && (is_at_most h.extended.min h.extended.max
+    && (is_at_most h.hard.min h.hard.max && (lies_within h.extended h.hard && orders_fit children h.order))))
 
 -- named filters have a name each
 abbrev pub filters_made : Mapping → ℕ → Option (List (List ℕ)) → List Query → Bool

@@ -1,6 +1,6 @@
 -- The shard answer: the tree that one shard answers to an aggregation (Elasticsearch Reference 8, 'Aggregations';
 -- 'Terms aggregation' on shard size and on errors of counts; 'Composite aggregation' on pages).
-use Rattle.std.specs.Prelude.{ℕ, ℤ, pos, ◌+ℤ◌, ◌+◌, ◌-◌, ◌==◌, Bool, true, false, if◌then◌else◌, List, [], ◌∷◌, map, filter, filter_map, flat_map, length, take, sum_by, Option, Some, None, unwrap_or}
+use Rattle.std.specs.Prelude.{ℕ, ℤ, pos, ◌+ℤ◌, ◌-◌, ◌==◌, Bool, true, false, if◌then◌else◌, List, [], ◌∷◌, map, filter, filter_map, flat_map, length, take, sum_by, Option, Some, None, unwrap_or}
 use Rattle.std.specs.List.{reduce, last_or}
 use Rattle.std.specs.Option.{option_map_or}
 use Rattle.std.specs.Int.{int_min, int_max}

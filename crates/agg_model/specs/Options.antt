@@ -1,5 +1,5 @@
 -- The options of an aggregation by their names (Elasticsearch Reference 8, 'Terms aggregation', 'Histogram aggregation',
--- 'Metrics aggregations').
+-- 'Date histogram aggregation', 'Metrics aggregations').
 use Rattle.std.specs.Prelude.{ℕ, Bool, true, false, List, Option}
 use Rattle.agg_model.specs.declared.key.Key.{Key}
 use Rattle.agg_model.specs.declared.row.Scalar.{Scalar}
@@ -7,6 +7,8 @@ use Rattle.agg_model.specs.declared.query.Probe.{Probe}
 use Rattle.agg_model.specs.declared.query.Query.{Query}
 use Rattle.agg_model.specs.declared.aggregation.Bounds.{Bounds}
 use Rattle.agg_model.specs.declared.aggregation.Order.{Order}
+use Rattle.agg_model.specs.declared.aggregation.Spacing.{Spacing}
+use Rattle.agg_model.specs.declared.aggregation.Spacing.TheVariants.{Numbers, Dates}
 use Rattle.agg_model.specs.declared.aggregation.CompositeSource.{CompositeSource}
 use Rattle.agg_model.specs.declared.aggregation.Kind.{Kind}
 use Rattle.agg_model.specs.declared.aggregation.Kind.TheVariants as kind
@@ -22,10 +24,10 @@ pub record TermsOptions : Type 0 where
   pub missing : Option Scalar
   pub show_error : Bool
 
+-- of a histogram over numbers or over dates: the spacing says where its buckets begin
 pub record HistogramOptions : Type 0 where
   pub field : ℕ
-  pub interval : ℕ
-  pub offset : ℕ
+  pub spacing : Spacing
   pub min_doc_count : ℕ
   pub extended : Bounds
   pub hard : Bounds
@@ -46,7 +48,7 @@ pub record MetricOptions : Type 0 where
   pub field : ℕ
   pub missing : Option Scalar
 
--- what an aggregation does: its kind with its options, the five metrics as one
+-- what an aggregation does: its kind with its options, the two histograms as one, and the five metrics
 pub data Options : Type 0 where
   Terms : TermsOptions → Options
   Histogram : HistogramOptions → Options
@@ -76,8 +78,17 @@ options_of (kind.Terms field size shard_size min_doc_count order include exclude
 })
 options_of (kind.Histogram field interval offset min_doc_count extended hard keyed order missing) = Options.Histogram (record {
   field = field;
-  interval = interval;
-  offset = offset;
+  spacing = Numbers interval offset;
+  min_doc_count = min_doc_count;
+  extended = extended;
+  hard = hard;
+  keyed = keyed;
+  order = order;
+  missing = missing;
+})
+options_of (kind.DateHistogram field period zone min_doc_count extended hard keyed order missing) = Options.Histogram (record {
+  field = field;
+  spacing = Dates period zone;
   min_doc_count = min_doc_count;
   extended = extended;
   hard = hard;
@@ -104,7 +115,10 @@ terms_kind t = kind.Terms t.field t.size t.shard_size t.min_doc_count t.order t.
 
 -- the histogram with these options
 abbrev pub histogram_kind : HistogramOptions → Kind
-histogram_kind h = kind.Histogram h.field h.interval h.offset h.min_doc_count h.extended h.hard h.keyed h.order h.missing
+histogram_kind h = elim h.spacing [
+  | Numbers interval offset ↦ kind.Histogram h.field interval offset h.min_doc_count h.extended h.hard h.keyed h.order h.missing
+  | Dates period zone ↦ kind.DateHistogram h.field period zone h.min_doc_count h.extended h.hard h.keyed h.order h.missing
+]
 
 -- a measure that is one whole number, or null
 abbrev pub is_number : Measure → Bool

@@ -7,6 +7,7 @@ use crate::list::List;
 use crate::query::{Probe, Query};
 use crate::row::Scalar;
 use crate::text::Text;
+use date_spec::Period;
 use std::alloc::{AllocError, Global};
 
 /// What an order of buckets compares.
@@ -32,6 +33,15 @@ pub struct Order {
 pub struct Bounds {
     pub min: Option<i64>,
     pub max: Option<i64>,
+}
+
+/// Where the buckets of a histogram begin.
+#[derive(Clone, Copy, Debug, Drop, PartialEq, Eq)]
+pub enum Spacing {
+    /// Of numbers: at the multiples of `interval`, plus `offset`.
+    Numbers { interval: u64, offset: u64 },
+    /// Of dates: where the periods do, in a zone that is so many milliseconds ahead of UTC.
+    Dates { period: Period, zone: i64 },
 }
 
 /// One source of a composite aggregation.
@@ -66,6 +76,19 @@ pub enum Kind {
         field: u32,
         interval: u64,
         offset: u64,
+        min_doc_count: u64,
+        extended: Bounds,
+        hard: Bounds,
+        keyed: bool,
+        order: List<Order>,
+        missing: Option<Scalar>,
+    },
+    /// One bucket for each period of the calendar, or of one length ('Date histogram aggregation').
+    DateHistogram {
+        field: u32,
+        period: Period,
+        /// How many milliseconds the time zone is ahead of UTC.
+        zone: i64,
         min_doc_count: u64,
         extended: Bounds,
         hard: Bounds,
@@ -212,6 +235,27 @@ impl Copying for Kind {
                 field: *field,
                 interval: *interval,
                 offset: *offset,
+                min_doc_count: *min_doc_count,
+                extended: *extended,
+                hard: *hard,
+                keyed: *keyed,
+                order: order.copy(alloc)?,
+                missing: missing.copy(alloc)?,
+            }),
+            Kind::DateHistogram {
+                field,
+                period,
+                zone,
+                min_doc_count,
+                extended,
+                hard,
+                keyed,
+                order,
+                missing,
+            } => Ok(Kind::DateHistogram {
+                field: *field,
+                period: *period,
+                zone: *zone,
                 min_doc_count: *min_doc_count,
                 extended: *extended,
                 hard: *hard,

@@ -25,7 +25,7 @@ pub mod script_refusal;
 mod settings;
 mod text;
 
-pub use aggregation::{Agg, Bounds, CompositeSource, Kind, Order, OrderBy, Search};
+pub use aggregation::{Agg, Bounds, CompositeSource, Kind, Order, OrderBy, Search, Spacing};
 pub use answer::{Answer, BucketAnswer, NodeAnswer};
 pub use boxed::Boxed;
 pub use breaker::{BreakerStats, Child, Limits, Totals, Tripped, Which};

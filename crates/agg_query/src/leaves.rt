@@ -190,13 +190,18 @@ pub fn range(
     let (path, said) = subject(alloc, at, value)?;
     let field_at = At::Member(at, path);
     let (place, field) = field(alloc, mapping, &field_at, path)?;
-    if let FieldKind::Boolean = field.kind {
-        return field_at.refuse(alloc, NO_SUCH_FIELD);
+    match field.kind {
+        FieldKind::Boolean => field_at.refuse(alloc, NO_SUCH_FIELD),
+        FieldKind::Long
+        | FieldKind::Integer
+        | FieldKind::Short
+        | FieldKind::Byte
+        | FieldKind::Keyword
+        | FieldKind::Date => Ok(Query::Range {
+            field: place,
+            tests: tests(alloc, field.kind, &field_at, said)?,
+        }),
     }
-    Ok(Query::Range {
-        field: place,
-        tests: tests(alloc, field.kind, &field_at, said)?,
-    })
 }
 
 /// `exists`: a field that has a value.

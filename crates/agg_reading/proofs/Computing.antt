@@ -55,6 +55,11 @@ unfolding
     Rattle.agg_reading.specs.Terms.term_sizes_in Rattle.agg_reading.specs.Terms.terms_in Rattle.agg_reading.specs.Terms.terms_at
     Rattle.agg_reading.specs.Histogram.whole_field_in Rattle.agg_reading.specs.Histogram.bounds_at Rattle.agg_reading.specs.Histogram.histogram_ranges_in
     Rattle.agg_reading.specs.Histogram.histogram_counts_in Rattle.agg_reading.specs.Histogram.histogram_rules Rattle.agg_reading.specs.Histogram.histogram_in
+    Rattle.agg_reading.specs.DateHistogram.date_field_in Rattle.agg_reading.specs.DateHistogram.instant_at Rattle.agg_reading.specs.DateHistogram.calendar_period
+    Rattle.agg_reading.specs.DateHistogram.unit_millis Rattle.agg_reading.specs.DateHistogram.is_amount Rattle.agg_reading.specs.DateHistogram.fixed_of
+    Rattle.agg_reading.specs.DateHistogram.fixed_period Rattle.agg_reading.specs.DateHistogram.zone_of Rattle.agg_reading.specs.DateHistogram.said_at
+    Rattle.agg_reading.specs.DateHistogram.date_ranges_in Rattle.agg_reading.specs.DateHistogram.date_counts_in
+    Rattle.agg_reading.specs.DateHistogram.date_histogram_in Rattle.agg_reading.specs.DateHistogram.date_histogram_at
     Rattle.agg_reading.specs.Histogram.histogram_at Rattle.agg_reading.specs.Filters.name_at Rattle.agg_reading.specs.Filters.listed_from
     Rattle.agg_reading.specs.Filters.named_from Rattle.agg_reading.specs.Filters.filter_list_at Rattle.agg_reading.specs.Filters.other_of
     Rattle.agg_reading.specs.Filters.filters_in Rattle.agg_reading.specs.Filters.filters_at Rattle.agg_reading.specs.Composite.source_named

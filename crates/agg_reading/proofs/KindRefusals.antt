@@ -1,10 +1,12 @@
 -- Each reading of a kind of aggregation is refused with a number of search bodies.
-use Rattle.std.specs.Prelude.{refl, ℕ, ◌+◌, ◌==◌, List, [], ◌∷◌, ◌++◌, Bool, ◌&&◌, Option, Some, None, unwrap_or, length, nat_lt, nat_le, codes}
+use Rattle.std.specs.Prelude.{refl, ℕ, ℤ, ◌+◌, ◌==◌, List, [], ◌∷◌, ◌++◌, Bool, ◌&&◌, Option, Some, None, unwrap_or, length, nat_lt, nat_le, codes}
 use Rattle.serde_json.specs.Data.{Data, null, boolean, number, string, array, object, Items, no_items, item, Members, no_members, member}
 use Rattle.serde_json.specs.Find.{get_member, as_i64, as_number}
+use Rattle.date_spec.specs.declared.period.Period.{Period}
+use Rattle.date_spec.specs.Instants.{is_in_range}
 use Rattle.agg_model.specs.BoundsOrder.{is_at_most, lies_within}
 use Rattle.agg_model.specs.Contexts.{encloses}
-use Rattle.agg_model.specs.FieldKinds.{is_number_kind, is_whole_kind}
+use Rattle.agg_model.specs.FieldKinds.{is_date_kind, is_number_kind, is_whole_kind}
 use Rattle.agg_model.specs.declared.aggregation.Bounds.{Bounds}
 use Rattle.agg_model.specs.declared.key.Key.{Key}
 use Rattle.agg_model.specs.declared.mapping.Field.{Field}
@@ -16,12 +18,15 @@ use Rattle.agg_reading.specs.declared.names.KindName.TheVariants as name
 use Rattle.agg_reading.specs.declared.names.SourceName.{SourceName}
 use Rattle.agg_reading.specs.declared.names.SourceName.TheVariants as source
 use Rattle.agg_reading.specs.declared.parts.NamedOrder.{NamedOrder}
+use Rattle.agg_reading.specs.Reading.{Reading}
 use Rattle.agg_reading.specs.Pointer.{item_step}
+use Rattle.agg_reading.specs.Scalars.{instant}
 use Rattle.agg_reading.specs.Json.{is_among}
 use Rattle.agg_reading.specs.Numbers.{number_at, signed_at, choice_at, whole_at}
 use Rattle.agg_reading.specs.Orders.{direction_at, order_at, orders_from, item_count, orders_at}
 use Rattle.agg_reading.specs.Terms.{missing_at, term_lists_in, term_counts_in, term_sizes_in, terms_in, terms_at}
-use Rattle.agg_reading.specs.Histogram.{whole_field_in, bounds_at, histogram_ranges_in, histogram_counts_in, histogram_rules, histogram_in, histogram_at}
+use Rattle.agg_reading.specs.Histogram.{whole_field_in, bounds_at, bounds_rule, histogram_ranges_in, histogram_counts_in, histogram_rules, histogram_in, histogram_at}
+use Rattle.agg_reading.specs.DateHistogram.{date_field_in, dated, instant_at, calendar_period, fixed_period, zone_of, said_at, date_ranges_in, date_counts_in, period_in, date_histogram_in, date_histogram_at}
 use Rattle.agg_reading.specs.Filters.{is_name, name_at, listed_from, named_from, filter_list_at, is_taken, other_of, filters_in, filters_at}
 use Rattle.agg_reading.specs.Composite.{Source, source_named, terms_source_at, histogram_source_at, source_by, source_at, source_name_at, sole_of, named_source_at, sources_from, some_sources, sources_at}
 use Rattle.agg_reading.specs.After.{After, part_at, source_of, part_of, parts_from, has_names, after_at, source_names, after_rule, distinct_from, composite_in, composite_at}
@@ -109,18 +114,18 @@ a_whole_field : (m : Mapping) (at : List ℕ) (ms : Members) → Refusing body_r
 unfolding whole_field_in
 a_whole_field m at ms = then _ _ (named_field m at ms) (λ f. either (is_whole_kind f.1.kind) _ _ (value f) (refused 108 _ refl))
 
-some_bounds : (at : List ℕ) (d : Data) → Refusing body_refusals (bounds_at at d)
+some_bounds : (f : List ℕ → Data → Reading ℤ) → ((at : List ℕ) (d : Data) → Refusing body_refusals (f at d)) → (at : List ℕ) (d : Data) → Refusing body_refusals (bounds_at f at d)
 unfolding bounds_at
-some_bounds at d =
+some_bounds f each at d =
     then _ _ (an_object 103 at d refl) (λ ms. then _ _ (names 101 _ at ms refl) (λ u.
-    then _ _ (maybe _ _ (get_member (codes "max") ms) a_signed) (λ most.
-    then _ _ (maybe _ _ (get_member (codes "min") ms) a_signed) (λ least. either (is_at_most least most) _ _ (value _) (refused 104 at refl)))))
+    then _ _ (maybe _ _ (get_member (codes "max") ms) each) (λ most.
+    then _ _ (maybe _ _ (get_member (codes "min") ms) each) (λ least. either (is_at_most least most) _ _ (value _) (refused 104 at refl)))))
 
 some_ranges : (at : List ℕ) (ms : Members) → Refusing body_refusals (histogram_ranges_in at ms)
 unfolding histogram_ranges_in
 some_ranges at ms =
-    then _ _ (maybe _ _ (get_member (codes "extended_bounds") ms) some_bounds) (λ extended.
-    then _ _ (maybe _ _ (get_member (codes "hard_bounds") ms) some_bounds) (λ hard.
+    then _ _ (maybe _ _ (get_member (codes "extended_bounds") ms) (some_bounds signed_at a_signed)) (λ extended.
+    then _ _ (maybe _ _ (get_member (codes "hard_bounds") ms) (some_bounds signed_at a_signed)) (λ hard.
     then _ _ (maybe (whole_at 1 9223372036854775807) _ (get_member (codes "interval") ms) (a_number _ _)) (λ interval.
     then _ _ (maybe _ _ (get_member (codes "keyed") ms) a_truth) (λ keyed. value _))))
 
@@ -132,10 +137,12 @@ bucket_counts kind at ms =
     then _ _ (maybe (whole_at 0 18446744073709551615) _ (get_member (codes "offset") ms) (a_number _ _)) (λ offset.
     then _ _ (maybe _ _ (get_member (codes "order") ms) all_orders) (λ order. value _))))
 
+bounds_within : (at : List ℕ) (extended hard : Bounds) → Refusing body_refusals (bounds_rule at extended hard)
+bounds_within at extended hard = either (lies_within extended hard) _ _ (value tt) (refused 104 _ refl)
+
 some_rules : (at : List ℕ) (interval offset : ℕ) (extended hard : Bounds) → Refusing body_refusals (histogram_rules at interval offset extended hard)
 unfolding histogram_rules
-some_rules at interval offset extended hard =
-    either (nat_lt offset interval) _ _ (either (lies_within extended hard) _ _ (value tt) (refused 104 _ refl)) (refused 104 _ refl)
+some_rules at interval offset extended hard = either (nat_lt offset interval) _ _ (bounds_within at extended hard) (refused 104 _ refl)
 
 histogram_of : (f : ℕ × Field) (at : List ℕ) (ms : Members) → Refusing body_refusals (histogram_in f at ms)
 unfolding histogram_in
@@ -146,6 +153,63 @@ histogram_of (place, field) at ms =
 a_histogram : (m : Mapping) (at : List ℕ) (d : Data) → Refusing body_refusals (histogram_at m at d)
 unfolding histogram_at
 a_histogram m at d = then _ _ (an_object 103 at d refl) (λ ms. then _ _ (names 101 _ at ms refl) (λ u. then _ _ (a_whole_field m at ms) (λ f. histogram_of f at ms)))
+
+-- date histograms
+
+a_date_field : (m : Mapping) (at : List ℕ) (ms : Members) → Refusing body_refusals (date_field_in m at ms)
+unfolding date_field_in
+a_date_field m at ms = then _ _ (named_field m at ms) (λ f. either (is_date_kind f.1.kind) _ _ (value f) (refused 108 _ refl))
+
+in_dates : (at : List ℕ) (n : Option ℤ) → Refusing body_refusals (dated at n)
+in_dates at None = refused 104 at refl
+in_dates at (Some n) = either (is_in_range n) _ _ (value n) (refused 104 at refl)
+
+an_instant : (at : List ℕ) (d : Data) → Refusing body_refusals (instant_at at d)
+unfolding instant_at
+an_instant at null = refused 103 at refl
+an_instant at (boolean b) = refused 103 at refl
+an_instant at (number n) = in_dates at (instant (number n))
+an_instant at (string s) = in_dates at (instant (string s))
+an_instant at (array ds) = refused 103 at refl
+an_instant at (object ms) = refused 103 at refl
+
+a_meaning : {A : Type 0} (meaning : List ℕ → Option A) (at : List ℕ) (d : Data) → Refusing body_refusals (said_at meaning at d)
+unfolding said_at
+a_meaning meaning at d = then _ _ (a_text 103 at d refl) (λ s. found 104 at (meaning s) refl)
+
+date_ranges : (at : List ℕ) (ms : Members) → Refusing body_refusals (date_ranges_in at ms)
+unfolding date_ranges_in
+date_ranges at ms =
+    then _ _ (maybe _ _ (get_member (codes "calendar_interval") ms) (a_meaning calendar_period)) (λ calendar.
+    then _ _ (maybe _ _ (get_member (codes "extended_bounds") ms) (some_bounds instant_at an_instant)) (λ extended.
+    then _ _ (maybe _ _ (get_member (codes "fixed_interval") ms) (a_meaning fixed_period)) (λ fixed.
+    then _ _ (maybe _ _ (get_member (codes "hard_bounds") ms) (some_bounds instant_at an_instant)) (λ hard.
+    then _ _ (maybe _ _ (get_member (codes "keyed") ms) a_truth) (λ keyed. value _)))))
+
+date_counts : (kind : FieldKind) (at : List ℕ) (ms : Members) → Refusing body_refusals (date_counts_in kind at ms)
+unfolding date_counts_in
+date_counts kind at ms =
+    then _ _ (maybe (whole_at 0 9223372036854775807) _ (get_member (codes "min_doc_count") ms) (a_number _ _)) (λ least.
+    then _ _ (maybe _ _ (get_member (codes "missing") ms) (a_missing kind)) (λ missing.
+    then _ _ (maybe _ _ (get_member (codes "order") ms) all_orders) (λ order.
+    then _ _ (maybe _ _ (get_member (codes "time_zone") ms) (a_meaning zone_of)) (λ zone. value _))))
+
+a_period : (at : List ℕ) (calendar fixed : Option Period) → Refusing body_refusals (period_in at calendar fixed)
+a_period at None None = refused 102 at refl
+a_period at (Some period) None = value period
+a_period at None (Some period) = value period
+a_period at (Some period) (Some other) = refused 104 _ refl
+
+date_histogram_of : (f : ℕ × Field) (at : List ℕ) (ms : Members) → Refusing body_refusals (date_histogram_in f at ms)
+unfolding date_histogram_in
+date_histogram_of (place, field) at ms =
+    then _ _ (date_ranges at ms) (λ ranges. then _ _ (date_counts field.kind at ms) (λ counts.
+    then _ _ (a_period at ranges.0 ranges.1) (λ period. then _ _ (bounds_within at ranges.2 ranges.3) (λ u. value _))))
+
+a_date_histogram : (m : Mapping) (at : List ℕ) (d : Data) → Refusing body_refusals (date_histogram_at m at d)
+unfolding date_histogram_at
+a_date_histogram m at d =
+    then _ _ (an_object 103 at d refl) (λ ms. then _ _ (names 101 _ at ms refl) (λ u. then _ _ (a_date_field m at ms) (λ f. date_histogram_of f at ms)))
 
 -- filters
 
@@ -340,6 +404,7 @@ pub a_kind : (k : KindName) (m : Mapping) (context queries : ℕ) (at : List ℕ
 unfolding kind_at
 a_kind name.Terms m context queries at d = then _ _ (a_terms m at d) (λ k. value _)
 a_kind name.Histogram m context queries at d = then _ _ (a_histogram m at d) (λ k. value _)
+a_kind name.DateHistogram m context queries at d = then _ _ (a_date_histogram m at d) (λ k. value _)
 a_kind name.Filters m context queries at d = then _ _ (all_filters m context queries at d) (λ f. value _)
 a_kind name.Filter m context queries at d = then _ _ (a_top_query m context queries at d) (λ q. value _)
 a_kind name.Missing m context queries at d = then _ _ (a_missing_kind m at d) (λ k. value _)

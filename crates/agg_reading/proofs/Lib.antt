@@ -9,6 +9,7 @@ mod RefusedIndexLines
 mod ActionLines
 mod Documents
 mod Dates
+mod DateHistograms
 mod Hashes
 mod Scripts
 mod Limits

@@ -17,6 +17,7 @@ use Rattle.agg_reading.specs.Json.{sole_besides, is_among}
 use Rattle.agg_reading.specs.Query.{top_query_at}
 use Rattle.agg_reading.specs.Terms.{terms_at}
 use Rattle.agg_reading.specs.Histogram.{histogram_at}
+use Rattle.agg_reading.specs.DateHistogram.{date_histogram_at}
 use Rattle.agg_reading.specs.Filters.{is_name, filters_at}
 use Rattle.agg_reading.specs.After.{composite_at}
 use Rattle.agg_reading.specs.Metrics.{number_metric_at, extreme_at, any_metric_at, missing_kind_at, global_at, nested_context_at, outer_context_at}
@@ -25,6 +26,7 @@ unfoldable pub kind_name : List ℕ → Option KindName
 kind_name s =
     if bytes_eq s (codes "avg") then Some name.Avg else (
     if bytes_eq s (codes "composite") then Some name.Composite else (
+    if bytes_eq s (codes "date_histogram") then Some name.DateHistogram else (
     if bytes_eq s (codes "filter") then Some name.Filter else (
     if bytes_eq s (codes "filters") then Some name.Filters else (
     if bytes_eq s (codes "global") then Some name.Global else (
@@ -36,7 +38,7 @@ kind_name s =
     if bytes_eq s (codes "reverse_nested") then Some name.ReverseNested else (
     if bytes_eq s (codes "sum") then Some name.Sum else (
     if bytes_eq s (codes "terms") then Some name.Terms else (
-    if bytes_eq s (codes "value_count") then Some name.ValueCount else None)))))))))))))
+    if bytes_eq s (codes "value_count") then Some name.ValueCount else None))))))))))))))
 
 -- a kind without an order, and the context of the rows that it hands on
 abbrev pub plain : ℕ → ℕ → Kind → Reading ReadKind
@@ -49,6 +51,7 @@ ordered within queries k = Ok (record { kind = k.0; order = k.1; within = within
 unfoldable pub kind_at : KindName → Mapping → ℕ → ℕ → List ℕ → Data → Reading ReadKind
 kind_at name.Terms m context queries at d = terms_at m at d >>= ordered context queries
 kind_at name.Histogram m context queries at d = histogram_at m at d >>= ordered context queries
+kind_at name.DateHistogram m context queries at d = date_histogram_at m at d >>= ordered context queries
 kind_at name.Filters m context queries at d = filters_at m context queries at d >>= λ f. plain context f.1 f.0
 kind_at name.Filter m context queries at d = top_query_at m context queries at d >>= λ q. plain context q.1 (kind.Filter q.0)
 kind_at name.Missing m context queries at d = missing_kind_at m at d >>= plain context queries
@@ -73,6 +76,7 @@ pub data Standing : Type 0 where
 abbrev pub standing : KindName → Standing
 standing name.Avg = Standing.alone
 standing name.Composite = Standing.at_top
+standing name.DateHistogram = Standing.anywhere
 standing name.Filter = Standing.anywhere
 standing name.Filters = Standing.anywhere
 standing name.Global = Standing.at_top

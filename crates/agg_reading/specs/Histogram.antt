@@ -8,6 +8,7 @@ use Rattle.agg_model.specs.declared.mapping.Mapping.{Mapping}
 use Rattle.agg_model.specs.declared.row.Scalar.{Scalar}
 use Rattle.agg_model.specs.declared.aggregation.Bounds.{Bounds}
 use Rattle.agg_model.specs.declared.aggregation.Kind.{Kind}
+use Rattle.agg_model.specs.declared.aggregation.Spacing.TheVariants.{Numbers}
 use Rattle.agg_model.specs.Options.{histogram_kind}
 use Rattle.agg_model.specs.BoundsOrder.{is_at_most, lies_within}
 use Rattle.agg_reading.specs.declared.parts.NamedOrder.{NamedOrder}
@@ -27,12 +28,13 @@ whole_field_in m at ms = field_in m at ms >>= λ f. if is_whole_kind f.1.kind th
 abbrev pub ordered_bounds : List ℕ → Option ℤ → Option ℤ → Reading Bounds
 ordered_bounds at least most = if is_at_most least most then Ok (record { min = least; max = most }) else refuse OUT_OF_RANGE at
 
-unfoldable pub bounds_at : List ℕ → Data → Reading Bounds
-bounds_at at d = do
+-- bounds, each of which is read by f
+unfoldable pub bounds_at : (List ℕ → Data → Reading ℤ) → List ℕ → Data → Reading Bounds
+bounds_at f at d = do
   ms ← object_at WRONG_TYPE at d
   known UNKNOWN_MEMBER (codes "max" ∷ codes "min" ∷ []) at ms
-  most ← optional signed_at (codes "max") at ms
-  least ← optional signed_at (codes "min") at ms
+  most ← optional f (codes "max") at ms
+  least ← optional f (codes "min") at ms
   ordered_bounds at least most
 
 abbrev pub unbounded : Bounds
@@ -45,8 +47,8 @@ histogram_members =
 -- `extended_bounds`, `hard_bounds`, `interval` and `keyed`
 unfoldable pub histogram_ranges_in : List ℕ → Members → Reading (Bounds × Bounds × Option ℕ × Bool)
 histogram_ranges_in at ms = do
-  extended ← optional bounds_at (codes "extended_bounds") at ms
-  hard ← optional bounds_at (codes "hard_bounds") at ms
+  extended ← optional (bounds_at signed_at) (codes "extended_bounds") at ms
+  hard ← optional (bounds_at signed_at) (codes "hard_bounds") at ms
   interval ← optional (whole_at 1 9223372036854775807) (codes "interval") at ms
   keyed ← optional truth_at (codes "keyed") at ms
   Ok (unwrap_or extended unbounded, unwrap_or hard unbounded, interval, unwrap_or keyed false)
@@ -60,11 +62,13 @@ histogram_counts_in kind at ms = do
   order ← optional orders_at (codes "order") at ms
   Ok (unwrap_or least 0, missing, unwrap_or offset 0, unwrap_or order (by_default (codes "_key") false ∷ []))
 
+abbrev pub bounds_rule : List ℕ → Bounds → Bounds → Reading ⊤
+bounds_rule at extended hard = if lies_within extended hard then Ok tt else refuse OUT_OF_RANGE (at ++ member_step (codes "extended_bounds"))
+
 -- the rules between members
 unfoldable pub histogram_rules : List ℕ → ℕ → ℕ → Bounds → Bounds → Reading ⊤
 histogram_rules at interval offset extended hard =
-    if nat_lt offset interval then (if lies_within extended hard then Ok tt else refuse OUT_OF_RANGE (at ++ member_step (codes "extended_bounds")))
-    else refuse OUT_OF_RANGE (at ++ member_step (codes "offset"))
+    if nat_lt offset interval then bounds_rule at extended hard else refuse OUT_OF_RANGE (at ++ member_step (codes "offset"))
 
 -- the members beside `field`
 unfoldable pub histogram_in : ℕ × Field → List ℕ → Members → Reading (Kind × List NamedOrder)
@@ -76,8 +80,7 @@ histogram_in (place, field) at ms = do
   Ok (
     histogram_kind (record {
       field = place;
-      interval = interval;
-      offset = offset;
+      spacing = Numbers interval offset;
       min_doc_count = least;
       extended = extended;
       hard = hard;

@@ -22,6 +22,7 @@ pub mod Query
 pub mod Orders
 pub mod Terms
 pub mod Histogram
+pub mod DateHistogram
 pub mod Filters
 pub mod Composite
 pub mod After

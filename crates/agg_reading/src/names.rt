@@ -19,6 +19,7 @@ pub enum QueryName {
 pub enum KindName {
     Avg,
     Composite,
+    DateHistogram,
     Filter,
     Filters,
     Global,

@@ -71,17 +71,42 @@ pub fn kind_member<'v>(
 fn is_metric(kind: KindName) -> bool
     ensures { result ≡ is_metric kind }
 {
-    matches!(
-        kind,
-        KindName::Sum | KindName::Min | KindName::Max | KindName::Avg | KindName::ValueCount
-    )
+    match kind {
+        KindName::Sum | KindName::Min | KindName::Max | KindName::Avg | KindName::ValueCount =>
+            true,
+        KindName::Composite
+        | KindName::DateHistogram
+        | KindName::Filter
+        | KindName::Filters
+        | KindName::Global
+        | KindName::Histogram
+        | KindName::Missing
+        | KindName::Nested
+        | KindName::ReverseNested
+        | KindName::Terms => false,
+    }
 }
 
 /// Whether a kind stands only at the top of a search.
 fn is_top_kind(kind: KindName) -> bool
     ensures { result ≡ is_top_kind kind }
 {
-    matches!(kind, KindName::Global | KindName::Composite)
+    match kind {
+        KindName::Global | KindName::Composite => true,
+        KindName::Avg
+        | KindName::DateHistogram
+        | KindName::Filter
+        | KindName::Filters
+        | KindName::Histogram
+        | KindName::Max
+        | KindName::Min
+        | KindName::Missing
+        | KindName::Nested
+        | KindName::ReverseNested
+        | KindName::Sum
+        | KindName::Terms
+        | KindName::ValueCount => false,
+    }
 }
 
 /// Whether there are no children.

@@ -8,3 +8,4 @@ pub mod PutLaws
 pub mod SixDigits
 pub mod LastItem
 pub mod Sizes
+pub mod InstantLaws

@@ -8,10 +8,10 @@ ghost use Rattle.agg_spec.specs.AnswerTree as tree;
 ghost use Rattle.agg_spec.specs.Average.{average};
 ghost use Rattle.agg_spec.specs.Json.{with_members, object_of, array_of, count, whole_number};
 ghost use Rattle.agg_spec.specs.RangeCheck.{checker, check_each, check_bucket, is_in_range, key_in_range};
-ghost use Rattle.agg_response.specs.Buckets.{bucket_tree, own_members};
+ghost use Rattle.agg_response.specs.Buckets.{bucket_tree, histogram_buckets, own_members};
 
 use crate::buckets::with_bucket;
-use crate::keys::{composite_value, key_number};
+use crate::keys::{composite_value, key_name};
 use crate::numbers::{average_value, integer_value, optional_value, wide_value};
 use crate::values::{Array, Json, Object, count_value};
 use agg_model::{
@@ -181,24 +181,25 @@ fn bucket_list(
     Ok(values.into_json())
 }
 
-/// Buckets under the texts of their keys.
+/// Buckets under the texts of their keys, which are instants where there is a zone.
 #[cycle(answers)]
 fn keyed_buckets(
     alloc: Global,
     mapping: &Mapping,
+    zone: Option<i64>,
     buckets: &List<BucketAnswer>,
     kind: &Kind,
     children: &List<Agg>,
 ) -> Result<Json, AllocError>
     requires { flat_map (check_bucket (map checker children.now)) buckets.now ≡ [] }
     ensures { IfOk result (λ j. view j.value ≡ object_of (map (λ b. (
-      tree.key_number (out-BucketAnswer b).key,
+      tree.key_name zone (out-BucketAnswer b).key,
       bucket_tree mapping.now kind.now (map (tree.printer mapping.now) children.now) b,
     )) buckets.now)) }
 {
     let mut object = Object::new(alloc);
     for bucket in buckets.as_slice() {
-        let name = key_number(alloc, &bucket.key)?;
+        let name = key_name(alloc, zone, &bucket.key)?;
         object = object.with(
             alloc,
             name.as_str(),
@@ -206,6 +207,31 @@ fn keyed_buckets(
         )?;
     }
     Ok(object.into_json())
+}
+
+/// The answer to a histogram, whose keys are instants where there is a zone.
+#[cycle(answers)]
+fn histogram_value(
+    alloc: Global,
+    mapping: &Mapping,
+    zone: Option<i64>,
+    keyed: bool,
+    buckets: &List<BucketAnswer>,
+    kind: &Kind,
+    children: &List<Agg>,
+) -> Result<Json, AllocError>
+    requires { flat_map (check_bucket (map checker children.now)) buckets.now ≡ [] }
+    ensures { IfOk result (λ j. view j.value ≡ object_of ((
+      codes "buckets",
+      histogram_buckets mapping.now kind.now (map (tree.printer mapping.now) children.now) zone keyed buckets.now,
+    ) ∷ [])) }
+{
+    if keyed {
+        let named = keyed_buckets(alloc, mapping, zone, buckets, kind, children)?;
+        return only(alloc, "buckets", named);
+    }
+    let listed = bucket_list(alloc, mapping, buckets, kind, children)?;
+    only(alloc, "buckets", listed)
 }
 
 /// Buckets under the names of their filters, the other bucket last.
@@ -276,14 +302,24 @@ fn answer_value(
             let buckets = bucket_list(alloc, mapping, &node.buckets, &agg.kind, &agg.children)?;
             terms_object(alloc, node, buckets)
         }
-        Kind::Histogram { keyed, .. } => {
-            if *keyed {
-                let named = keyed_buckets(alloc, mapping, &node.buckets, &agg.kind, &agg.children)?;
-                return only(alloc, "buckets", named);
-            }
-            let listed = bucket_list(alloc, mapping, &node.buckets, &agg.kind, &agg.children)?;
-            only(alloc, "buckets", listed)
-        }
+        Kind::Histogram { keyed, .. } => histogram_value(
+            alloc,
+            mapping,
+            None,
+            *keyed,
+            &node.buckets,
+            &agg.kind,
+            &agg.children,
+        ),
+        Kind::DateHistogram { zone, keyed, .. } => histogram_value(
+            alloc,
+            mapping,
+            Some(*zone),
+            *keyed,
+            &node.buckets,
+            &agg.kind,
+            &agg.children,
+        ),
         Kind::Filters { names, other, .. } => {
             let Some(names) = names else {
                 let anonymous = bucket_list(

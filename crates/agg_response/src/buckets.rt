@@ -8,7 +8,7 @@ ghost use Rattle.agg_spec.specs.Json.{with_members, count};
 ghost use Rattle.agg_spec.specs.RangeCheck.{key_in_range};
 ghost use Rattle.agg_response.specs.Buckets as tree;
 
-use crate::keys::{composite_value, is_dated, with_term_key};
+use crate::keys::{composite_value, with_term_key, zone_of_terms};
 use crate::numbers::integer_value;
 use crate::values::Object;
 use agg_model::{BucketAnswer, Kind, Mapping};
@@ -50,15 +50,28 @@ fn with_own(
             show_error,
             ..
         } => {
-            let keyed = with_term_key(alloc, object, is_dated(mapping, *field), &bucket.key)?;
+            let keyed = with_term_key(alloc, object, zone_of_terms(mapping, *field), &bucket.key)?;
             with_error(alloc, keyed, *show_error, bucket.error)
         }
-        Kind::Histogram { .. } => with_term_key(alloc, object, false, &bucket.key),
+        Kind::Histogram { .. } => with_term_key(alloc, object, None, &bucket.key),
+        Kind::DateHistogram { zone, .. } => {
+            with_term_key(alloc, object, Some(*zone), &bucket.key)
+        }
         Kind::Composite { sources, .. } => {
             let key = composite_value(alloc, sources, &bucket.key)?;
             object.with(alloc, "key", key)
         }
-        _ => Ok(object),
+        Kind::Filters { .. }
+        | Kind::Filter { .. }
+        | Kind::Missing { .. }
+        | Kind::Global
+        | Kind::Nested { .. }
+        | Kind::ReverseNested { .. }
+        | Kind::Sum { .. }
+        | Kind::Min { .. }
+        | Kind::Max { .. }
+        | Kind::Avg { .. }
+        | Kind::ValueCount { .. } => Ok(object),
     }
 }
 

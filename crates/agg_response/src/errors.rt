@@ -5,7 +5,9 @@ ghost use Rattle.serde_json.specs.View.{view, members_view};
 ghost use Rattle.serde_json.specs.Written.{compact_text};
 ghost use Rattle.agg_spec.specs.Json.{array_of, object_of, count, with_members};
 ghost use Rattle.agg_spec.specs.EndLines as definition;
-ghost use Rattle.agg_spec.specs.ErrorLines.{breaker_name as name_of_breaker, durability as durability_of, breaker_reason, breaker_members as members_of_breaker, failure_value, failures_member, exception_line, refusal_members as members_of_refusal, refusal_line};
+ghost use Rattle.agg_spec.specs.ErrorLines.{breaker_name as name_of_breaker, durability as durability_of, breaker_reason};
+ghost use Rattle.agg_spec.specs.ErrorLines.{breaker_members as members_of_breaker, failure_value, failures_member, exception_line};
+ghost use Rattle.agg_spec.specs.ErrorLines.{refusal_members as members_of_refusal, refusal_line};
 
 use crate::values::{Array, Json, Object};
 use agg_model::script_refusal::{

@@ -6,11 +6,10 @@ ghost use Rattle.agg_spec.specs.AnswerTree as tree;
 ghost use Rattle.agg_spec.specs.Json.{with_members};
 ghost use Rattle.agg_spec.specs.RangeCheck.{is_in_range, key_in_range};
 
+use crate::instants::instant_text;
 use crate::numbers::{null_value, wide_value};
 use crate::values::{Json, Object, flag_value, text_value};
 use agg_model::{CompositeSource, FieldKind, Key, List, Mapping};
-use date_spec::{GREATEST_INSTANT, LEAST_INSTANT};
-use date_text::print;
 use std::alloc::{AllocError, Global};
 
 /// The text of a truth value.
@@ -20,61 +19,56 @@ fn flag_text(flag: bool) -> &'static str
     if flag { "true" } else { "false" }
 }
 
-/// Whether a field of the mapping is one of dates.
-pub(crate) fn is_dated(mapping: &Mapping, field: u32) -> bool
-    ensures { result ≡ tree.is_dated mapping.now field }
+/// The zone in which the terms of a field are printed, where it is one of dates.
+pub(crate) fn zone_of_terms(mapping: &Mapping, field: u32) -> Option<i64>
+    ensures { result ≡ tree.zone_of_terms mapping.now field }
 {
-    match mapping.fields.get(field as usize) {
-        Some(found) => match found.kind {
-            FieldKind::Date => true,
-            FieldKind::Long
-            | FieldKind::Integer
-            | FieldKind::Short
-            | FieldKind::Byte
-            | FieldKind::Keyword
-            | FieldKind::Boolean => false,
-        },
-        None => false,
+    match mapping.fields.get(field as usize)?.kind {
+        FieldKind::Date => Some(0),
+        FieldKind::Long
+        | FieldKind::Integer
+        | FieldKind::Short
+        | FieldKind::Byte
+        | FieldKind::Keyword
+        | FieldKind::Boolean => None,
     }
 }
 
-/// An instant as it is printed; beyond the range of dates its number.
-fn instant_text(alloc: Global, n: i128) -> Result<String, AllocError>
-    ensures { IfOk result (λ s. string_bytes s ≡ tree.instant_text n) }
-{
-    if i128::from(LEAST_INSTANT) <= n && n <= i128::from(GREATEST_INSTANT) {
-        print(alloc, n as i64, "Z")
-    } else {
-        format!(in alloc; "{n}")
-    }
-}
-
-/// The object with a number as its key, and where that is a date with its text.
-fn with_number(alloc: Global, object: Object, dated: bool, n: i128) -> Result<Object, AllocError>
+/// The object with a number as its key, and where that is an instant with its text in a zone.
+fn with_number(
+    alloc: Global,
+    object: Object,
+    zone: Option<i64>,
+    n: i128,
+) -> Result<Object, AllocError>
     requires { IsTrue (is_in_range n) }
     ensures { IfOk result (λ o. members_view o.members.entries
-        ≡ with_members (tree.number_members dated n) (members_view object.members.entries)) }
+        ≡ with_members (tree.number_members zone n) (members_view object.members.entries)) }
 {
     let keyed = object.with(alloc, "key", wide_value(n))?;
-    if dated {
-        return keyed.with_text(alloc, "key_as_string", instant_text(alloc, n)?.as_str());
+    match zone {
+        Some(zone) => {
+            let text = instant_text(alloc, zone, n)?;
+            keyed.with_text(alloc, "key_as_string", text.as_str())
+        }
+        None => Ok(keyed),
     }
-    Ok(keyed)
 }
 
-/// The object with the key of a bucket, whose whole numbers are dates or not; a date and a truth value have a number and a text.
+/// The object with the key of a bucket, whose whole numbers are instants where there is a zone. An instant and a truth value have
+/// a number and a text.
 pub(crate) fn with_term_key(
     alloc: Global,
     object: Object,
-    dated: bool,
+    zone: Option<i64>,
     key: &Key,
 ) -> Result<Object, AllocError>
     requires { IsTrue (key_in_range key.now) }
     ensures { IfOk result (λ o. members_view o.members.entries
-        ≡ with_members (tree.term_members dated key.now) (members_view object.members.entries)) }
+        ≡ with_members (tree.term_members zone key.now) (members_view object.members.entries)) }
 {
     match key {
-        Key::Whole(n) => with_number(alloc, object, dated, *n),
+        Key::Whole(n) => with_number(alloc, object, zone, *n),
         Key::Word(word) => object.with_text(alloc, "key", word.as_str()),
         Key::Flag(flag) => object
             .with_count(alloc, "key", u64::from(*flag))?
@@ -83,13 +77,25 @@ pub(crate) fn with_term_key(
     }
 }
 
-/// The text of a whole key; empty for any other.
-pub(crate) fn key_number(alloc: Global, key: &Key) -> Result<String, AllocError>
-    ensures { IfOk result (λ s. string_bytes s ≡ tree.key_number key.now) }
+/// A number as a name, or where it is an instant its text in a zone.
+fn number_name(alloc: Global, zone: Option<i64>, n: i128) -> Result<String, AllocError>
+    ensures { IfOk result (λ s. string_bytes s ≡ tree.number_name zone n) }
+{
+    match zone {
+        Some(zone) => instant_text(alloc, zone, n),
+        None => format!(in alloc; "{n}"),
+    }
+}
+
+/// The name of a bucket with a whole key; empty for any other.
+pub(crate) fn key_name(alloc: Global, zone: Option<i64>, key: &Key) -> Result<String, AllocError>
+    ensures { IfOk result (λ s. string_bytes s ≡ tree.key_name zone key.now) }
 {
     match key {
-        Key::Whole(n) => format!(in alloc; "{n}"),
-        _ => Ok(String::new(alloc)),
+        Key::Whole(n) => number_name(alloc, zone, *n),
+        Key::Null | Key::Flag(_) | Key::Word(_) | Key::Fixed(_) | Key::Many(_) => {
+            Ok(String::new(alloc))
+        }
     }
 }
 
@@ -139,6 +145,8 @@ pub(crate) fn composite_value(
     let object = Object::new(alloc);
     match key {
         Key::Many(keys) => Ok(with_parts(alloc, object, sources, keys)?.into_json()),
-        _ => Ok(object.into_json()),
+        Key::Null | Key::Whole(_) | Key::Flag(_) | Key::Word(_) | Key::Fixed(_) => {
+            Ok(object.into_json())
+        }
     }
 }

@@ -7,6 +7,7 @@ mod answers;
 mod buckets;
 mod bulk;
 mod errors;
+mod instants;
 mod keys;
 mod numbers;
 mod search_line;

@@ -47,7 +47,20 @@ fn go_on(kind: &mut Kind, key: Key) -> bool
             *after = Some(key);
             true
         }
-        _ => false,
+        Kind::Terms { .. }
+        | Kind::Histogram { .. }
+        | Kind::DateHistogram { .. }
+        | Kind::Filters { .. }
+        | Kind::Filter { .. }
+        | Kind::Missing { .. }
+        | Kind::Global
+        | Kind::Nested { .. }
+        | Kind::ReverseNested { .. }
+        | Kind::Sum { .. }
+        | Kind::Min { .. }
+        | Kind::Max { .. }
+        | Kind::Avg { .. }
+        | Kind::ValueCount { .. } => false,
     }
 }
 

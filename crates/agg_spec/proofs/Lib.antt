@@ -2,6 +2,7 @@ mod CompositeExamples
 pub mod Computing
 mod CountExamples
 mod DateExamples
+mod DateHistogramExamples
 mod FilterExamples
 mod HistogramExamples
 mod LineExamples

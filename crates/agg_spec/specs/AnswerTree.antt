@@ -1,11 +1,9 @@
 -- The JSON tree of an answer (the response bodies of 'Aggregations').
-use Rattle.std.specs.Prelude.{ℕ, ℤ, Bool, true, false, if◌then◌else◌, List, [], ◌∷◌, ◌++◌, map, flat_map, zip, Option, Some, None, option_to_list, codes}
+use Rattle.std.specs.Prelude.{ℕ, ℤ, pos, Bool, true, false, if◌then◌else◌, List, [], ◌∷◌, ◌++◌, map, flat_map, zip, Option, Some, None, option_to_list, codes}
 use Rattle.std.specs.List.{last_or}
 use Rattle.std.specs.Option.{option_map_or}
 use Rattle.std.specs.Fmt.{signed_decimal}
 use Rattle.serde_json.specs.Data.{Data, null, boolean, string}
-use Rattle.date_spec.specs.Instants.{is_in_range}
-use Rattle.date_spec.specs.DateTexts.{printed}
 use Rattle.agg_model.specs.declared.mapping.Mapping.{Mapping}
 use Rattle.agg_model.specs.FieldKinds.{is_date_kind}
 use Rattle.agg_evaluation.specs.QueryFits.{field_is}
@@ -16,6 +14,8 @@ use Rattle.agg_model.specs.declared.answer.BucketAnswer.{BucketAnswer, out-Bucke
 use Rattle.agg_model.specs.declared.answer.NodeAnswer.{NodeAnswer, out-NodeAnswer}
 use Rattle.agg_model.specs.declared.answer.BucketAnswer.TheOpen.{NodeAnswer-F}
 use Rattle.agg_model.specs.declared.aggregation.Kind.{Kind}
+use Rattle.agg_model.specs.declared.aggregation.Spacing.{Spacing}
+use Rattle.agg_model.specs.declared.aggregation.Spacing.TheVariants.{Numbers, Dates}
 use Rattle.agg_model.specs.declared.partial.Metric.{Metric}
 use Rattle.agg_model.specs.Options.{Options, Measure, options_of}
 use Rattle.agg_model.specs.declared.aggregation.CompositeSource.{CompositeSource}
@@ -23,6 +23,7 @@ use Rattle.agg_model.specs.declared.aggregation.Agg.{Agg}
 use Rattle.agg_evaluation.specs.Folds.{fold_agg}
 use Rattle.agg_spec.specs.Json.{Member, object_of, array_of, count, whole_number}
 use Rattle.agg_spec.specs.Average.{average}
+use Rattle.agg_spec.specs.InstantTexts.{instant_text}
 
 -- the tree of an answer to one aggregation
 abbrev pub Printer : Type 0
@@ -37,17 +38,13 @@ named_answers (p ∷ ps) (n ∷ ns) = ((out-NodeAnswer n).name, p n) ∷ named_a
 abbrev pub flag_text : Bool → List ℕ
 flag_text b = if b then codes "true" else codes "false"
 
--- an instant as it is printed ('key_as_string'); beyond the range of dates its number
-abbrev pub instant_text : ℤ → List ℕ
-instant_text n = if is_in_range n then printed n else signed_decimal n
+-- a number; or an instant, which has a text too, in some zone
+abbrev pub number_members : Option ℤ → ℤ → List Member
+number_members None n = (codes "key", whole_number n) ∷ []
+number_members (Some zone) n = (codes "key", whole_number n) ∷ (codes "key_as_string", string (instant_text zone n)) ∷ []
 
--- a date has a number and a text
-abbrev pub number_members : Bool → ℤ → List Member
-number_members false n = (codes "key", whole_number n) ∷ []
-number_members true n = (codes "key", whole_number n) ∷ (codes "key_as_string", string (instant_text n)) ∷ []
-
--- the key of a bucket, whose whole numbers are dates or not; a truth value has a number and a text
-abbrev pub term_members : Bool → Key → List Member
+-- the key of a bucket, whose whole numbers are instants where they are dated, in some zone; a truth value has a number and a text
+abbrev pub term_members : Option ℤ → Key → List Member
 term_members dated key.Null = (codes "key", null) ∷ []
 term_members dated (key.Whole n) = number_members dated n
 term_members dated (key.Flag b) = (codes "key", count (if b then 1 else 0)) ∷ (codes "key_as_string", string (flag_text b)) ∷ []
@@ -59,19 +56,33 @@ term_members dated (key.Many' n parts) = (codes "key", null) ∷ []
 abbrev pub is_dated : Mapping → ℕ → Bool
 is_dated m field = field_is m is_date_kind field
 
+-- the zone in which terms are printed that are dates
+abbrev pub zone_of_terms : Mapping → ℕ → Option ℤ
+zone_of_terms m field = if is_dated m field then Some (pos 0) else None
+
+-- the zone in which the keys of a histogram are printed that are dates
+abbrev pub zone_of_spacing : Spacing → Option ℤ
+zone_of_spacing (Numbers interval offset) = None
+zone_of_spacing (Dates period zone) = Some zone
+
 -- the error of a bucket's count, where it is shown
 abbrev pub error_members : Bool → Option ℤ → List Member
 error_members true (Some error) = (codes "doc_count_error_upper_bound", whole_number error) ∷ []
 error_members _ _ = []
 
+-- a number, or an instant in some zone, as a name
+abbrev pub number_name : Option ℤ → ℤ → List ℕ
+number_name None n = signed_decimal n
+number_name (Some zone) n = instant_text zone n
+
 -- the name of a keyed bucket of a histogram
-abbrev pub key_number : Key → List ℕ
-key_number key.Null = []
-key_number (key.Whole n) = signed_decimal n
-key_number (key.Flag b) = []
-key_number (key.Word w) = []
-key_number (key.Fixed n) = []
-key_number (key.Many' n parts) = []
+abbrev pub key_name : Option ℤ → Key → List ℕ
+key_name dated key.Null = []
+key_name dated (key.Whole n) = number_name dated n
+key_name dated (key.Flag b) = []
+key_name dated (key.Word w) = []
+key_name dated (key.Fixed n) = []
+key_name dated (key.Many' n parts) = []
 
 -- one part of a composite key
 abbrev pub part_value : Key → Data
@@ -98,12 +109,12 @@ composite_value sources k = object_of (named_parts sources (out-Key k))
 abbrev pub bucket_members : List Printer → List Member → BucketAnswer → List Member
 bucket_members children own b = (codes "doc_count", count (out-BucketAnswer b).count) ∷ (own ++ named_answers children (out-BucketAnswer b).children)
 
-abbrev pub term_bucket : List Printer → Bool → Bool → BucketAnswer → Data
-term_bucket children dated show_error b =
-    object_of (bucket_members children (term_members dated (out-BucketAnswer b).key ++ error_members show_error (out-BucketAnswer b).error) b)
+abbrev pub term_bucket : List Printer → Option ℤ → Bool → BucketAnswer → Data
+term_bucket children zone show_error b =
+    object_of (bucket_members children (term_members zone (out-BucketAnswer b).key ++ error_members show_error (out-BucketAnswer b).error) b)
 
-abbrev pub number_bucket : List Printer → BucketAnswer → Data
-number_bucket children b = object_of (bucket_members children (term_members false (out-BucketAnswer b).key) b)
+abbrev pub interval_bucket : List Printer → Option ℤ → BucketAnswer → Data
+interval_bucket children zone b = object_of (bucket_members children (term_members zone (out-BucketAnswer b).key) b)
 
 abbrev pub plain_bucket : List Printer → BucketAnswer → Data
 plain_bucket children b = object_of (bucket_members children [] b)
@@ -120,9 +131,9 @@ abbrev pub filter_buckets : List Printer → Option (List (List ℕ)) → Option
 filter_buckets children (Some names) other buckets = object_of (map (λ b. (b.0, plain_bucket children b.1)) (zip (names ++ option_to_list other) buckets))
 filter_buckets children None other buckets = array_of (map (plain_bucket children) buckets)
 
-abbrev pub histogram_buckets : List Printer → Bool → List BucketAnswer → Data
-histogram_buckets children true buckets = object_of (map (λ b. (key_number (out-BucketAnswer b).key, number_bucket children b)) buckets)
-histogram_buckets children false buckets = array_of (map (number_bucket children) buckets)
+abbrev pub histogram_buckets : List Printer → Option ℤ → Bool → List BucketAnswer → Data
+histogram_buckets children zone true buckets = object_of (map (λ b. (key_name zone (out-BucketAnswer b).key, interval_bucket children zone b)) buckets)
+histogram_buckets children zone false buckets = array_of (map (interval_bucket children zone) buckets)
 
 abbrev pub value_of : Option ℤ → Data
 value_of = λ n. option_map_or whole_number n null
@@ -143,10 +154,10 @@ single_tree children buckets = object_of (flat_map (bucket_members children []) 
 abbrev pub tree_at : Mapping → List Printer → Kind → NodeAnswer-F BucketAnswer NodeAnswer → Data
 tree_at m children k n = elim (options_of k) [
   | Options.Terms t ↦ object_of (
-      (codes "buckets", array_of (map (term_bucket children (is_dated m t.field) t.show_error) n.buckets))
+      (codes "buckets", array_of (map (term_bucket children (zone_of_terms m t.field) t.show_error) n.buckets))
       ∷ (codes "doc_count_error_upper_bound", whole_number n.error)
       ∷ (codes "sum_other_doc_count", count n.other) ∷ [])
-  | Options.Histogram h ↦ object_of ((codes "buckets", histogram_buckets children h.keyed n.buckets) ∷ [])
+  | Options.Histogram h ↦ object_of ((codes "buckets", histogram_buckets children (zone_of_spacing h.spacing) h.keyed n.buckets) ∷ [])
   | Options.Filters names filters other ↦ object_of ((codes "buckets", filter_buckets children names other n.buckets) ∷ [])
   | Options.Filter query ↦ single_tree children n.buckets
   | Options.Missing field ↦ single_tree children n.buckets

@@ -1,5 +1,5 @@
 -- The final answer: what the whole of the shard answers comes to ('Terms aggregation', order, size and errors of counts;
--- 'Histogram aggregation'; 'Composite aggregation').
+-- 'Histogram aggregation'; 'Date histogram aggregation'; 'Composite aggregation').
 use Rattle.std.specs.Prelude.{ℕ, ℤ, pos, ◌+◌, List, [], ◌∷◌, map, take, drop, sum_by, Option, Some, None}
 use Rattle.agg_model.specs.declared.key.Key.{Key}
 use Rattle.agg_model.specs.declared.partial.Metric.{Metric}
@@ -72,7 +72,7 @@ finish_at name children k p = elim (profile k).form [
   | Form.terms t ↦ terms_answer name children t.size t.min_doc_count t.order p
   | Form.histogram h ↦
       buckets_answer name (map (finish_bucket children None) (sorted (bucket_cmp (map (λ c. c.kind) children) h.order)
-      (filled (empty_bucket children) h.interval h.offset h.min_doc_count h.extended h.hard p.buckets)))
+      (filled (empty_bucket children) h.spacing h.min_doc_count h.extended h.hard p.buckets)))
   | Form.pages sources size after ↦
       buckets_answer name (map (finish_bucket children None) (take size (sorted (λ a b. composite_cmp sources (bucket_key a) (bucket_key b)) p.buckets)))
   | Form.fixed ks ↦ buckets_answer name (map (finish_bucket children None) p.buckets)

@@ -1,12 +1,13 @@
--- The number of buckets that an answer will have, counted on the whole: gaps of a histogram by a quotient, so that nothing is
--- built for an answer that has too many ('Search settings', `search.max_buckets`).
-use Rattle.std.specs.Prelude.{ℕ, ℤ, pos, ◌+ℤ◌, ◌-ℤ◌, ◌+◌, ◌-◌, ◌*◌, ◌==◌, int_le, min, if◌then◌else◌, List, [], ◌∷◌, map, filter_map, length, sum, take, Option, Some, unsigned_abs}
+-- The number of buckets that an answer will have, counted on the whole: gaps of a histogram by the numbers of its intervals, so
+-- that nothing is built for an answer that has too many ('Search settings', `search.max_buckets`).
+use Rattle.std.specs.Prelude.{ℕ, ℤ, ◌-ℤ◌, ◌+◌, ◌-◌, ◌*◌, ◌==◌, int_le, min, if◌then◌else◌, List, [], ◌∷◌, map, filter_map, length, sum, take, Option, Some, unsigned_abs}
 use Rattle.std.specs.Option.{option_map_or}
-use Rattle.std.specs.Int.{int_min, int_max, int_div_euclid}
+use Rattle.std.specs.Int.{int_min, int_max}
 use Rattle.agg_model.specs.declared.partial.Bucket.{Bucket}
 use Rattle.agg_model.specs.declared.partial.Node.{Node}
 use Rattle.agg_model.specs.declared.partial.Partial.{Partial}
 use Rattle.agg_model.specs.declared.aggregation.Bounds.{Bounds}
+use Rattle.agg_model.specs.declared.aggregation.Spacing.{Spacing}
 use Rattle.agg_model.specs.declared.aggregation.Kind.{Kind}
 use Rattle.agg_evaluation.specs.Profile.{Form, profile}
 use Rattle.agg_model.specs.declared.aggregation.Agg.{Agg}
@@ -14,32 +15,34 @@ use Rattle.agg_model.specs.declared.aggregation.Agg.TheOpen.{Agg-F}
 use Rattle.agg_model.specs.declared.aggregation.Search.{Search}
 use Rattle.agg_evaluation.specs.Folds.{fold_agg}
 use Rattle.list_laws.specs.Sorting.{sorted}
-use Rattle.agg_evaluation.specs.Keys.{interval_start}
+use Rattle.agg_evaluation.specs.Spacings.{number_at, number_from}
 use Rattle.agg_evaluation.specs.Orders.{bucket_cmp, bucket_key, composite_cmp}
 use Rattle.agg_evaluation.specs.Whole.{Parts, parts, whole_by, shape_of}
 use Rattle.agg_spec.specs.BucketCount.{member_count, greatest_count}
 use Rattle.agg_spec.specs.Filling.{number_of_key, least_key, greatest_key, has_buckets, frequent}
 
--- how many steps of the interval lead from the first number to the second, both counted
-abbrev pub step_count : ℕ → ℤ → ℤ → ℕ
-step_count interval least greatest =
-    if int_le least greatest then unsigned_abs (int_div_euclid (greatest -ℤ least) (pos interval)) + 1 else 0
+-- how many intervals have a number from the first to the last
+abbrev pub interval_count : ℤ → ℤ → ℕ
+interval_count first last = if int_le first last then unsigned_abs (last -ℤ first) + 1 else 0
 
--- the first key that is not below the bound
-abbrev pub key_from : ℕ → ℕ → ℤ → ℤ
-key_from interval offset bound = interval_start interval offset (bound +ℤ pos (interval - 1))
+-- the number of the first interval, from that of the least key on, that begins within `hard_bounds`
+abbrev pub first_within : Spacing → Bounds → ℤ → ℤ
+first_within spacing hard least =
+    option_map_or (λ bound. int_max (number_at spacing least) (number_from spacing bound)) hard.min (number_at spacing least)
 
--- the keys from the least to the greatest that lie within `hard_bounds`
-abbrev pub keys_between : ℕ → ℕ → Bounds → Option ℤ → Option ℤ → ℕ
-keys_between interval offset hard (Some least) (Some greatest) =
-    step_count interval
-    (option_map_or (λ n. int_max least (key_from interval offset n)) hard.min least)
-    (option_map_or (λ n. int_min greatest (interval_start interval offset n)) hard.max greatest)
-keys_between interval offset hard _ _ = 0
+-- the number of the last one, up to that of the greatest key
+abbrev pub last_within : Spacing → Bounds → ℤ → ℤ
+last_within spacing hard greatest =
+    option_map_or (λ bound. int_min (number_at spacing greatest) (number_at spacing bound)) hard.max (number_at spacing greatest)
 
-abbrev pub filled_count : ℕ → ℕ → Bounds → Bounds → List ℤ → ℕ
-filled_count interval offset extended hard ns =
-    if has_buckets extended ns then keys_between interval offset hard (least_key interval offset extended ns) (greatest_key interval offset extended ns) else 0
+-- how many keys from the least to the greatest lie within `hard_bounds`
+abbrev pub keys_between : Spacing → Bounds → Option ℤ → Option ℤ → ℕ
+keys_between spacing hard (Some least) (Some greatest) = interval_count (first_within spacing hard least) (last_within spacing hard greatest)
+keys_between spacing hard _ _ = 0
+
+abbrev pub filled_count : Spacing → Bounds → Bounds → List ℤ → ℕ
+filled_count spacing extended hard ns =
+    if has_buckets extended ns then keys_between spacing hard (least_key spacing extended ns) (greatest_key spacing extended ns) else 0
 
 -- an aggregation's kind, its whole over shard answers, and the number of buckets of its answer
 pub record Plan : Type 0 where
@@ -65,7 +68,7 @@ plan_at children k p = elim (profile k).form [
   | Form.terms t ↦ with_children children (take t.size (sorted (bucket_cmp (map (λ c. c.kind) children) t.order) (frequent t.min_doc_count p.buckets)))
   | Form.histogram h ↦
       if h.min_doc_count == 0 then
-      (let filled = filled_count h.interval h.offset h.extended h.hard (filter_map (λ b. number_of_key (bucket_key b)) p.buckets) in
+      (let filled = filled_count h.spacing h.extended h.hard (filter_map (λ b. number_of_key (bucket_key b)) p.buckets) in
       with_children children p.buckets + (filled - length p.buckets) * (1 + below_empty children))
       else with_children children (frequent h.min_doc_count p.buckets)
   | Form.pages sources size after ↦ with_children children (take size (sorted (λ a b. composite_cmp sources (bucket_key a) (bucket_key b)) p.buckets))

@@ -8,6 +8,7 @@ pub mod Index
 pub mod Failures
 pub mod Json
 pub mod Average
+pub mod InstantTexts
 pub mod AnswerTree
 pub mod Response
 pub mod Outcome

@@ -55,6 +55,7 @@ same-composite : (key : Key) (k : Kind) → is_composite (kind_after key k) ≡ 
 same-composite key (kind.Composite sources size after) = refl
 same-composite key (kind.Terms a b c d n f g h i) = refl
 same-composite key (kind.Histogram a b c d n f g h i) = refl
+same-composite key (kind.DateHistogram a b c d n f g h i) = refl
 same-composite key (kind.Filters a b c) = refl
 same-composite key (kind.Filter a) = refl
 same-composite key (kind.Missing a) = refl
@@ -77,6 +78,7 @@ pub composite-size : (k : Kind) → is_composite k ≡ true → (size : ℕ) × 
 composite-size (kind.Composite sources size after) e = (size, refl)
 composite-size (kind.Terms a b c d n f g h i) e = absurd (let no : ⊥ = cc in no)
 composite-size (kind.Histogram a b c d n f g h i) e = absurd (let no : ⊥ = cc in no)
+composite-size (kind.DateHistogram a b c d n f g h i) e = absurd (let no : ⊥ = cc in no)
 composite-size (kind.Filters a b c) e = absurd (let no : ⊥ = cc in no)
 composite-size (kind.Filter a) e = absurd (let no : ⊥ = cc in no)
 composite-size (kind.Missing a) e = absurd (let no : ⊥ = cc in no)

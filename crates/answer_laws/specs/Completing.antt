@@ -34,7 +34,10 @@ ArePlain script = AllByRecursion (AllByRecursion (IsPlain script.index script.co
 -- an answer that tells of no refusal by a breaker, or a line that is no answer
 abbrev pub is_quiet_line : Line → Bool
 is_quiet_line (answer a) = is_quiet a.outcome a.failures
-is_quiet_line _ = true
+is_quiet_line (Line.bulk text) = true
+is_quiet_line (Line.settings changed) = true
+is_quiet_line (Line.error text) = true
+is_quiet_line (Line.statistics totals) = true
 
 -- no answer among these lines is a breaker exception, and none tells of a failed shard
 abbrev pub AreQuiet : List Line → Type 0

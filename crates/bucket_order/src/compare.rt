@@ -46,6 +46,7 @@ fn value_of(kind: &Kind, metric: &Metric) -> Option<i128>
         Kind::ValueCount { .. } => Some(i128::from(metric.count)),
         Kind::Terms { .. }
         | Kind::Histogram { .. }
+        | Kind::DateHistogram { .. }
         | Kind::Filters { .. }
         | Kind::Filter { .. }
         | Kind::Missing { .. }

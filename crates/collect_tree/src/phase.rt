@@ -20,13 +20,45 @@ pub(crate) enum Phase {
 pub(crate) fn is_global(kind: &Kind) -> bool
     ensures { result ≡ is_global_kind kind.now }
 {
-    matches!(kind, Kind::Global)
+    match kind {
+        Kind::Global => true,
+        Kind::Terms { .. }
+        | Kind::Histogram { .. }
+        | Kind::DateHistogram { .. }
+        | Kind::Filters { .. }
+        | Kind::Filter { .. }
+        | Kind::Missing { .. }
+        | Kind::Nested { .. }
+        | Kind::ReverseNested { .. }
+        | Kind::Composite { .. }
+        | Kind::Sum { .. }
+        | Kind::Min { .. }
+        | Kind::Max { .. }
+        | Kind::Avg { .. }
+        | Kind::ValueCount { .. } => false,
+    }
 }
 
 pub(crate) fn is_composite(kind: &Kind) -> bool
     ensures { result ≡ is_composite_kind kind.now }
 {
-    matches!(kind, Kind::Composite { .. })
+    match kind {
+        Kind::Composite { .. } => true,
+        Kind::Terms { .. }
+        | Kind::Histogram { .. }
+        | Kind::DateHistogram { .. }
+        | Kind::Filters { .. }
+        | Kind::Filter { .. }
+        | Kind::Missing { .. }
+        | Kind::Global
+        | Kind::Nested { .. }
+        | Kind::ReverseNested { .. }
+        | Kind::Sum { .. }
+        | Kind::Min { .. }
+        | Kind::Max { .. }
+        | Kind::Avg { .. }
+        | Kind::ValueCount { .. } => false,
+    }
 }
 
 /// Whether one of these aggregations is a global one.

@@ -1,6 +1,4 @@
-mod RowValues
 mod Rising
-mod Starts
 mod ValueParts
 mod Capped
 pub mod Steps

@@ -10,6 +10,7 @@ use Rattle.std.specs.declared.cmp.Ordering.{Ordering}
 use Rattle.std.specs.declared.cmp.Ordering.TheVariants.{Less, Equal, Greater}
 use Rattle.std.proofs.lemmas.Int.{ints, by_lt_z}
 use Rattle.std.proofs.lemmas.Bool.{false≢true, and_parts}
+use Rattle.agg_model.specs.declared.aggregation.Spacing.TheVariants.{Numbers}
 use Rattle.agg_model.specs.declared.key.Key.{Key}
 use Rattle.agg_model.specs.declared.key.Key.TheVariants as key
 use Rattle.agg_model.specs.declared.row.Scalar.{Scalar}
@@ -18,15 +19,16 @@ use Rattle.agg_model.specs.declared.aggregation.CompositeSource.{CompositeSource
 use Rattle.agg_model.specs.ValueKeys.{scalar_key}
 use Rattle.agg_evaluation.specs.DocumentFits.{follows, ascend, ascend_from}
 use Rattle.agg_evaluation.specs.KeyOrder.{key_cmp}
-use Rattle.agg_evaluation.specs.Keys.{distinct_keys, interval_key, interval_start, is_between, is_included, no_bounds, or_missing, or_null, source_keys, histogram_keys, term_keys, values_or}
+use Rattle.agg_evaluation.specs.Keys.{distinct_keys, interval_key, is_between, is_included, no_bounds, or_missing, or_null, source_keys, histogram_keys, term_keys, values_or}
 use Rattle.agg_evaluation.specs.Rows.{PlacedRow, values_of}
+use Rattle.agg_evaluation.specs.Spacings.{interval_start}
 use Rattle.agg_evaluation.proofs.Computing.{computing}
 use Rattle.list_laws.specs.Sorting.{insert_once}
 use Rattle.list_laws.proofs.Booleans.{holds}
 use Rattle.list_laws.proofs.Lists.{append-nil, flat_map-append}
 use Rattle.composite_agg.specs.Sources.{IsPositive, part_keys}
 use Rattle.composite_agg.proofs.Rising.{Rises, RisesFrom, repeated, another, last-of}
-use Rattle.composite_agg.proofs.Starts.{rising}
+use Rattle.histogram_agg.proofs.Starts.{rising}
 
 whole_cmp : (j k : ℤ) → key_cmp (key.Whole j) (key.Whole k) ≡ int_cmp j k
 unfolding computing
@@ -62,27 +64,27 @@ rise-values : (v : Scalar) (vs : List Scalar) → ascend_from v vs ≡ true → 
 rise-values v [] h = tt
 rise-values v (w ∷ vs) h = let parts = and_parts (follows v w) (ascend_from w vs) h in (follows-keys v w parts.0, rise-values w vs parts.1)
 
-no_words : (interval : ℕ) (w : List ℕ) (vs : List Scalar) → ascend_from (Word w) vs ≡ true → flat_map (interval_key interval 0) vs ≡ []
+no_words : (interval : ℕ) (w : List ℕ) (vs : List Scalar) → ascend_from (Word w) vs ≡ true → flat_map (interval_key (Numbers interval 0)) vs ≡ []
 no_words i w [] h = refl
 no_words i w (Whole n ∷ vs) h = absurd (false≢true h)
 no_words i w (Word x ∷ vs) h = no_words i x vs (and_parts (follows (Word w) (Word x)) (ascend_from (Word x) vs) h).1
 no_words i w (Flag b ∷ vs) h = absurd (false≢true h)
 
-no_flags : (interval : ℕ) (b : Bool) (vs : List Scalar) → ascend_from (Flag b) vs ≡ true → flat_map (interval_key interval 0) vs ≡ []
+no_flags : (interval : ℕ) (b : Bool) (vs : List Scalar) → ascend_from (Flag b) vs ≡ true → flat_map (interval_key (Numbers interval 0)) vs ≡ []
 no_flags i b [] h = refl
 no_flags i b (Whole n ∷ vs) h = absurd (false≢true h)
 no_flags i b (Word x ∷ vs) h = absurd (false≢true h)
 no_flags i b (Flag c ∷ vs) h = no_flags i c vs (and_parts (follows (Flag b) (Flag c)) (ascend_from (Flag c) vs) h).1
 
-rise-starts : (interval : ℕ) → 0 < interval → (n : ℤ) (vs : List Scalar) → ascend_from (Whole n) vs ≡ true → RisesFrom (key.Whole (interval_start interval 0 n)) (flat_map (interval_key interval 0) vs)
+rise-starts : (interval : ℕ) → 0 < interval → (n : ℤ) (vs : List Scalar) → ascend_from (Whole n) vs ≡ true → RisesFrom (key.Whole (interval_start (Numbers interval 0) n)) (flat_map (interval_key (Numbers interval 0)) vs)
 rise-starts i positive n [] h = tt
 rise-starts i positive n (Whole m ∷ vs) h =
     let parts = and_parts (is_le (int_cmp n m)) (ascend_from (Whole m) vs) h in
-    (subst (λ o. T (is_le o)) (sym (whole_cmp (interval_start i 0 n) (interval_start i 0 m))) (at_most-back _ _ (rising i 0 positive n m (at_most n m parts.0))), rise-starts i positive m vs parts.1)
+    (subst (λ o. T (is_le o)) (sym (whole_cmp (interval_start (Numbers i 0) n) (interval_start (Numbers i 0) m))) (at_most-back _ _ (rising i 0 positive n m (at_most n m parts.0))), rise-starts i positive m vs parts.1)
 rise-starts i positive n (Word w ∷ vs) h = absurd (false≢true h)
 rise-starts i positive n (Flag b ∷ vs) h = absurd (false≢true h)
 
-rise-by : (o : Option ℕ) → IfSome o (λ interval. 0 < interval) → (vs : List Scalar) → ascend vs ≡ true → Rises (flat_map (λ v. option_map_or (λ interval. interval_key interval 0 v) o (scalar_key v ∷ [])) vs)
+rise-by : (o : Option ℕ) → IfSome o (λ interval. 0 < interval) → (vs : List Scalar) → ascend vs ≡ true → Rises (flat_map (λ v. option_map_or (λ interval. interval_key (Numbers interval 0) v) o (scalar_key v ∷ [])) vs)
 rise-by o positive [] h = tt
 rise-by None positive (v ∷ vs) h = rise-values v vs h
 rise-by (Some i) positive (Whole n ∷ vs) h = rise-starts i positive n vs h
@@ -132,14 +134,14 @@ side_by_side (w ∷ x ∷ vs) zero u v h is next =
     ap (λ y. follows y v) (sym first) ∙ ap (follows w) (sym second) ∙ (and_parts (follows w x) (ascend_from x vs) h).0
 side_by_side (w ∷ vs) (suc n) u v h is next = from-at w vs n u v h is next
 
-none_or_one : (o : Option ℕ) (v : Scalar) → (option_map_or (λ interval. interval_key interval 0 v) o (scalar_key v ∷ []) ≡ []) ⊎ ((k : Key) × (option_map_or (λ interval. interval_key interval 0 v) o (scalar_key v ∷ []) ≡ k ∷ []))
+none_or_one : (o : Option ℕ) (v : Scalar) → (option_map_or (λ interval. interval_key (Numbers interval 0) v) o (scalar_key v ∷ []) ≡ []) ⊎ ((k : Key) × (option_map_or (λ interval. interval_key (Numbers interval 0) v) o (scalar_key v ∷ []) ≡ k ∷ []))
 none_or_one None v = inr (scalar_key v, refl)
-none_or_one (Some i) (Whole n) = inr (key.Whole (interval_start i 0 n), refl)
+none_or_one (Some i) (Whole n) = inr (key.Whole (interval_start (Numbers i 0) n), refl)
 none_or_one (Some i) (Word w) = inl refl
 none_or_one (Some i) (Flag b) = inl refl
 
 -- where a value gives no part, neither does the next
-none_after : (o : Option ℕ) (u v : Scalar) → follows u v ≡ true → option_map_or (λ interval. interval_key interval 0 u) o (scalar_key u ∷ []) ≡ [] → option_map_or (λ interval. interval_key interval 0 v) o (scalar_key v ∷ []) ≡ []
+none_after : (o : Option ℕ) (u v : Scalar) → follows u v ≡ true → option_map_or (λ interval. interval_key (Numbers interval 0) u) o (scalar_key u ∷ []) ≡ [] → option_map_or (λ interval. interval_key (Numbers interval 0) v) o (scalar_key v ∷ []) ≡ []
 none_after None u v h e = absurd (cc e)
 none_after (Some i) (Whole m) v h e = absurd (cc e)
 none_after (Some i) (Word w) (Whole n) h e = absurd (false≢true h)
@@ -270,9 +272,9 @@ between : (n : ℤ) → is_between no_bounds (key.Whole n) ≡ true
 unfolding computing
 between n = refl
 
-each_between : (interval : ℕ) (vs : List Scalar) → AllByRecursion (λ k. is_between no_bounds k ≡ true) (flat_map (interval_key interval 0) vs)
+each_between : (interval : ℕ) (vs : List Scalar) → AllByRecursion (λ k. is_between no_bounds k ≡ true) (flat_map (interval_key (Numbers interval 0)) vs)
 each_between i [] = tt
-each_between i (Whole n ∷ vs) = (between (interval_start i 0 n), each_between i vs)
+each_between i (Whole n ∷ vs) = (between (interval_start (Numbers i 0) n), each_between i vs)
 each_between i (Word w ∷ vs) = each_between i vs
 each_between i (Flag b ∷ vs) = each_between i vs
 
@@ -285,14 +287,14 @@ mapped [] = refl
 mapped (v ∷ vs) = ap (λ ks. scalar_key v ∷ ks) (mapped vs)
 
 by_source : (row : PlacedRow) (field : ℕ) (o : Option ℕ)
-    → option_map_or (λ interval. histogram_keys field interval 0 no_bounds None row) o (term_keys field None [] None row)
-    ≡ distinct_keys (flat_map (λ v. option_map_or (λ interval. interval_key interval 0 v) o (scalar_key v ∷ [])) (values_of field row))
+    → option_map_or (λ interval. histogram_keys field (Numbers interval 0) no_bounds None row) o (term_keys field None [] None row)
+    ≡ distinct_keys (flat_map (λ v. option_map_or (λ interval. interval_key (Numbers interval 0) v) o (scalar_key v ∷ [])) (values_of field row))
 by_source row field None =
     all_pass (is_included None []) (distinct_keys (map scalar_key (values_or field None row))) (each_included _)
     ∙ ap (λ vs. distinct_keys (map scalar_key vs)) (no_missing (values_of field row)) ∙ ap distinct_keys (mapped (values_of field row))
 by_source row field (Some i) =
-    all_pass (is_between no_bounds) (distinct_keys (flat_map (interval_key i 0) (values_or field None row))) (each_distinct _ (flat_map (interval_key i 0) (values_or field None row)) (each_between i (values_or field None row)))
-    ∙ ap (λ vs. distinct_keys (flat_map (interval_key i 0) vs)) (no_missing (values_of field row))
+    all_pass (is_between no_bounds) (distinct_keys (flat_map (interval_key (Numbers i 0)) (values_or field None row))) (each_distinct _ (flat_map (interval_key (Numbers i 0)) (values_or field None row)) (each_between i (values_or field None row)))
+    ∙ ap (λ vs. distinct_keys (flat_map (interval_key (Numbers i 0)) vs)) (no_missing (values_of field row))
 
 pub source-is : (row : PlacedRow) (s : CompositeSource) → source_keys row s ≡ or_null s.missing_bucket (distinct_keys (flat_map (part_keys s) (values_of s.field row)))
 source-is row s = ap (or_null s.missing_bucket) (by_source row s.field s.interval)
@@ -300,5 +302,5 @@ source-is row s = ap (or_null s.missing_bucket) (by_source row s.field s.interva
 -- one value gives one part where the source has no interval
 pub few-parts : (s : CompositeSource) (vs : List Scalar) → s.interval ≡ None → length vs < 2 → length vs ≡ length (distinct_keys (flat_map (part_keys s) vs))
 few-parts s [] none few = refl
-few-parts s (v ∷ []) none few = sym (ap (λ (o : Option ℕ). length (distinct_keys (option_map_or (λ interval. interval_key interval 0 v) o (scalar_key v ∷ []) ++ []))) none)
+few-parts s (v ∷ []) none few = sym (ap (λ (o : Option ℕ). length (distinct_keys (option_map_or (λ interval. interval_key (Numbers interval 0) v) o (scalar_key v ∷ []) ++ []))) none)
 few-parts s (v ∷ w ∷ vs) none few = absurd (omega (arith, few))

@@ -11,6 +11,7 @@ use Rattle.std.specs.declared.cmp.Ordering.TheVariants.{Less, Equal, Greater}
 use Rattle.std.proofs.lemmas.Bool.{cases_order, false≢true, and_parts}
 use Rattle.std.proofs.lemmas.Cmp.{nat_list_cmp_total, tied_itself}
 use Rattle.std.proofs.lemmas.Map.Keys.{Less-from_sorted}
+use Rattle.agg_model.specs.declared.aggregation.Spacing.TheVariants.{Numbers}
 use Rattle.agg_model.specs.declared.aggregation.CompositeSource.{CompositeSource}
 use Rattle.agg_model.specs.declared.key.Key.TheVariants as key
 use Rattle.agg_model.specs.declared.row.Scalar.{Scalar}
@@ -28,7 +29,7 @@ use Rattle.shard_columns.specs.Values.{Words, words_in}
 use Rattle.shard_columns.proofs.Dictionaries.{words_of-strict}
 use Rattle.composite_agg.specs.OnlyParts.{IsOnlyPart, IsOnlyWord}
 use Rattle.composite_agg.proofs.LaterKeys.{word-word}
-use Rattle.composite_agg.proofs.RowValues.{values_ascend}
+use Rattle.histogram_agg.proofs.Rows.{values_ascend}
 use Rattle.composite_agg.proofs.ValueParts.{source-is}
 
 -- what stands at a place
@@ -98,8 +99,8 @@ one-word (Word v ∷ vs) up w is =
 only-part : (row : PlacedRow) (s : CompositeSource) (w : List ℕ) → s.interval ≡ None → values_of s.field row ≡ Word w ∷ [] → source_keys row s ≡ key.Word w ∷ []
 only-part row s w none is =
     source-is row s
-    ∙ ap (λ (vs : List Scalar). or_null s.missing_bucket (distinct_keys (flat_map (λ v. option_map_or (λ interval. interval_key interval 0 v) s.interval (scalar_key v ∷ [])) vs))) is
-    ∙ ap (λ (o : Option ℕ). or_null s.missing_bucket (distinct_keys (option_map_or (λ interval. interval_key interval 0 (Word w)) o (scalar_key (Word w) ∷ []) ++ []))) none
+    ∙ ap (λ (vs : List Scalar). or_null s.missing_bucket (distinct_keys (flat_map (λ v. option_map_or (λ interval. interval_key (Numbers interval 0) v) s.interval (scalar_key v ∷ [])) vs))) is
+    ∙ ap (λ (o : Option ℕ). or_null s.missing_bucket (distinct_keys (option_map_or (λ interval. interval_key (Numbers interval 0) (Word w)) o (scalar_key (Word w) ∷ []) ++ []))) none
 
 -- a row that has one place in the dictionary
 pub only-word : (shard : Columns) → IsShard shard → (n : ℕ) (s : CompositeSource) (o : ℕ) (os : List ℕ) → s.interval ≡ None → os ≡ o ∷ []

@@ -7,7 +7,7 @@ use Rattle.agg_model.specs.declared.partial.Bucket.{Bucket}
 use Rattle.agg_model.specs.declared.partial.Node.{Node}
 use Rattle.agg_model.specs.declared.aggregation.CompositeSource.{CompositeSource}
 use Rattle.agg_model.specs.declared.aggregation.Kind.{Kind}
-use Rattle.agg_model.specs.declared.aggregation.Kind.TheVariants as kind
+use Rattle.agg_model.specs.Options.{Options, options_of}
 use Rattle.agg_evaluation.specs.KeyOrder.{has_key, key_eq}
 use Rattle.agg_evaluation.specs.Orders.{bucket_key}
 use Rattle.list_laws.specs.Sorting.{insert_sorted}
@@ -89,9 +89,29 @@ pub record IsPage (p : FirstPage) : Type 0 where
 
 -- the empty page of a composite
 abbrev pub empty_page : Kind → FirstPage
-empty_page (kind.Composite sources size after) = record { sources = sources; size = size; after = after; buckets = [] }
-empty_page _ = record { sources = []; size = 0; after = None; buckets = [] }
+empty_page k = elim (options_of k) [
+  | Options.Terms t ↦ record { sources = []; size = 0; after = None; buckets = [] }
+  | Options.Histogram h ↦ record { sources = []; size = 0; after = None; buckets = [] }
+  | Options.Filters names filters other ↦ record { sources = []; size = 0; after = None; buckets = [] }
+  | Options.Filter query ↦ record { sources = []; size = 0; after = None; buckets = [] }
+  | Options.Missing field ↦ record { sources = []; size = 0; after = None; buckets = [] }
+  | Options.Global ↦ record { sources = []; size = 0; after = None; buckets = [] }
+  | Options.Nested context ↦ record { sources = []; size = 0; after = None; buckets = [] }
+  | Options.ReverseNested context ↦ record { sources = []; size = 0; after = None; buckets = [] }
+  | Options.Composite sources size after ↦ record { sources = sources; size = size; after = after; buckets = [] }
+  | Options.Metric m ↦ record { sources = []; size = 0; after = None; buckets = [] }
+]
 
 abbrev pub is_composite : Kind → Bool
-is_composite (kind.Composite sources size after) = true
-is_composite _ = false
+is_composite k = elim (options_of k) [
+  | Options.Terms t ↦ false
+  | Options.Histogram h ↦ false
+  | Options.Filters names filters other ↦ false
+  | Options.Filter query ↦ false
+  | Options.Missing field ↦ false
+  | Options.Global ↦ false
+  | Options.Nested context ↦ false
+  | Options.ReverseNested context ↦ false
+  | Options.Composite sources size after ↦ true
+  | Options.Metric m ↦ false
+]

@@ -35,16 +35,32 @@ pub fn are_behind(shard: &Shard, row: u32, kind: &Kind, key: &Key, guesses: &mut
     ensures { IsTrue result → T (list_all (λ k. is_lt (page_cmp (empty_page kind.now).sources key.now k))
         (keys_of_row shard.now.rows kind.now (row_of shard.now.rows row))) }
 {
-    match (kind, key) {
-        (Kind::Composite { sources, .. }, Key::Many(parts)) => begin_behind(
-            shard,
-            row,
-            sources.as_slice(),
-            parts.as_slice(),
-            guesses,
-            0,
-        ),
-        _ => false,
+    match kind {
+        Kind::Composite { sources, .. } => match key {
+            Key::Many(parts) => begin_behind(
+                shard,
+                row,
+                sources.as_slice(),
+                parts.as_slice(),
+                guesses,
+                0,
+            ),
+            Key::Null | Key::Whole(_) | Key::Flag(_) | Key::Word(_) | Key::Fixed(_) => false,
+        },
+        Kind::Terms { .. }
+        | Kind::Histogram { .. }
+        | Kind::DateHistogram { .. }
+        | Kind::Filters { .. }
+        | Kind::Filter { .. }
+        | Kind::Missing { .. }
+        | Kind::Global
+        | Kind::Nested { .. }
+        | Kind::ReverseNested { .. }
+        | Kind::Sum { .. }
+        | Kind::Min { .. }
+        | Kind::Max { .. }
+        | Kind::Avg { .. }
+        | Kind::ValueCount { .. } => unreachable!(),
     }
 }
 
@@ -115,7 +131,7 @@ fn compare_place(
     let own = only_ordinal(shard, row, source)?;
     let place = match part {
         Key::Word(word) => place_of_word(shard, source.field, word.as_str().as_bytes(), guess)?,
-        _ => return None,
+        Key::Null | Key::Whole(_) | Key::Flag(_) | Key::Fixed(_) | Key::Many(_) => return None,
     };
     Some(directed_by(source.descending, place.cmp(&own)))
 }

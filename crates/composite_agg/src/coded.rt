@@ -97,7 +97,20 @@ pub fn code_of(shard: &Shard, row: u32, kind: &Kind, combinations: &Combinations
                 second: number_at(shard, row, sources, wheels, 1),
             }
         }
-        _ => Code::default(),
+        Kind::Terms { .. }
+        | Kind::Histogram { .. }
+        | Kind::DateHistogram { .. }
+        | Kind::Filters { .. }
+        | Kind::Filter { .. }
+        | Kind::Missing { .. }
+        | Kind::Global
+        | Kind::Nested { .. }
+        | Kind::ReverseNested { .. }
+        | Kind::Sum { .. }
+        | Kind::Min { .. }
+        | Kind::Max { .. }
+        | Kind::Avg { .. }
+        | Kind::ValueCount { .. } => Code::default(),
     }
 }
 

@@ -61,7 +61,20 @@ impl FirstKeys {
                 held: 0,
                 runs: Vec::new(alloc),
             }),
-            _ => unreachable!(),
+            Kind::Terms { .. }
+            | Kind::Histogram { .. }
+            | Kind::DateHistogram { .. }
+            | Kind::Filters { .. }
+            | Kind::Filter { .. }
+            | Kind::Missing { .. }
+            | Kind::Global
+            | Kind::Nested { .. }
+            | Kind::ReverseNested { .. }
+            | Kind::Sum { .. }
+            | Kind::Min { .. }
+            | Kind::Max { .. }
+            | Kind::Avg { .. }
+            | Kind::ValueCount { .. } => unreachable!(),
         }
     }
 

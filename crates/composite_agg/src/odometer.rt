@@ -190,7 +190,20 @@ impl<'a> Combinations<'a> {
                     None => Ok(None),
                 }
             }
-            _ => unreachable!(),
+            Kind::Terms { .. }
+            | Kind::Histogram { .. }
+            | Kind::DateHistogram { .. }
+            | Kind::Filters { .. }
+            | Kind::Filter { .. }
+            | Kind::Missing { .. }
+            | Kind::Global
+            | Kind::Nested { .. }
+            | Kind::ReverseNested { .. }
+            | Kind::Sum { .. }
+            | Kind::Min { .. }
+            | Kind::Max { .. }
+            | Kind::Avg { .. }
+            | Kind::ValueCount { .. } => unreachable!(),
         }
     }
 

@@ -50,7 +50,20 @@ pub fn key_count(shard: &Shard, row: u32, kind: &Kind) -> u64
 {
     match kind {
         Kind::Composite { sources, .. } => combination_count_of(shard, row, sources.as_slice()),
-        _ => unreachable!(),
+        Kind::Terms { .. }
+        | Kind::Histogram { .. }
+        | Kind::DateHistogram { .. }
+        | Kind::Filters { .. }
+        | Kind::Filter { .. }
+        | Kind::Missing { .. }
+        | Kind::Global
+        | Kind::Nested { .. }
+        | Kind::ReverseNested { .. }
+        | Kind::Sum { .. }
+        | Kind::Min { .. }
+        | Kind::Max { .. }
+        | Kind::Avg { .. }
+        | Kind::ValueCount { .. } => unreachable!(),
     }
 }
 

@@ -42,7 +42,7 @@ fn parts_of(key: &Key) -> &[Key]
 {
     match key {
         Key::Many(parts) => parts.as_slice(),
-        _ => &[],
+        Key::Null | Key::Whole(_) | Key::Flag(_) | Key::Word(_) | Key::Fixed(_) => &[],
     }
 }
 

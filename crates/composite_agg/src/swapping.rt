@@ -16,7 +16,7 @@ fn has_part_for_each(sources: &List<CompositeSource>, key: &Key) -> bool
 {
     match key {
         Key::Many(parts) => parts.len() == sources.len(),
-        _ => false,
+        Key::Null | Key::Whole(_) | Key::Flag(_) | Key::Word(_) | Key::Fixed(_) => false,
     }
 }
 

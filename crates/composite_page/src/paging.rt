@@ -32,6 +32,7 @@ pub fn page(_alloc: Global, kind: &Kind, node: Node) -> Result<Node, AllocError>
         },
         Kind::Terms { .. }
         | Kind::Histogram { .. }
+        | Kind::DateHistogram { .. }
         | Kind::Filters { .. }
         | Kind::Filter { .. }
         | Kind::Missing { .. }

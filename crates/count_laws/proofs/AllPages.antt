@@ -49,6 +49,7 @@ unfolding computing
 size-after l (Agg' name (kind.Composite sources page after) n children) = refl
 size-after l (Agg' name (kind.Terms field size shard_size min_doc_count order include exclude missing show_error) n children) = refl
 size-after l (Agg' name (kind.Histogram field interval offset min_doc_count extended hard keyed orders missing) n children) = refl
+size-after l (Agg' name (kind.DateHistogram field period zone min_doc_count extended hard keyed orders missing) n children) = refl
 size-after l (Agg' name (kind.Filters names filters other) n children) = refl
 size-after l (Agg' name (kind.Filter query) n children) = refl
 size-after l (Agg' name (kind.Missing field) n children) = refl

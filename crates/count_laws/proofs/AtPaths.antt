@@ -43,6 +43,7 @@ terms-group : (all : List PlacedRow) (a : Agg) (rows : List PlacedRow) (key : Ke
 unfolding computing
 terms-group all (Agg' name (kind.Terms field size shard_size min_doc_count order include exclude missing show_error) n children) rows key h = refl
 terms-group all (Agg' name (kind.Histogram field interval offset min_doc_count extended hard keyed orders missing) n children) rows key h = absurd h
+terms-group all (Agg' name (kind.DateHistogram field period zone min_doc_count extended hard keyed orders missing) n children) rows key h = absurd h
 terms-group all (Agg' name (kind.Filters names filters other) n children) rows key h = absurd h
 terms-group all (Agg' name (kind.Filter query) n children) rows key h = absurd h
 terms-group all (Agg' name (kind.Missing field) n children) rows key h = absurd h
@@ -61,6 +62,7 @@ terms-keys : (all : List PlacedRow) (a : Agg) (rows : List PlacedRow) (min : ℕ
 unfolding computing
 terms-keys all (Agg' name (kind.Terms field size shard_size min_doc_count order include exclude missing show_error) n children) rows min e = refl
 terms-keys all (Agg' name (kind.Histogram field interval offset min_doc_count extended hard keyed orders missing) n children) rows min e = absurd (none_some min e)
+terms-keys all (Agg' name (kind.DateHistogram field period zone min_doc_count extended hard keyed orders missing) n children) rows min e = absurd (none_some min e)
 terms-keys all (Agg' name (kind.Filters names filters other) n children) rows min e = absurd (none_some min e)
 terms-keys all (Agg' name (kind.Filter query) n children) rows min e = absurd (none_some min e)
 terms-keys all (Agg' name (kind.Missing field) n children) rows min e = absurd (none_some min e)

@@ -10,6 +10,7 @@ use Rattle.agg_model.specs.declared.partial.Metric.{Metric}
 use Rattle.agg_model.specs.declared.answer.BucketAnswer.{BucketAnswer, out-BucketAnswer}
 use Rattle.agg_model.specs.declared.answer.BucketAnswer.TheOpen.{NodeAnswer-F, BucketAnswer-F}
 use Rattle.agg_model.specs.declared.answer.NodeAnswer.{NodeAnswer, out-NodeAnswer, out-roll-NodeAnswer}
+use Rattle.agg_model.specs.declared.aggregation.Spacing.TheVariants.{Numbers, Dates}
 use Rattle.agg_model.specs.declared.aggregation.Kind.{Kind}
 use Rattle.agg_model.specs.declared.aggregation.Kind.TheVariants as kind
 use Rattle.agg_evaluation.specs.KeyOrder.{key_eq, has_key}
@@ -122,7 +123,13 @@ module _ (name : List ℕ) (fs : List Finisher) where
     }
     has-chosen (kind.Histogram field interval offset min_doc_count extended hard keyed order missing) = record {
       error = λ b. None;
-      chosen = sorted (bucket_cmp (map (λ c. c.kind) fs) order) (filled (empty_bucket fs) interval offset min_doc_count extended hard p.buckets);
+      chosen = sorted (bucket_cmp (map (λ c. c.kind) fs) order) (filled (empty_bucket fs) (Numbers interval offset) min_doc_count extended hard p.buckets);
+      are = buckets-are name _;
+      each = each-sorted (IsMade fs p.buckets) _ _ (filled-each min_doc_count _);
+    }
+    has-chosen (kind.DateHistogram field period zone min_doc_count extended hard keyed order missing) = record {
+      error = λ b. None;
+      chosen = sorted (bucket_cmp (map (λ c. c.kind) fs) order) (filled (empty_bucket fs) (Dates period zone) min_doc_count extended hard p.buckets);
       are = buckets-are name _;
       each = each-sorted (IsMade fs p.buckets) _ _ (filled-each min_doc_count _);
     }

@@ -349,6 +349,12 @@ module _ (m : Mapping) (context : ℕ) (name : List ℕ) {n : _} (children : Row
         each = each-of (Whole k fit) (λ s. subst (HasAll s.0 k (cs s) s.1 q) (sym (keyed-are k fit (map (bucket_of true s.0 (roots s.0) k (cs s) s.1) (all_keys s.0 k s.1)) 0 0 0)) (all_keys-have_all s.0 k (cs s) s.1 q)) ss;
         absent = absent-key (buckets k fit);
       }
+  found (kind.DateHistogram field period zone min_doc_count extended hard keyed order missing) fit h =
+      let k = kind.DateHistogram field period zone min_doc_count extended hard keyed order missing in
+      record {
+        each = each-of (Whole k fit) (λ s. subst (HasAll s.0 k (cs s) s.1 q) (sym (keyed-are k fit (map (bucket_of true s.0 (roots s.0) k (cs s) s.1) (all_keys s.0 k s.1)) 0 0 0)) (all_keys-have_all s.0 k (cs s) s.1 q)) ss;
+        absent = absent-key (buckets k fit);
+      }
   found (kind.Filters names filters other) fit h = by-fixed (kind.Filters names filters other) fit refl (λ s. fixed-are (kind.Filters names filters other) fit _) refl h
   found (kind.Filter query) fit h = by-fixed (kind.Filter query) fit refl (λ s. fixed-are (kind.Filter query) fit _) refl h
   found (kind.Missing field) fit h = by-fixed (kind.Missing field) fit refl (λ s. fixed-are (kind.Missing field) fit _) refl h

@@ -89,6 +89,7 @@ unfolding computing
 all-counted (Agg' name (kind.Terms field size shard_size min_doc_count order include exclude missing show_error) n children) min ss e =
     terms-counted children field size shard_size min_doc_count order include exclude missing show_error ss
 all-counted (Agg' name (kind.Histogram field interval offset min_doc_count extended hard keyed orders missing) n children) min ss e = none_some min e
+all-counted (Agg' name (kind.DateHistogram field period zone min_doc_count extended hard keyed orders missing) n children) min ss e = none_some min e
 all-counted (Agg' name (kind.Filters names filters other) n children) min ss e = none_some min e
 all-counted (Agg' name (kind.Filter query) n children) min ss e = none_some min e
 all-counted (Agg' name (kind.Missing field) n children) min ss e = none_some min e

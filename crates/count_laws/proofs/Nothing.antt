@@ -72,6 +72,7 @@ module _ (m : Mapping) (all : List PlacedRow) where
     node-none (kind.Terms field size shard_size min_doc_count order include exclude missing show_error) context h =
         trimmed-none (map (λ c. c.kind) cs) shard_size order (positive m false context (map (λ c. c.kind) cs) field size shard_size min_doc_count order include exclude missing show_error h)
     node-none (kind.Histogram field interval offset min_doc_count extended hard keyed order missing) context h = refl
+    node-none (kind.DateHistogram field period zone min_doc_count extended hard keyed order missing) context h = refl
     node-none (kind.Composite sources size after) context h = absurd h
     node-none kind.Global context h = absurd h
     node-none (kind.Filters names filters other) context h = fixed-none (fixed_keys (kind.Filters names filters other))

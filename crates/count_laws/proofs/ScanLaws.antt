@@ -56,6 +56,7 @@ first-of m request shards (Agg' name (kind.Composite sources page after) n child
     ∙ ap (λ s. take s (map (λ q. (q, true_count shards request ((0, q) ∷ []))) (keys_after shards request k))) (some-same e)
 first-of m request shards (Agg' name (kind.Terms field size shard_size min_doc_count order include exclude missing show_error) n children) s at fit e = absurd (none_some s e)
 first-of m request shards (Agg' name (kind.Histogram field interval offset min_doc_count extended hard keyed orders missing) n children) s at fit e = absurd (none_some s e)
+first-of m request shards (Agg' name (kind.DateHistogram field period zone min_doc_count extended hard keyed orders missing) n children) s at fit e = absurd (none_some s e)
 first-of m request shards (Agg' name (kind.Filters names filters other) n children) s at fit e = absurd (none_some s e)
 first-of m request shards (Agg' name (kind.Filter query) n children) s at fit e = absurd (none_some s e)
 first-of m request shards (Agg' name (kind.Missing field) n children) s at fit e = absurd (none_some s e)
@@ -141,6 +142,7 @@ next-of m request shards (Agg' name (kind.Composite sources page after) n childr
     drop-mapped f (suc n) (x ∷ xs) = drop-mapped f n xs
 next-of m request shards (Agg' name (kind.Terms field size shard_size min_doc_count order include exclude missing show_error) n children) s l alone fit e last = absurd (none_some s e)
 next-of m request shards (Agg' name (kind.Histogram field interval offset min_doc_count extended hard keyed orders missing) n children) s l alone fit e last = absurd (none_some s e)
+next-of m request shards (Agg' name (kind.DateHistogram field period zone min_doc_count extended hard keyed orders missing) n children) s l alone fit e last = absurd (none_some s e)
 next-of m request shards (Agg' name (kind.Filters names filters other) n children) s l alone fit e last = absurd (none_some s e)
 next-of m request shards (Agg' name (kind.Filter query) n children) s l alone fit e last = absurd (none_some s e)
 next-of m request shards (Agg' name (kind.Missing field) n children) s l alone fit e last = absurd (none_some s e)
@@ -178,6 +180,7 @@ size-of m (Agg' name (kind.Composite sources page after) n children) size fit e 
     subst (λ s. T (nat_le 1 s)) (some-same e) (size-positive m (map (λ c. c.kind) (fold_aggs (made_at m) children)) sources page after (made-kind m [] k (fold_aggs (made_at m) children) true 0 fit))
 size-of m (Agg' name (kind.Terms field size shard_size min_doc_count order include exclude missing show_error) n children) s fit e = absurd (none_some s e)
 size-of m (Agg' name (kind.Histogram field interval offset min_doc_count extended hard keyed orders missing) n children) s fit e = absurd (none_some s e)
+size-of m (Agg' name (kind.DateHistogram field period zone min_doc_count extended hard keyed orders missing) n children) s fit e = absurd (none_some s e)
 size-of m (Agg' name (kind.Filters names filters other) n children) s fit e = absurd (none_some s e)
 size-of m (Agg' name (kind.Filter query) n children) s fit e = absurd (none_some s e)
 size-of m (Agg' name (kind.Missing field) n children) s fit e = absurd (none_some s e)

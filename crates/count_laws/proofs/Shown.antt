@@ -80,6 +80,9 @@ module _ (name : List ℕ) {n : _} (children : Row_of-Agg n) (ss : List Handed) 
   left_out-kind (kind.Histogram field interval offset min_doc_count extended hard keyed order missing) e =
       let k = kind.Histogram field interval offset min_doc_count extended hard keyed order missing in
       keyed-none k (λ s. ap (λ l. (parts_at l).cut) (out-Keyed (map (bucket_of true s.0 (roots s.0) k (cs s) s.1) (all_keys s.0 k s.1)) 0 0 0))
+  left_out-kind (kind.DateHistogram field period zone min_doc_count extended hard keyed order missing) e =
+      let k = kind.DateHistogram field period zone min_doc_count extended hard keyed order missing in
+      keyed-none k (λ s. ap (λ l. (parts_at l).cut) (out-Keyed (map (bucket_of true s.0 (roots s.0) k (cs s) s.1) (all_keys s.0 k s.1)) 0 0 0))
   left_out-kind (kind.Composite sources size after) e =
       let k = kind.Composite sources size after in
       keyed-none k (λ s. ap (λ l. (parts_at l).cut) (out-Keyed (map (bucket_of true s.0 (roots s.0) k (cs s) s.1) (page sources size after (all_keys s.0 k s.1))) 0 0 0))

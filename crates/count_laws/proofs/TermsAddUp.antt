@@ -36,6 +36,7 @@ answer_of_rows-adds_up (Agg' name (kind.Terms field size shard_size min_doc_coun
     ∙ (λ i. sum_by (λ s. trimmed_node-count (map (λ c. c.kind) (collectors s.0)) shard_size order true s.0 (roots s.0) k (collectors s.0) s.1 i) shards)) in
     subst (λ m. AddsUp a m shards) (let same : min_doc_count ≡ min = cc in same) sums
 answer_of_rows-adds_up (Agg' name (kind.Histogram field interval offset min_doc_count extended hard keyed order missing) n children) min shards e = absurd (let no : ⊥ = cc in no)
+answer_of_rows-adds_up (Agg' name (kind.DateHistogram field period zone min_doc_count extended hard keyed order missing) n children) min shards e = absurd (let no : ⊥ = cc in no)
 answer_of_rows-adds_up (Agg' name (kind.Filters names filters other) n children) min shards e = absurd (let no : ⊥ = cc in no)
 answer_of_rows-adds_up (Agg' name (kind.Filter query) n children) min shards e = absurd (let no : ⊥ = cc in no)
 answer_of_rows-adds_up (Agg' name (kind.Missing field) n children) min shards e = absurd (let no : ⊥ = cc in no)

@@ -113,6 +113,7 @@ answer_of_rows-within (Agg' name (kind.Terms field size shard_size min_doc_count
     ) in
     subst (λ o. AllWithin (Agg' name (k_of o) n children) shards) (sym h.1) all
 answer_of_rows-within (Agg' name (kind.Histogram field interval offset min_doc_count extended hard keyed orders missing) n children) shards h = absurd h
+answer_of_rows-within (Agg' name (kind.DateHistogram field period zone min_doc_count extended hard keyed orders missing) n children) shards h = absurd h
 answer_of_rows-within (Agg' name (kind.Filters names filters other) n children) shards h = absurd h
 answer_of_rows-within (Agg' name (kind.Filter query) n children) shards h = absurd h
 answer_of_rows-within (Agg' name (kind.Missing field) n children) shards h = absurd h

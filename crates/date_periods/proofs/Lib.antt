@@ -1,2 +1,2 @@
 mod CivilMonths
-mod ReachLemmas
+pub mod ReachLemmas

@@ -283,6 +283,9 @@ module _ (kinds : List FieldKind) (all : List PlacedRow) where
     counted-bounded (kind.Histogram field interval offset min_doc_count extended hard keyed order missing) m hs rs few covers known =
         let k = kind.Histogram field interval offset min_doc_count extended hard keyed order missing in
         keyed-bounded k refl (λ rows. let cost = cost-buckets k rows (all_keys all k rows) in omega arith) m hs rs few covers known
+    counted-bounded (kind.DateHistogram field period zone min_doc_count extended hard keyed order missing) m hs rs few covers known =
+        let k = kind.DateHistogram field period zone min_doc_count extended hard keyed order missing in
+        keyed-bounded k refl (λ rows. let cost = cost-buckets k rows (all_keys all k rows) in omega arith) m hs rs few covers known
     counted-bounded (kind.Composite sources size after) m hs rs few covers known =
         let k = kind.Composite sources size after in
         keyed-bounded k refl (λ rows. cost-page k rows sources size after (all_keys all k rows)) m hs rs few covers known
@@ -306,6 +309,7 @@ module _ (kinds : List FieldKind) (all : List PlacedRow) where
   known-under roots kind.Global e rows h = absurd (subst T e tt)
   known-under roots (kind.Terms field size shard_size min_doc_count order include exclude missing show_error) e rows h = h
   known-under roots (kind.Histogram field interval offset min_doc_count extended hard keyed order missing) e rows h = h
+  known-under roots (kind.DateHistogram field period zone min_doc_count extended hard keyed order missing) e rows h = h
   known-under roots (kind.Filters names filters other) e rows h = h
   known-under roots (kind.Filter query) e rows h = h
   known-under roots (kind.Missing field) e rows h = h
@@ -322,6 +326,7 @@ module _ (kinds : List FieldKind) (all : List PlacedRow) where
   global-under (kind.ReverseNested context) e roots rows = absurd (subst T (sym e) tt)
   global-under (kind.Terms field size shard_size min_doc_count order include exclude missing show_error) e roots rows = absurd (subst T (sym e) tt)
   global-under (kind.Histogram field interval offset min_doc_count extended hard keyed order missing) e roots rows = absurd (subst T (sym e) tt)
+  global-under (kind.DateHistogram field period zone min_doc_count extended hard keyed order missing) e roots rows = absurd (subst T (sym e) tt)
   global-under (kind.Filters names filters other) e roots rows = absurd (subst T (sym e) tt)
   global-under (kind.Filter query) e roots rows = absurd (subst T (sym e) tt)
   global-under (kind.Missing field) e roots rows = absurd (subst T (sym e) tt)

@@ -66,6 +66,7 @@ module _ (all : List PlacedRow) where
   under-covers roots kind.Global e f rows = absurd (subst T e tt)
   under-covers roots (kind.Terms field size shard_size min_doc_count order include exclude missing show_error) e f rows = same-covers f rows
   under-covers roots (kind.Histogram field interval offset min_doc_count extended hard keyed order missing) e f rows = same-covers f rows
+  under-covers roots (kind.DateHistogram field period zone min_doc_count extended hard keyed order missing) e f rows = same-covers f rows
   under-covers roots (kind.Filters names filters other) e f rows = same-covers f rows
   under-covers roots (kind.Filter query) e f rows = same-covers f rows
   under-covers roots (kind.Missing field) e f rows = same-covers f rows

@@ -11,6 +11,8 @@ use Rattle.agg_model.specs.declared.mapping.FieldKind.{FieldKind}
 use Rattle.agg_model.specs.declared.row.Scalar.{Scalar}
 use Rattle.agg_model.specs.declared.row.Scalar.TheVariants as scalar
 use Rattle.agg_model.specs.declared.aggregation.CompositeSource.{CompositeSource}
+use Rattle.agg_model.specs.declared.aggregation.Spacing.{Spacing}
+use Rattle.agg_model.specs.declared.aggregation.Spacing.TheVariants.{Numbers, Dates}
 use Rattle.agg_model.specs.declared.aggregation.Kind.{Kind}
 use Rattle.agg_model.specs.declared.aggregation.Kind.TheVariants as kind
 use Rattle.agg_evaluation.specs.KeyOrder.{key_cmp}
@@ -142,35 +144,36 @@ module _ (kinds : List FieldKind) (all : List PlacedRow) where
       each-filter (Short n) (is_included include exclude) (distinct_keys (map scalar_key (values_or field missing row)))
       (each-distinct (Short n) (map scalar_key (values_or field missing row)) (each-map (Short n) scalar_key (values_or field missing row) (small-row row known field missing)))
 
-  short-interval : (interval offset : ℕ) (v : Scalar) → Each (Short 8) (interval_key interval offset v)
-  short-interval interval offset (scalar.Whole n) = ((let e : 8 ≤ 8 = omega arith in e), tt)
-  short-interval interval offset (scalar.Word w) = tt
-  short-interval interval offset (scalar.Flag b) = tt
+  short-interval : (spacing : Spacing) (v : Scalar) → Each (Short 8) (interval_key spacing v)
+  short-interval spacing (scalar.Whole n) = ((let e : 8 ≤ 8 = omega arith in e), tt)
+  short-interval spacing (scalar.Word w) = tt
+  short-interval spacing (scalar.Flag b) = tt
 
-  short-histogram : (row : PlacedRow) (field interval offset : ℕ) (hard : _) (missing : Option Scalar) → Each (Short 8) (histogram_keys field interval offset hard missing row)
-  short-histogram row field interval offset hard missing =
-      each-filter (Short 8) (is_between hard) (distinct_keys (flat_map (interval_key interval offset) (values_or field missing row)))
-      (each-distinct (Short 8) (flat_map (interval_key interval offset) (values_or field missing row)) (each-flat_map (Short 8) (interval_key interval offset) (values_or field missing row) (each-all (λ v. Each (Short 8) (interval_key interval offset v)) (short-interval interval offset) (values_or field missing row))))
+  short-histogram : (row : PlacedRow) (field : ℕ) (spacing : Spacing) (hard : _) (missing : Option Scalar) → Each (Short 8) (histogram_keys field spacing hard missing row)
+  short-histogram row field spacing hard missing =
+      each-filter (Short 8) (is_between hard) (distinct_keys (flat_map (interval_key spacing) (values_or field missing row)))
+      (each-distinct (Short 8) (flat_map (interval_key spacing) (values_or field missing row)) (each-flat_map (Short 8) (interval_key spacing) (values_or field missing row)
+      (each-all (λ v. Each (Short 8) (interval_key spacing v)) (short-interval spacing) (values_or field missing row))))
 
   -- of a value that is small its interval is
-  small-interval : (n interval offset : ℕ) (v : Scalar) → Small n v → Each (Short n) (interval_key interval offset v)
-  small-interval n interval offset (scalar.Whole m) h = (h, tt)
-  small-interval n interval offset (scalar.Word w) h = tt
-  small-interval n interval offset (scalar.Flag b) h = tt
+  small-interval : (n : ℕ) (spacing : Spacing) (v : Scalar) → Small n v → Each (Short n) (interval_key spacing v)
+  small-interval n spacing (scalar.Whole m) h = (h, tt)
+  small-interval n spacing (scalar.Word w) h = tt
+  small-interval n spacing (scalar.Flag b) h = tt
 
-  small-histogram : (row : PlacedRow) → Known all row → (field interval : ℕ) → Each (Short (field_bytes kinds all field None)) (histogram_keys field interval 0 no_bounds None row)
-  small-histogram row known field interval =
+  small-histogram : (row : PlacedRow) → Known all row → (field : ℕ) (spacing : Spacing) → Each (Short (field_bytes kinds all field None)) (histogram_keys field spacing no_bounds None row)
+  small-histogram row known field spacing =
       let n = field_bytes kinds all field None in
-      each-filter (Short n) (is_between no_bounds) (distinct_keys (flat_map (interval_key interval 0) (values_or field None row)))
-      (each-distinct (Short n) (flat_map (interval_key interval 0) (values_or field None row)) (each-flat_map (Short n) (interval_key interval 0) (values_or field None row)
-      (each-then (Small n) (λ v. Each (Short n) (interval_key interval 0 v)) (small-interval n interval 0) (values_or field None row) (small-row row known field None))))
+      each-filter (Short n) (is_between no_bounds) (distinct_keys (flat_map (interval_key spacing) (values_or field None row)))
+      (each-distinct (Short n) (flat_map (interval_key spacing) (values_or field None row)) (each-flat_map (Short n) (interval_key spacing) (values_or field None row)
+      (each-then (Small n) (λ v. Each (Short n) (interval_key spacing v)) (small-interval n spacing) (values_or field None row) (small-row row known field None))))
 
   short-source : (row : PlacedRow) → Known all row → (s : CompositeSource) → Each (Short (part_bytes kinds all s)) (source_keys row s)
   short-source row known s =
       let n = field_bytes kinds all s.field None in
       let bound = each-greatest (1 ∷ n ∷ []) in
       let wide : (k : Key) → Short n k → Short (part_bytes kinds all s) k = (λ k h. let b = bound.1.0 in omega arith) in
-      let ks = option_map_or (λ interval. histogram_keys s.field interval 0 no_bounds None row) s.interval (term_keys s.field None [] None row) in
+      let ks = option_map_or (λ interval. histogram_keys s.field (Numbers interval 0) no_bounds None row) s.interval (term_keys s.field None [] None row) in
       or-null s.missing_bucket ks bound.0 (by-interval s.interval wide)
     where
       or-null : {n : ℕ} (missing : Bool) (ks : List Key) → 1 ≤ n → Each (Short n) ks → Each (Short n) (or_null missing ks)
@@ -178,9 +181,9 @@ module _ (kinds : List FieldKind) (all : List PlacedRow) where
       or-null false [] h g = tt
       or-null missing (k ∷ ks) h g = g
 
-      by-interval : {n : ℕ} (o : Option ℕ) → ((k : Key) → Short (field_bytes kinds all s.field None) k → Short n k) → Each (Short n) (option_map_or (λ interval. histogram_keys s.field interval 0 no_bounds None row) o (term_keys s.field None [] None row))
+      by-interval : {n : ℕ} (o : Option ℕ) → ((k : Key) → Short (field_bytes kinds all s.field None) k → Short n k) → Each (Short n) (option_map_or (λ interval. histogram_keys s.field (Numbers interval 0) no_bounds None row) o (term_keys s.field None [] None row))
       by-interval None wide = each-then _ _ wide (term_keys s.field None [] None row) (short-terms row known s.field None [] None)
-      by-interval (Some interval) wide = each-then _ _ wide (histogram_keys s.field interval 0 no_bounds None row) (small-histogram row known s.field interval)
+      by-interval (Some interval) wide = each-then _ _ wide (histogram_keys s.field (Numbers interval 0) no_bounds None row) (small-histogram row known s.field (Numbers interval 0))
 
   short-combinations : (row : PlacedRow) → Known all row → (sources : List CompositeSource) → Each (λ ks. sum_by key_bytes ks ≤ sum_by (part_bytes kinds all) sources) (combinations (map (source_keys row) sources))
   short-combinations row known [] = ((let e : 0 ≤ 0 = omega arith in e), tt)
@@ -202,7 +205,8 @@ module _ (kinds : List FieldKind) (all : List PlacedRow) where
   -- the keys of rows at aggregations whose buckets come by key
   pub short-keys : (k : Kind) → shape_of k ≡ by_key → (row : PlacedRow) → Known all row → Each (Short (key_bound kinds all k)) (keys all k row)
   short-keys (kind.Terms field size shard_size min_doc_count order include exclude missing show_error) e row known = short-terms row known field include exclude missing
-  short-keys (kind.Histogram field interval offset min_doc_count extended hard keyed order missing) e row known = short-histogram row field interval offset hard missing
+  short-keys (kind.Histogram field interval offset min_doc_count extended hard keyed order missing) e row known = short-histogram row field (Numbers interval offset) hard missing
+  short-keys (kind.DateHistogram field period zone min_doc_count extended hard keyed order missing) e row known = short-histogram row field (Dates period zone) hard missing
   short-keys (kind.Composite sources size after) e row known = short-composite row known sources
   short-keys (kind.Filters names filters other) e row known = absurd (not_by_key from_start tt e)
   short-keys (kind.Filter query) e row known = absurd (not_by_key from_start tt e)

@@ -1,5 +1,6 @@
 mod Ceilings
 mod Composites
+mod DateHistograms
 mod FixedBuckets
 mod Histograms
 mod Metrics

@@ -5,7 +5,7 @@ use Rattle.agg_model.specs.declared.limits.TheConstants.{MAX_FILTERS}
 use Rattle.agg_model.specs.declared.mapping.Mapping.{Mapping}
 use Rattle.agg_model.specs.declared.query.Query.{Query}
 use Rattle.agg_model.specs.declared.aggregation.Kind.{Kind}
-use Rattle.agg_model.specs.declared.aggregation.Kind.TheVariants as kind
+use Rattle.agg_model.specs.Options.{Options, options_of}
 use Rattle.agg_evaluation.specs.QueryFits.{query_fits}
 use Rattle.agg_evaluation.specs.SearchFits.{kind_fits}
 use Rattle.shard_columns.specs.Built.{IsShardOf}
@@ -13,10 +13,18 @@ use Rattle.shard_columns.specs.Columns.{Columns}
 
 -- the aggregation is a filters with at most MAX_FILTERS of them, a filter or a missing
 abbrev pub IsFiltering : Kind → Type 0
-IsFiltering (kind.Filters names filters other) = length filters ≤ MAX_FILTERS
-IsFiltering (kind.Filter query) = Unit {0}
-IsFiltering (kind.Missing field) = Unit {0}
-IsFiltering _ = ⊥
+IsFiltering k = elim (options_of k) [
+  | Options.Terms t ↦ ⊥
+  | Options.Histogram h ↦ ⊥
+  | Options.Filters names filters other ↦ length filters ≤ MAX_FILTERS
+  | Options.Filter query ↦ Unit {0}
+  | Options.Missing field ↦ Unit {0}
+  | Options.Global ↦ ⊥
+  | Options.Nested context ↦ ⊥
+  | Options.ReverseNested context ↦ ⊥
+  | Options.Composite sources size after ↦ ⊥
+  | Options.Metric m ↦ ⊥
+]
 
 -- the aggregation is made for the mapping of the shard: at the top of a search or not, over rows of some context, and with
 -- children of some kinds

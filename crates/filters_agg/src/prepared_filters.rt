@@ -79,7 +79,18 @@ pub fn prepare(alloc: Global, shard: &Shard, kind: &Kind) -> Result<PreparedFilt
             filters: only(alloc, without_value(alloc, *field)?)?,
             has_other: false,
         }),
-        _ => unreachable!(),
+        Kind::Terms { .. }
+        | Kind::Histogram { .. }
+        | Kind::DateHistogram { .. }
+        | Kind::Global
+        | Kind::Nested { .. }
+        | Kind::ReverseNested { .. }
+        | Kind::Composite { .. }
+        | Kind::Sum { .. }
+        | Kind::Min { .. }
+        | Kind::Max { .. }
+        | Kind::Avg { .. }
+        | Kind::ValueCount { .. } => unreachable!(),
     }
 }
 

@@ -27,7 +27,18 @@ pub fn keys(alloc: Global, shard: &Shard, row: u32, kind: &Kind) -> Result<List<
         }
         Kind::Filter { query } => single_key(alloc, matches(shard, query, row)),
         Kind::Missing { field } => single_key(alloc, shard.value_count(row, *field) == 0),
-        _ => unreachable!(),
+        Kind::Terms { .. }
+        | Kind::Histogram { .. }
+        | Kind::DateHistogram { .. }
+        | Kind::Global
+        | Kind::Nested { .. }
+        | Kind::ReverseNested { .. }
+        | Kind::Composite { .. }
+        | Kind::Sum { .. }
+        | Kind::Min { .. }
+        | Kind::Max { .. }
+        | Kind::Avg { .. }
+        | Kind::ValueCount { .. } => unreachable!(),
     }
 }
 
@@ -43,7 +54,18 @@ pub fn key_count(shard: &Shard, row: u32, kind: &Kind) -> u64
         }
         Kind::Filter { query } => u64::from(matches(shard, query, row)),
         Kind::Missing { field } => u64::from(shard.value_count(row, *field) == 0),
-        _ => unreachable!(),
+        Kind::Terms { .. }
+        | Kind::Histogram { .. }
+        | Kind::DateHistogram { .. }
+        | Kind::Global
+        | Kind::Nested { .. }
+        | Kind::ReverseNested { .. }
+        | Kind::Composite { .. }
+        | Kind::Sum { .. }
+        | Kind::Min { .. }
+        | Kind::Max { .. }
+        | Kind::Avg { .. }
+        | Kind::ValueCount { .. } => unreachable!(),
     }
 }
 

@@ -14,21 +14,24 @@ use Rattle.agg_model.specs.declared.aggregation.Agg.{Agg, Agg', Row_of-Agg, end_
 use Rattle.agg_model.specs.declared.aggregation.Agg.TheOpen.{Agg-F}
 use Rattle.agg_model.specs.declared.aggregation.Bounds.{Bounds}
 use Rattle.agg_model.specs.declared.aggregation.Order.{Order}
+use Rattle.agg_model.specs.declared.aggregation.Spacing.{Spacing}
+use Rattle.agg_model.specs.declared.aggregation.Spacing.TheVariants.{Numbers, Dates}
 use Rattle.agg_model.specs.declared.aggregation.Kind.{Kind}
 use Rattle.agg_model.specs.declared.aggregation.Kind.TheVariants as kind
+use Rattle.agg_model.specs.Options.{HistogramOptions}
 use Rattle.list_laws.specs.Sorting.{sorted}
 use Rattle.list_laws.proofs.Lists.{map-map}
 use Rattle.agg_evaluation.specs.Folds.{fold_aggs}
 use Rattle.agg_evaluation.specs.Orders.{bucket_cmp, bucket_key, bucket_count, child_value, composite_cmp, metric_value, number_of}
 use Rattle.agg_evaluation.specs.Shard.{fixed_keys}
 use Rattle.agg_evaluation.specs.Trees.{have_children, is_ascending, is_tree_at, pass_each}
-use Rattle.agg_evaluation.specs.Whole.{children_at, metric_sum, parts, parts_at, shape_of, whole_bucket, whole_by}
+use Rattle.agg_evaluation.specs.Whole.{Parts, by_key, children_at, metric_sum, parts, parts_at, shape_of, whole_bucket, whole_by}
 use Rattle.agg_evaluation.specs.Finishable.{fits_at, is_finishable, is_finishable_at, is_histogram_key}
 use Rattle.agg_evaluation.proofs.NodeForms.{out-Keyed, out-Fixed, out-Number}
 use Rattle.agg_spec.specs.CountErrors.{precision_of, count_error}
-use Rattle.agg_spec.specs.Filling.{frequent}
+use Rattle.agg_spec.specs.Filling.{filled, frequent}
 use Rattle.agg_spec.specs.Final.{Finisher, finisher, finisher_of, finish_at, finish_each, finish_bucket, empty_bucket, buckets_answer, no_metric}
-use Rattle.final_reduce.specs.Standing.{Cutter, Form, paged, as_it_is, metric_alone, beyond_at, builder, builder_of, built_at, cut_at, cut_bucket, cut_keyed, cut_nodes, cutter, cutter_of, form_of, is_standing, is_standing_at, ordered_terms, plain_answer, returned_at, stands_at, with_gaps}
+use Rattle.final_reduce.specs.Standing.{Cutter, Form, spaced, paged, as_it_is, metric_alone, beyond_at, builder, builder_of, built_at, cut_at, cut_bucket, cut_keyed, cut_nodes, cutter, cutter_of, form_of, is_standing, is_standing_at, ordered_terms, plain_answer, returned_at, spaced_built, stands_at, with_gaps}
 use Rattle.final_reduce.proofs.SelectLaws.{list_all-map, list_all-filter}
 use Rattle.final_reduce.proofs.FinishableLaws.{children_pass, ascending_of, no_buckets, returned-pass}
 use Rattle.final_reduce.proofs.CutKeeps.{ascending-filter, filled-is, gaps-kept, sorted-kept}
@@ -170,15 +173,24 @@ module _ (name : List ℕ) (cs : List Cutter) (gs fs : List Finisher) (ts ss : L
   started-built : (n : Node) → plain_answer name gs (parts (Fixed (map (cut_bucket cs) (parts n).buckets))).buckets ≡ plain_answer name fs (parts n).buckets
   started-built n = ap (λ l. plain_answer name gs (parts_at l).buckets) (out-Fixed (map (cut_bucket cs) (parts n).buckets)) ∙ plain-built (parts n).buckets
 
-  histogram-built : (interval offset m : ℕ) (extended hard : Bounds) (order : List Order) (bs : List Bucket)
-      → plain_answer name gs (sorted (bucket_cmp (map (λ (g : Finisher). g.kind) gs) order) (with_gaps (empty_bucket gs) interval offset m extended hard (map (cut_bucket cs) bs)))
-      ≡ plain_answer name fs (sorted (bucket_cmp kinds order) (with_gaps (empty_bucket fs) interval offset m extended hard bs))
-  histogram-built interval offset m extended hard order bs =
-      let all = with_gaps (empty_bucket fs) interval offset m extended hard bs in
-      (λ i. plain_answer name gs (sorted (bucket_cmp (kinds-built cs gs fs ts ss agree i) order) (with_gaps (λ key. empty-built key i) interval offset m extended hard (map (cut_bucket cs) bs))))
-      ∙ ap (λ xs. plain_answer name gs (sorted (bucket_cmp kinds order) xs)) (gaps-kept cs (empty_bucket fs) empty-cut interval offset m extended hard bs)
+  histogram-built : (spacing : Spacing) (m : ℕ) (extended hard : Bounds) (order : List Order) (bs : List Bucket)
+      → spaced_built name gs spacing m extended hard order (map (cut_bucket cs) bs)
+      ≡ plain_answer name fs (sorted (bucket_cmp kinds order) (with_gaps (empty_bucket fs) spacing m extended hard bs))
+  histogram-built spacing m extended hard order bs =
+      let all = with_gaps (empty_bucket fs) spacing m extended hard bs in
+      (λ i. plain_answer name gs (sorted (bucket_cmp (kinds-built cs gs fs ts ss agree i) order) (with_gaps (λ key. empty-built key i) spacing m extended hard (map (cut_bucket cs) bs))))
+      ∙ ap (λ xs. plain_answer name gs (sorted (bucket_cmp kinds order) xs)) (gaps-kept cs (empty_bucket fs) empty-cut spacing m extended hard bs)
       ∙ ap (plain_answer name gs) (sorted-kept cs kinds value-kept order all)
       ∙ plain-built (sorted (bucket_cmp kinds order) all)
+
+  -- a histogram: those of its buckets that have enough documents, with gaps
+  frequent-built : (spacing : Spacing) (m : ℕ) (extended hard : Bounds) (order : List Order) (p : Parts)
+      → spaced_built name gs spacing m extended hard order (parts (Keyed (map (cut_bucket cs) (frequent m p.buckets)) p.error p.full (p.cut + 0))).buckets
+      ≡ plain_answer name fs (sorted (bucket_cmp kinds order) (filled (empty_bucket fs) spacing m extended hard p.buckets))
+  frequent-built spacing m extended hard order p =
+      ap (λ l. spaced_built name gs spacing m extended hard order (parts_at l).buckets) (out-Keyed (map (cut_bucket cs) (frequent m p.buckets)) p.error p.full (p.cut + 0))
+      ∙ histogram-built spacing m extended hard order (frequent m p.buckets)
+      ∙ ap (λ bs. plain_answer name fs (sorted (bucket_cmp kinds order) bs)) (sym (filled-is (empty_bucket fs) spacing m extended hard p.buckets))
 
   answers-at : (k : Kind) (n : Node) → built_at name gs (form_of k) (parts (cut_at cs (form_of k) n)) ≡ finish_at name fs k (parts n)
   answers-at (kind.Terms f size shard_size m order i x ms sh) n =
@@ -196,12 +208,8 @@ module _ (name : List ℕ) (cs : List Cutter) (gs fs : List Finisher) (ts ss : L
         other = p.cut + sum_by bucket_count (drop size (ordered_terms ks m order p.buckets));
         metric = no_metric;
       })) (kinds-cut cs gs fs ts ss agree)
-  answers-at (kind.Histogram f interval offset m extended hard keyed order ms) n =
-      let p = parts n in
-      let k = kind.Histogram f interval offset m extended hard keyed order ms in
-      ap (λ l. built_at name gs (form_of k) (parts_at l)) (out-Keyed (map (cut_bucket cs) (frequent m p.buckets)) p.error p.full (p.cut + 0))
-      ∙ histogram-built interval offset m extended hard order (frequent m p.buckets)
-      ∙ ap (λ bs. plain_answer name fs (sorted (bucket_cmp kinds order) bs)) (sym (filled-is (empty_bucket fs) interval offset m extended hard p.buckets))
+  answers-at (kind.Histogram f interval offset m extended hard keyed order ms) n = frequent-built (Numbers interval offset) m extended hard order (parts n)
+  answers-at (kind.DateHistogram f period zone m extended hard keyed order ms) n = frequent-built (Dates period zone) m extended hard order (parts n)
   answers-at (kind.Composite sources size after) n =
       let p = parts n in
       let k = kind.Composite sources size after in
@@ -238,6 +246,17 @@ module _ (name : List ℕ) (cs : List Cutter) (gs fs : List Finisher) (ts ss : L
   number-stands : (n : Node) → (parts n).buckets ≡ [] → is_standing_at ss metric_alone n ≡ true
   number-stands n none = ap (λ bs. have_children ss bs && (length bs == 0)) none
 
+  spaced-stands : (h : HistogramOptions) (fixed : List Key) (n : Node) → have_children ts (parts n).buckets ≡ true → is_tree_at ts fixed by_key (out-Node n) ≡ true
+      → list_all (λ b. is_histogram_key h.spacing h.hard (bucket_key b)) (parts n).buckets ≡ true → is_standing_at ss (spaced h) (cut_at cs (spaced h) n) ≡ true
+  spaced-stands h fixed n pass tree fits =
+      let p = parts n in
+      let enough = λ (b : Bucket). nat_le h.min_doc_count (bucket_count b) in
+      let kept = frequent h.min_doc_count p.buckets in
+      let made = λ (b : Bucket). is_histogram_key h.spacing h.hard (bucket_key b) in
+      let keys : list_all made (map (cut_bucket cs) kept) ≡ true = list_all-map made (cut_bucket cs) kept ∙ list_all-filter made enough p.buckets fits in
+      let up : is_ascending (map bucket_key (map (cut_bucket cs) kept)) ≡ true = ap is_ascending (map-map bucket_key (cut_bucket cs) kept) ∙ ascending-filter enough p.buckets (ascending_of ts fixed (out-Node n) tree) in
+      keyed-stands (spaced h) (map (cut_bucket cs) kept) p.error p.full (p.cut + 0) (below-stands kept (returned-pass ts own_kinds (spaced h) p.buckets pass)) (and_from _ _ keys up)
+
   stands-at : (k : Kind) (n : Node) → have_children ts (parts n).buckets ≡ true → is_tree_at ts (fixed_keys k) (shape_of k) (out-Node n) ≡ true → fits_at k (parts n) ≡ true → is_standing_at ss (form_of k) (cut_at cs (form_of k) n) ≡ true
   stands-at (kind.Terms f size shard_size m order i x ms sh) n pass tree fits =
       let p = parts n in
@@ -247,12 +266,12 @@ module _ (name : List ℕ) (cs : List Cutter) (gs fs : List Finisher) (ts ss : L
       (below-stands first (returned-pass ts own_kinds (form_of (kind.Terms f size shard_size m order i x ms sh)) p.buckets pass)) (and_parts (nat_lt p.error (2 ^ 63)) _ both.1).0
   stands-at (kind.Histogram f interval offset m extended hard keyed order ms) n pass tree fits =
       let k = kind.Histogram f interval offset m extended hard keyed order ms in
-      let p = parts n in
-      let kept = frequent m p.buckets in
-      let made = λ (b : Bucket). is_histogram_key interval offset hard (bucket_key b) in
-      let keys : list_all made (map (cut_bucket cs) kept) ≡ true = list_all-map made (cut_bucket cs) kept ∙ list_all-filter made (λ b. nat_le m (bucket_count b)) p.buckets fits in
-      let up : is_ascending (map bucket_key (map (cut_bucket cs) kept)) ≡ true = ap is_ascending (map-map bucket_key (cut_bucket cs) kept) ∙ ascending-filter (λ b. nat_le m (bucket_count b)) p.buckets (ascending_of ts (fixed_keys k) (out-Node n) tree) in
-      keyed-stands (form_of k) (map (cut_bucket cs) kept) p.error p.full (p.cut + 0) (below-stands kept (returned-pass ts own_kinds (form_of k) p.buckets pass)) (and_from _ _ keys up)
+      spaced-stands (record { field = f; spacing = Numbers interval offset; min_doc_count = m; extended = extended; hard = hard; keyed = keyed; order = order; missing = ms })
+      (fixed_keys k) n pass tree fits
+  stands-at (kind.DateHistogram f period zone m extended hard keyed order ms) n pass tree fits =
+      let k = kind.DateHistogram f period zone m extended hard keyed order ms in
+      spaced-stands (record { field = f; spacing = Dates period zone; min_doc_count = m; extended = extended; hard = hard; keyed = keyed; order = order; missing = ms })
+      (fixed_keys k) n pass tree fits
   stands-at (kind.Composite sources size after) n pass tree fits =
       let p = parts n in
       let first = take size (sorted (λ a b. composite_cmp sources (bucket_key a) (bucket_key b)) p.buckets) in
@@ -304,6 +323,7 @@ module _ (name : List ℕ) (cs : List Cutter) (gs fs : List Finisher) (ts ss : L
   nothing-at : (k : Kind) → StaysAs (form_of k) (whole_by ws k (shape_of k) [])
   nothing-at (kind.Terms f size ss m order i x ms sh) = keyed-nothing (form_of (kind.Terms f size ss m order i x ms sh)) (none-taken size _ refl) (none-dropped size _ refl) refl
   nothing-at (kind.Histogram f interval offset m extended hard keyed order ms) = keyed-nothing (form_of (kind.Histogram f interval offset m extended hard keyed order ms)) refl refl refl
+  nothing-at (kind.DateHistogram f period zone m extended hard keyed order ms) = keyed-nothing (form_of (kind.DateHistogram f period zone m extended hard keyed order ms)) refl refl refl
   nothing-at (kind.Composite sources size after) = keyed-nothing (paged sources size) (none-taken size _ refl) refl refl
   nothing-at (kind.Sum f m) = number-nothing
   nothing-at (kind.Min f m) = number-nothing

@@ -7,6 +7,7 @@ use Rattle.std.proofs.lemmas.Bool.{and_parts, and_from, eqb-true, le-leb}
 use Rattle.agg_model.specs.declared.key.Key.{Key}
 use Rattle.agg_model.specs.declared.partial.Bucket.{Bucket}
 use Rattle.agg_model.specs.declared.aggregation.Bounds.{Bounds}
+use Rattle.agg_model.specs.declared.aggregation.Spacing.{Spacing}
 use Rattle.agg_model.specs.declared.aggregation.Kind.{Kind}
 use Rattle.agg_model.specs.declared.aggregation.Order.{Order}
 use Rattle.agg_model.specs.declared.aggregation.OrderBy.{OrderBy}
@@ -27,14 +28,14 @@ all_frequent (b ∷ bs) =
     ap (λ t. cond t (b ∷ frequent 0 bs) (frequent 0 bs)) (le-leb 0 (bucket_count b) (omega arith)) ∙ ap (λ cs. b ∷ cs) (all_frequent bs)
 
 -- a histogram's buckets are those that have enough documents, with gaps
-pub filled-is : (empty : Key → Bucket) (interval offset m : ℕ) (extended hard : Bounds) (bs : List Bucket) → filled empty interval offset m extended hard bs ≡ with_gaps empty interval offset m extended hard (frequent m bs)
-filled-is empty interval offset m extended hard bs = by_minimum (m == 0) refl
+pub filled-is : (empty : Key → Bucket) (spacing : Spacing) (m : ℕ) (extended hard : Bounds) (bs : List Bucket) → filled empty spacing m extended hard bs ≡ with_gaps empty spacing m extended hard (frequent m bs)
+filled-is empty spacing m extended hard bs = by_minimum (m == 0) refl
   where
-    by_minimum : (t : Bool) → (m == 0) ≡ t → cond t (map (bucket_at empty bs) (filled_keys interval offset extended hard (key_numbers bs))) (frequent m bs)
-        ≡ cond t (map (bucket_at empty (frequent m bs)) (filled_keys interval offset extended hard (key_numbers (frequent m bs)))) (frequent m bs)
+    by_minimum : (t : Bool) → (m == 0) ≡ t → cond t (map (bucket_at empty bs) (filled_keys spacing extended hard (key_numbers bs))) (frequent m bs)
+        ≡ cond t (map (bucket_at empty (frequent m bs)) (filled_keys spacing extended hard (key_numbers (frequent m bs)))) (frequent m bs)
     by_minimum true e =
         let all : frequent m bs ≡ bs = ap (λ n. frequent n bs) (eqb-true _ _ e) ∙ all_frequent bs in
-        sym (ap (λ cs. map (bucket_at empty cs) (filled_keys interval offset extended hard (key_numbers cs))) all)
+        sym (ap (λ cs. map (bucket_at empty cs) (filled_keys spacing extended hard (key_numbers cs))) all)
     by_minimum false e = refl
 
 below-filter : (key : Key) (q : Bucket → Bool) (bs : List Bucket) → list_all (λ later. is_lt (key_cmp key later)) (map bucket_key bs) ≡ true → list_all (λ later. is_lt (key_cmp key later)) (map bucket_key (filter q bs)) ≡ true
@@ -87,10 +88,10 @@ module _ (cs : List Cutter) where
     numbers-kept (b ∷ bs) = ap (λ ns. cons_option (number_of_key (bucket_key b)) ns) (numbers-kept bs)
 
     -- their gaps
-    pub gaps-kept : (interval offset m : ℕ) (extended hard : Bounds) (bs : List Bucket) → with_gaps empty interval offset m extended hard (map (cut_bucket cs) bs) ≡ map (cut_bucket cs) (with_gaps empty interval offset m extended hard bs)
-    gaps-kept interval offset m extended hard bs =
-        elim (m == 0) as (λ t. cond t (map (bucket_at empty (map (cut_bucket cs) bs)) (filled_keys interval offset extended hard (key_numbers (map (cut_bucket cs) bs)))) (map (cut_bucket cs) bs)
-        ≡ map (cut_bucket cs) (cond t (map (bucket_at empty bs) (filled_keys interval offset extended hard (key_numbers bs))) bs)) [
-          | true ↦ ap (λ ns. map (bucket_at empty (map (cut_bucket cs) bs)) (filled_keys interval offset extended hard ns)) (numbers-kept bs) ∙ each-kept bs (filled_keys interval offset extended hard (key_numbers bs))
+    pub gaps-kept : (spacing : Spacing) (m : ℕ) (extended hard : Bounds) (bs : List Bucket) → with_gaps empty spacing m extended hard (map (cut_bucket cs) bs) ≡ map (cut_bucket cs) (with_gaps empty spacing m extended hard bs)
+    gaps-kept spacing m extended hard bs =
+        elim (m == 0) as (λ t. cond t (map (bucket_at empty (map (cut_bucket cs) bs)) (filled_keys spacing extended hard (key_numbers (map (cut_bucket cs) bs)))) (map (cut_bucket cs) bs)
+        ≡ map (cut_bucket cs) (cond t (map (bucket_at empty bs) (filled_keys spacing extended hard (key_numbers bs))) bs)) [
+          | true ↦ ap (λ ns. map (bucket_at empty (map (cut_bucket cs) bs)) (filled_keys spacing extended hard ns)) (numbers-kept bs) ∙ each-kept bs (filled_keys spacing extended hard (key_numbers bs))
           | false ↦ refl
         ]

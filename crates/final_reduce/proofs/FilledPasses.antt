@@ -5,6 +5,7 @@ use Rattle.std.proofs.lemmas.Bool.{and_parts, and_from}
 use Rattle.agg_model.specs.declared.key.Key.{Key}
 use Rattle.agg_model.specs.declared.partial.Bucket.{Bucket}
 use Rattle.agg_model.specs.declared.aggregation.Bounds.{Bounds}
+use Rattle.agg_model.specs.declared.aggregation.Spacing.{Spacing}
 use Rattle.agg_evaluation.specs.KeyOrder.{key_eq}
 use Rattle.agg_evaluation.specs.Orders.{bucket_key}
 use Rattle.agg_spec.specs.Filling.{bucket_at, filled_keys}
@@ -25,9 +26,9 @@ module _ (passes : Bucket → Bool) (empty : Key → Bucket) (empties : (key : K
   each-passes bs all [] = refl
   each-passes bs all (key ∷ keys) = and_from _ _ (bucket_at-passes bs all key) (each-passes bs all keys)
 
-  pub gaps-pass : (interval offset m : ℕ) (extended hard : Bounds) (bs : List Bucket) → list_all passes bs ≡ true → list_all passes (with_gaps empty interval offset m extended hard bs) ≡ true
-  gaps-pass interval offset m extended hard bs all =
-      elim (m == 0) as (λ b. list_all passes (cond b (map (bucket_at empty bs) (filled_keys interval offset extended hard (key_numbers bs))) bs) ≡ true) [
-        | true ↦ each-passes bs all (filled_keys interval offset extended hard (key_numbers bs))
+  pub gaps-pass : (spacing : Spacing) (m : ℕ) (extended hard : Bounds) (bs : List Bucket) → list_all passes bs ≡ true → list_all passes (with_gaps empty spacing m extended hard bs) ≡ true
+  gaps-pass spacing m extended hard bs all =
+      elim (m == 0) as (λ b. list_all passes (cond b (map (bucket_at empty bs) (filled_keys spacing extended hard (key_numbers bs))) bs) ≡ true) [
+        | true ↦ each-passes bs all (filled_keys spacing extended hard (key_numbers bs))
         | false ↦ all
       ]

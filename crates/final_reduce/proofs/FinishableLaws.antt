@@ -119,6 +119,7 @@ standing-opened a n h = and_parts _ _ (sym (is_standing-level a n) ∙ h)
 -- the keys of what stands
 pub keys-stand : (k : Kind) (p : Parts) → stands_at (form_of k) p ≡ true → has_histogram_keys k p.buckets ≡ true
 keys-stand (kind.Histogram a b c d x y s o m) p h = (and_parts (has_histogram_keys (kind.Histogram a b c d x y s o m) p.buckets) _ h).0
+keys-stand (kind.DateHistogram a b c d x y s o m) p h = (and_parts (has_histogram_keys (kind.DateHistogram a b c d x y s o m) p.buckets) _ h).0
 keys-stand _ p h = refl
 
 -- what stands of a node with keys, of one with buckets from the start, and of a number
@@ -126,6 +127,7 @@ pub keyed-cut : (cs : List Cutter) (tests : List (Node → Bool)) (k : Kind) (n 
     → is_tree_at tests (fixed_keys k) (shape_of k) (Node-F.Keyed bs error full cut) ≡ true → cut_at cs (form_of k) n ≡ cut_keyed cs (form_of k) (parts n)
 keyed-cut cs tests (kind.Terms f size ss m order i x ms sh) n bs error full cut h = refl
 keyed-cut cs tests (kind.Histogram f i o m x y kd order ms) n bs error full cut h = refl
+keyed-cut cs tests (kind.DateHistogram f p z m x y kd order ms) n bs error full cut h = refl
 keyed-cut cs tests (kind.Composite sources size after) n bs error full cut h = refl
 keyed-cut cs tests _ n bs error full cut h = absurd (false≢true h)
 
@@ -197,6 +199,7 @@ intervals-at a h =
 
 pub no_keys : (k : Kind) → has_histogram_keys k [] ≡ true
 no_keys (kind.Histogram a b c d x y s o m) = refl
+no_keys (kind.DateHistogram a b c d x y s o m) = refl
 no_keys _ = refl
 
 -- the returned buckets have children that pass where all have

@@ -5,6 +5,7 @@ pub mod CutKeeps
 pub mod CutAgrees
 pub mod RangeLaws
 pub mod Intervals
+pub mod Grids
 pub mod KeySteps
 pub mod Filled
 pub mod FillSteps

@@ -1,9 +1,9 @@
 -- The number of buckets of the answer that is made of what stands, one level at a time.
-use Rattle.std.specs.Prelude.{◌≡◌, refl, ℕ, suc, ◌+◌, ◌-◌, ◌*◌, ◌<◌, ◌==◌, Bool, true, false, cond, List, [], ◌∷◌, map, length, sum, sum_by, ℤ, pos, Option, Some, None}
+use Rattle.std.specs.Prelude.{◌≡◌, refl, ℕ, suc, ◌+◌, ◌-◌, ◌*◌, ◌==◌, Bool, true, false, cond, List, [], ◌∷◌, map, length, sum, sum_by, ℤ, pos, Option, Some, None}
 use Rattle.std.specs.List.{list_all, enumerate_from, range_with_len}
 use Rattle.std.specs.Option.{option_map_or}
 use Rattle.std.proofs.Common.{sym, ◌∙◌, ap, arith, ⊎_elim}
-use Rattle.std.proofs.lemmas.Bool.{and_parts, eqb-true, ltb-true}
+use Rattle.std.proofs.lemmas.Bool.{and_parts, eqb-true}
 use Rattle.std.proofs.Math.Nat.{add-mul}
 use Rattle.std.proofs.lemmas.List.{length-map}
 use Rattle.std.proofs.lemmas.List.FromFn.{length-range_with_len}
@@ -20,8 +20,9 @@ use Rattle.agg_model.specs.declared.answer.NodeAnswer.{NodeAnswer, roll-NodeAnsw
 use Rattle.agg_model.specs.declared.aggregation.Agg.{Agg, out-Agg}
 use Rattle.agg_model.specs.declared.aggregation.Agg.TheOpen.{Agg-F}
 use Rattle.agg_model.specs.declared.aggregation.Bounds.{Bounds}
-use Rattle.agg_model.specs.declared.row.Scalar.{Scalar}
-use Rattle.agg_model.specs.declared.aggregation.Order.{Order}
+use Rattle.agg_model.specs.declared.aggregation.Spacing.{Spacing}
+use Rattle.agg_model.specs.declared.aggregation.Spacing.TheVariants.{Numbers, Dates}
+use Rattle.agg_model.specs.Options.{HistogramOptions}
 use Rattle.agg_model.specs.declared.aggregation.Kind.{Kind}
 use Rattle.agg_model.specs.declared.aggregation.Kind.TheVariants as kind
 use Rattle.list_laws.specs.Sorting.{sorted}
@@ -32,7 +33,7 @@ use Rattle.agg_evaluation.specs.Shard.{fixed_keys}
 use Rattle.agg_evaluation.specs.Trees.{is_ascending}
 use Rattle.agg_evaluation.specs.Whole.{Parts, children_at, metric_sum, parts, parts_at, shape_of, whole_bucket, whole_by}
 use Rattle.agg_evaluation.specs.Finishable.{is_histogram_key}
-use Rattle.agg_evaluation.specs.Conditions.{has_interval, has_intervals}
+use Rattle.agg_evaluation.specs.Conditions.{has_interval, has_intervals, is_spaced}
 use Rattle.agg_evaluation.proofs.NodeForms.{out-Keyed, out-Fixed, out-Number}
 use Rattle.agg_evaluation.proofs.AggFolds.{fold_agg-level}
 use Rattle.agg_spec.specs.BucketCount.{Counter, counter, count_each, member_count}
@@ -41,10 +42,11 @@ use Rattle.agg_spec.specs.Filling.{bucket_at, filled_keys}
 use Rattle.agg_spec.specs.Final.{Finisher, finish_bucket, finish_each, empty_bucket, metric_answer, no_metric}
 use Rattle.agg_spec.specs.GapCount.{Plan, plan_each, below_empty, filled_count}
 use Rattle.final_reduce.specs.Counts.{fixed_count, gap_count, gaps_of, member_number, tally, tally_below, tally_of_nothing}
-use Rattle.final_reduce.specs.Standing.{builder, builder_of, built_at, form_of, is_standing, plain_answer, stands_at, with_gaps}
+use Rattle.final_reduce.specs.Standing.{spaced, builder, builder_of, built_at, form_of, is_standing, plain_answer, stands_at, with_gaps}
 use Rattle.final_reduce.specs.Steps.{key_numbers}
 use Rattle.final_reduce.proofs.Filled.{adds_up}
-use Rattle.final_reduce.proofs.SpanLaws.{spans, span-count, span-keys, span-starts, span-holds}
+use Rattle.final_reduce.proofs.SpanLaws.{spans, span-count, span-keys, span-numbered, span-holds}
+use Rattle.final_reduce.proofs.Grids.{spacing-is}
 use Rattle.final_reduce.proofs.FinishableLaws.{intervals-at, standing-opened}
 
 abbrev nil : (A : Type 0) → List A
@@ -133,16 +135,16 @@ module _ (name : List ℕ) (aggs : List Agg) where
   weighed [] = refl
   weighed (b ∷ bs) = omega (arith, weighed bs, sum_by-cons (λ (b : Bucket). plan_each ps b.children) b bs, sum_by-cons weight b bs)
 
-  module _ (interval offset m : ℕ) (extended hard : Bounds) (positive : 0 < interval) where
+  module _ (s : Spacing) (m : ℕ) (extended hard : Bounds) (has : is_spaced s extended hard ≡ true) where
     empty-weight : (key : Key) → weight (empty_bucket fs key) ≡ 1 + below_empty ps
     empty-weight key = ap (λ ns. 1 + plan_each ps ns) (same-nothing aggs)
 
     -- the buckets of a histogram with its gaps filled weigh what those that are there weigh, and each gap
-    gaps-weigh : (bs : List Bucket) → list_all (λ b. is_histogram_key interval offset hard (bucket_key b)) bs ≡ true → is_ascending (map bucket_key bs) ≡ true
-        → sum_by weight (map (bucket_at (empty_bucket fs) bs) (filled_keys interval offset extended hard (key_numbers bs)))
-        ≡ sum_by weight bs + (filled_count interval offset extended hard (key_numbers bs) - length bs) * (1 + below_empty ps)
+    gaps-weigh : (bs : List Bucket) → list_all (λ b. is_histogram_key s hard (bucket_key b)) bs ≡ true → is_ascending (map bucket_key bs) ≡ true
+        → sum_by weight (map (bucket_at (empty_bucket fs) bs) (filled_keys s extended hard (key_numbers bs)))
+        ≡ sum_by weight bs + (filled_count s extended hard (key_numbers bs) - length bs) * (1 + below_empty ps)
     gaps-weigh bs made up =
-        let count = filled_count interval offset extended hard (key_numbers bs) in
+        let count = filled_count s extended hard (key_numbers bs) in
         ⊎_elim
         (λ none.
         let nothing : sum_by weight (map (bucket_at (empty_bucket fs) bs) []) ≡ 0 = refl in
@@ -153,22 +155,22 @@ module _ (name : List ℕ) (aggs : List Agg) where
         let first = some.0 in
         let last = some.1 in
         let span = some.2 in
-        let counts = span-count interval offset positive extended hard bs made first last span in
-        let sums = adds_up interval offset positive (empty_bucket fs) weight (1 + below_empty ps) empty-weight last count first (span-starts interval offset positive extended hard bs made first last span) (sym counts) bs up (span-holds interval offset positive extended hard bs made first last span) in
+        let counts = span-count s extended hard has bs made first last span in
+        let sums = adds_up s (spacing-is s extended hard has) (empty_bucket fs) weight (1 + below_empty ps) empty-weight last count first (span-numbered s extended hard has bs made first last span) (sym counts) bs up (span-holds s extended hard has bs made first last span) in
         let apart : count ≡ (count - length bs) + length bs = let few = sums.1 in omega (arith, few) in
         let product : count * (1 + below_empty ps) ≡ (count - length bs) * (1 + below_empty ps) + length bs * (1 + below_empty ps) = ap (λ n. n * (1 + below_empty ps)) apart ∙ add-mul (count - length bs) (length bs) (1 + below_empty ps) in
         let all = sums.0 in
-        ap (λ ks. sum_by weight (map (bucket_at (empty_bucket fs) bs) ks)) (span-keys interval offset positive extended hard bs made first last span) ∙ omega (arith, all, product))
-        (spans interval offset positive extended hard bs made)
+        ap (λ ks. sum_by weight (map (bucket_at (empty_bucket fs) bs) ks)) (span-keys s extended hard has bs made first last span) ∙ omega (arith, all, product))
+        (spans s extended hard has bs made)
 
-    filled-weigh : (bs : List Bucket) → list_all (λ b. is_histogram_key interval offset hard (bucket_key b)) bs ≡ true → is_ascending (map bucket_key bs) ≡ true
-        → (length bs + tally_below ps bs) + gaps_of interval offset m extended hard bs * (1 + below_empty ps) ≡ sum_by weight (with_gaps (empty_bucket fs) interval offset m extended hard bs)
+    filled-weigh : (bs : List Bucket) → list_all (λ b. is_histogram_key s hard (bucket_key b)) bs ≡ true → is_ascending (map bucket_key bs) ≡ true
+        → (length bs + tally_below ps bs) + gaps_of s m extended hard bs * (1 + below_empty ps) ≡ sum_by weight (with_gaps (empty_bucket fs) s m extended hard bs)
     filled-weigh bs made up = by_minimum (m == 0)
       where
-        by_minimum : (t : Bool) → (length bs + tally_below ps bs) + cond t (filled_count interval offset extended hard (key_numbers bs) - length bs) 0 * (1 + below_empty ps)
-            ≡ sum_by weight (cond t (map (bucket_at (empty_bucket fs) bs) (filled_keys interval offset extended hard (key_numbers bs))) bs)
+        by_minimum : (t : Bool) → (length bs + tally_below ps bs) + cond t (filled_count s extended hard (key_numbers bs) - length bs) 0 * (1 + below_empty ps)
+            ≡ sum_by weight (cond t (map (bucket_at (empty_bucket fs) bs) (filled_keys s extended hard (key_numbers bs))) bs)
         by_minimum true =
-            let gaps = filled_count interval offset extended hard (key_numbers bs) - length bs in
+            let gaps = filled_count s extended hard (key_numbers bs) - length bs in
             ap (λ n. n + gaps * (1 + below_empty ps)) (weighed bs) ∙ sym (gaps-weigh bs made up)
         by_minimum false = no_gaps _ (below_empty ps) ∙ weighed bs
 
@@ -200,14 +202,16 @@ module _ (name : List ℕ) (aggs : List Agg) where
       ap (counted k) (metric-none metrics) ∙ (λ i. member_count-is k (nil BucketAnswer) i + 0) ∙ sym (no_gaps (standing k []) (below_empty ps))
       ∙ ap (λ bs. standing k bs + 0 * (1 + below_empty ps)) (sym (no_bucket bs none))
 
-  histogram-counted : (f interval offset m : ℕ) (extended hard : Bounds) (keyed : Bool) (order : List Order) (missing : Option Scalar) (p : Parts) → 0 < interval
-      → list_all (λ b. is_histogram_key interval offset hard (bucket_key b)) p.buckets ≡ true → is_ascending (map bucket_key p.buckets) ≡ true → Counts (kind.Histogram f interval offset m extended hard keyed order missing) p
-  histogram-counted f interval offset m extended hard keyed order missing p positive made up =
-      let k = kind.Histogram f interval offset m extended hard keyed order missing in
-      let cmp = bucket_cmp (map (λ (f : Finisher). f.kind) fs) order in
-      let all = with_gaps (empty_bucket fs) interval offset m extended hard p.buckets in
+  histogram-counted : (k : Kind) (h : HistogramOptions) → ((n : ℕ) → member_number k n ≡ n) → (p : Parts) → is_spaced h.spacing h.extended h.hard ≡ true
+      → list_all (λ b. is_histogram_key h.spacing h.hard (bucket_key b)) p.buckets ≡ true → is_ascending (map bucket_key p.buckets) ≡ true
+      → counted k (out-NodeAnswer (built_at name fs (spaced h) p)).buckets ≡ standing k p.buckets + gap_count (spaced h) p.buckets * (1 + below_empty ps)
+  histogram-counted k h members p has made up =
+      let cmp = bucket_cmp (map (λ (f : Finisher). f.kind) fs) h.order in
+      let all = with_gaps (empty_bucket fs) h.spacing h.min_doc_count h.extended h.hard p.buckets in
       ap (counted k) (buckets_of name (map (finish_bucket fs None) (sorted cmp all)) (pos 0) 0 no_metric)
-      ∙ counted-built k (λ covered. None) (sorted cmp all) ∙ weighed (sorted cmp all) ∙ sum_by-sorted cmp weight all ∙ sym (filled-weigh interval offset m extended hard positive p.buckets made up)
+      ∙ counted-built k (λ covered. None) (sorted cmp all) ∙ ap (λ n. n + tally_below ps (sorted cmp all)) (members (length (sorted cmp all)))
+      ∙ weighed (sorted cmp all) ∙ sum_by-sorted cmp weight all ∙ sym (filled-weigh h.spacing h.min_doc_count h.extended h.hard has p.buckets made up)
+      ∙ ap (λ n. (n + tally_below ps p.buckets) + gap_count (spaced h) p.buckets * (1 + below_empty ps)) (sym (members (length p.buckets)))
 
   counts-at : (k : Kind) (p : Parts) → has_interval k ≡ true → stands_at (form_of k) p ≡ true → Counts k p
   counts-at (kind.Terms f size ss m order i x ms sh) p has stands =
@@ -215,8 +219,15 @@ module _ (name : List ℕ) (aggs : List Agg) where
       plain-counted (kind.Terms f size ss m order i x ms sh) (λ covered. Some (error_of covered)) p.buckets _
       (buckets_of name (map (λ b. finish_bucket fs (Some (error_of b.covered)) b) p.buckets) (error_of 0) p.cut no_metric)
   counts-at (kind.Histogram f interval offset m extended hard keyed order ms) p has stands =
-      let both = and_parts (list_all (λ b. is_histogram_key interval offset hard (bucket_key b)) p.buckets) (is_ascending (map bucket_key p.buckets)) stands in
-      histogram-counted f interval offset m extended hard keyed order ms p (ltb-true 0 interval has) both.0 both.1
+      let k = kind.Histogram f interval offset m extended hard keyed order ms in
+      let s = Numbers interval offset in
+      let both = and_parts (list_all (λ b. is_histogram_key s hard (bucket_key b)) p.buckets) (is_ascending (map bucket_key p.buckets)) stands in
+      histogram-counted k (record { field = f; spacing = s; min_doc_count = m; extended = extended; hard = hard; keyed = keyed; order = order; missing = ms }) (λ n. refl) p has both.0 both.1
+  counts-at (kind.DateHistogram f period zone m extended hard keyed order ms) p has stands =
+      let k = kind.DateHistogram f period zone m extended hard keyed order ms in
+      let s = Dates period zone in
+      let both = and_parts (list_all (λ b. is_histogram_key s hard (bucket_key b)) p.buckets) (is_ascending (map bucket_key p.buckets)) stands in
+      histogram-counted k (record { field = f; spacing = s; min_doc_count = m; extended = extended; hard = hard; keyed = keyed; order = order; missing = ms }) (λ n. refl) p has both.0 both.1
   counts-at (kind.Sum f m) p has stands = metric-counted (kind.Sum f m) p.buckets p.metrics stands
   counts-at (kind.Min f m) p has stands = metric-counted (kind.Min f m) p.buckets p.metrics stands
   counts-at (kind.Max f m) p has stands = metric-counted (kind.Max f m) p.buckets p.metrics stands
@@ -267,6 +278,7 @@ module _ (name : List ℕ) (aggs : List Agg) where
   nothing-at : (k : Kind) → FirstCounted k (parts (whole_by ws k (shape_of k) [])).buckets
   nothing-at (kind.Terms f size ss m order i x ms sh) = none-counted (kind.Terms f size ss m order i x ms sh) _ no_keyed refl
   nothing-at (kind.Histogram f interval offset m extended hard keyed order ms) = none-counted (kind.Histogram f interval offset m extended hard keyed order ms) _ no_keyed refl
+  nothing-at (kind.DateHistogram f period zone m extended hard keyed order ms) = none-counted (kind.DateHistogram f period zone m extended hard keyed order ms) _ no_keyed refl
   nothing-at (kind.Composite sources size after) = none-counted (kind.Composite sources size after) _ no_keyed refl
   nothing-at (kind.Sum f m) = none-counted (kind.Sum f m) _ no_number refl
   nothing-at (kind.Min f m) = none-counted (kind.Min f m) _ no_number refl

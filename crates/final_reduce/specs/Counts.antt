@@ -1,8 +1,9 @@
 -- The number of buckets of the answer that is made of what stands ('Search settings', `search.max_buckets`): bucket after bucket,
--- and gaps by a quotient.
+-- and gaps by the numbers of intervals.
 use Rattle.std.specs.Prelude.{ℕ, ◌+◌, ◌-◌, ◌==◌, if◌then◌else◌, min, List, [], ◌∷◌, length, sum_by}
 use Rattle.std.specs.Option.{option_map_or}
 use Rattle.agg_model.specs.declared.aggregation.Bounds.{Bounds}
+use Rattle.agg_model.specs.declared.aggregation.Spacing.{Spacing}
 use Rattle.agg_model.specs.declared.aggregation.Agg.{Agg}
 use Rattle.agg_model.specs.declared.aggregation.Kind.{Kind}
 use Rattle.agg_model.specs.Options.{Options, options_of}
@@ -27,14 +28,13 @@ abbrev pub tally_below : List Plan → List Bucket → ℕ
 tally_below children bs = sum_by (λ b. plan_each children b.children) bs
 
 -- how many keys of a histogram have no bucket of their own
-abbrev pub gaps_of : ℕ → ℕ → ℕ → Bounds → Bounds → List Bucket → ℕ
-gaps_of interval offset min_doc_count extended hard bs =
-    if min_doc_count == 0 then filled_count interval offset extended hard (key_numbers bs) - length bs else 0
+abbrev pub gaps_of : Spacing → ℕ → Bounds → Bounds → List Bucket → ℕ
+gaps_of spacing min_doc_count extended hard bs = if min_doc_count == 0 then filled_count spacing extended hard (key_numbers bs) - length bs else 0
 
 -- how many buckets fill gaps
 abbrev pub gap_count : Form → List Bucket → ℕ
 gap_count (ranked t) bs = 0
-gap_count (spaced h) bs = gaps_of h.interval h.offset h.min_doc_count h.extended h.hard bs
+gap_count (spaced h) bs = gaps_of h.spacing h.min_doc_count h.extended h.hard bs
 gap_count (paged sources size) bs = 0
 gap_count as_it_is bs = 0
 gap_count metric_alone bs = 0

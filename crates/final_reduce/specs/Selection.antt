@@ -23,7 +23,8 @@ finish_chosen children c = finish_bucket children c.error c.bucket
 
 -- the answer that is made of a selection
 abbrev pub answer_of : List ℕ → List Finisher → Selected → NodeAnswer
-answer_of name children s = roll-NodeAnswer (record { name = name; buckets = map (finish_chosen children) s.chosen; error = s.error; other = s.other; metric = s.metric })
+answer_of name children s =
+    roll-NodeAnswer (record { name = name; buckets = map (finish_chosen children) s.chosen; error = s.error; other = s.other; metric = s.metric })
 
 -- the buckets have children that pass
 abbrev pub chosen_pass : List (Node → Bool) → List Chosen → Bool

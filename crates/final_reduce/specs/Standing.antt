@@ -9,6 +9,7 @@ use Rattle.agg_model.specs.declared.partial.Node.TheVariants.{Keyed, Fixed}
 use Rattle.agg_model.specs.declared.answer.NodeAnswer.{NodeAnswer, roll-NodeAnswer}
 use Rattle.agg_model.specs.declared.aggregation.Bounds.{Bounds}
 use Rattle.agg_model.specs.declared.aggregation.Order.{Order}
+use Rattle.agg_model.specs.declared.aggregation.Spacing.{Spacing}
 use Rattle.agg_model.specs.declared.aggregation.Kind.{Kind}
 use Rattle.agg_model.specs.declared.aggregation.CompositeSource.{CompositeSource}
 use Rattle.agg_model.specs.Options.{Options, TermsOptions, HistogramOptions, options_of}
@@ -124,20 +125,24 @@ terms_built name children order p =
     })
 
 -- with a minimum of 0 the gaps between the buckets are filled
-abbrev pub with_gaps : (Key → Bucket) → ℕ → ℕ → ℕ → Bounds → Bounds → List Bucket → List Bucket
-with_gaps empty interval offset min_doc_count extended hard buckets =
-    if min_doc_count == 0 then map (bucket_at empty buckets) (filled_keys interval offset extended hard (key_numbers buckets)) else buckets
+abbrev pub with_gaps : (Key → Bucket) → Spacing → ℕ → Bounds → Bounds → List Bucket → List Bucket
+with_gaps empty spacing min_doc_count extended hard buckets =
+    if min_doc_count == 0 then map (bucket_at empty buckets) (filled_keys spacing extended hard (key_numbers buckets)) else buckets
 
 -- the answer of buckets as they stand
 abbrev pub plain_answer : List ℕ → List Finisher → List Bucket → NodeAnswer
 plain_answer name children buckets = buckets_answer name (map (finish_bucket children None) buckets)
 
+-- the answer of a histogram: its gaps are filled, and then its buckets are sorted
+abbrev pub spaced_built : List ℕ → List Finisher → Spacing → ℕ → Bounds → Bounds → List Order → List Bucket → NodeAnswer
+spaced_built name children spacing min_doc_count extended hard order buckets =
+    plain_answer name children (sorted (bucket_cmp (map (λ c. c.kind) children) order)
+    (with_gaps (empty_bucket children) spacing min_doc_count extended hard buckets))
+
 -- the answer that is made of what stands: no bucket is left out any more
 abbrev pub built_at : List ℕ → List Finisher → Form → Parts → NodeAnswer
 built_at name children (ranked t) p = terms_built name children t.order p
-built_at name children (spaced h) p =
-    plain_answer name children (sorted (bucket_cmp (map (λ c. c.kind) children) h.order)
-    (with_gaps (empty_bucket children) h.interval h.offset h.min_doc_count h.extended h.hard p.buckets))
+built_at name children (spaced h) p = spaced_built name children h.spacing h.min_doc_count h.extended h.hard h.order p.buckets
 built_at name children (paged sources size) p = plain_answer name children p.buckets
 built_at name children as_it_is p = plain_answer name children p.buckets
 built_at name children metric_alone p = metric_answer name p.metrics
@@ -155,7 +160,7 @@ builder = fold_agg builder_of
 -- what stands has errors that are signed numbers, and the keys of histograms in order; beside a number there is no bucket
 abbrev pub stands_at : Form → Parts → Bool
 stands_at (ranked t) p = nat_lt p.error (2 ^ 63)
-stands_at (spaced h) p = list_all (λ b. is_histogram_key h.interval h.offset h.hard (bucket_key b)) p.buckets && is_ascending (map bucket_key p.buckets)
+stands_at (spaced h) p = list_all (λ b. is_histogram_key h.spacing h.hard (bucket_key b)) p.buckets && is_ascending (map bucket_key p.buckets)
 stands_at (paged sources size) p = true
 stands_at as_it_is p = true
 stands_at metric_alone p = length p.buckets == 0

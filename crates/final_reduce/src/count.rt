@@ -1,5 +1,5 @@
-// The number of buckets of the answer that is made of what stands, before any of it is built: gaps of a histogram by a quotient.
-ghost use Rattle.std.specs.Prelude.{◌≡◌, ◌+◌, ◌*◌, ◌<◌, min, IsTrue, map};
+// The number of buckets of the answer that is made of what stands, before any of it is built: gaps of a histogram by the numbers of its intervals.
+ghost use Rattle.std.specs.Prelude.{◌≡◌, ◌+◌, ◌*◌, min, IsTrue, map};
 ghost use Rattle.std.specs.List.{list_all};
 ghost use Rattle.agg_model.specs.declared.aggregation.Agg.{out-Agg};
 ghost use Rattle.agg_evaluation.specs.Orders.{bucket_key};
@@ -9,12 +9,13 @@ ghost use Rattle.agg_spec.specs.BucketCount.{greatest_count};
 ghost use Rattle.agg_spec.specs.GapCount.{below_empty, plan_each};
 ghost use Rattle.bucket_order.specs.Kinds.{kind_of};
 ghost use Rattle.agg_evaluation.specs.Finishable.{has_histogram_keys, is_histogram_key};
-ghost use Rattle.agg_evaluation.specs.Conditions.{has_interval, has_intervals};
+ghost use Rattle.agg_evaluation.specs.Conditions.{has_interval, has_intervals, is_spaced};
 ghost use Rattle.final_reduce.specs.Standing.{form_of, is_standing};
 ghost use Rattle.final_reduce.specs.Counts.{fixed_count, gap_count as count_of_gaps, gaps_of, member_number, tally, tally_below, tally_of_nothing};
 
-use crate::spans::{Grid, filled_number};
-use agg_model::{Agg, Bucket, Kind, List, Node};
+use crate::grid::Grid;
+use crate::spans::filled_number;
+use agg_model::{Agg, Bucket, Kind, List, Node, Spacing};
 
 fn saturated(number: u128) -> u64
     ensures { result ≡ min number greatest_count }
@@ -43,6 +44,7 @@ fn member_count(kind: &Kind, buckets: u64) -> u64
         | Kind::ReverseNested { .. } => 0,
         Kind::Terms { .. }
         | Kind::Histogram { .. }
+        | Kind::DateHistogram { .. }
         | Kind::Filters { .. }
         | Kind::Composite { .. }
         | Kind::Sum { .. }
@@ -69,6 +71,7 @@ fn fixed_number(kind: &Kind) -> u64
         | Kind::ReverseNested { .. } => 1,
         Kind::Terms { .. }
         | Kind::Histogram { .. }
+        | Kind::DateHistogram { .. }
         | Kind::Composite { .. }
         | Kind::Sum { .. }
         | Kind::Min { .. }
@@ -79,9 +82,9 @@ fn fixed_number(kind: &Kind) -> u64
 }
 
 fn gaps_between(grid: Grid, min_doc_count: u64, buckets: &[Bucket]) -> u64
-    requires positive { 0 < grid.interval }
-    requires keys { IsTrue (list_all (λ b. is_histogram_key grid.interval grid.offset grid.hard (bucket_key b)) buckets.now) }
-    ensures { result ≡ min (gaps_of grid.interval grid.offset min_doc_count grid.extended grid.hard buckets.now) greatest_count }
+    requires spaced { IsTrue (is_spaced grid.spacing grid.extended grid.hard) }
+    requires keys { IsTrue (list_all (λ b. is_histogram_key grid.spacing grid.hard (bucket_key b)) buckets.now) }
+    ensures { result ≡ min (gaps_of grid.spacing min_doc_count grid.extended grid.hard buckets.now) greatest_count }
 {
     if min_doc_count > 0 {
         return 0;
@@ -105,8 +108,28 @@ fn gap_count(kind: &Kind, buckets: &[Bucket]) -> u64
             ..
         } => {
             let grid = Grid {
-                interval: *interval,
-                offset: *offset,
+                spacing: Spacing::Numbers {
+                    interval: *interval,
+                    offset: *offset,
+                },
+                extended: *extended,
+                hard: *hard,
+            };
+            gaps_between(grid, *min_doc_count, buckets)
+        }
+        Kind::DateHistogram {
+            period,
+            zone,
+            min_doc_count,
+            extended,
+            hard,
+            ..
+        } => {
+            let grid = Grid {
+                spacing: Spacing::Dates {
+                    period: *period,
+                    zone: *zone,
+                },
                 extended: *extended,
                 hard: *hard,
             };

@@ -16,7 +16,6 @@ pub(crate) fn count_error(order: &List<Order>, error: u64, covered: u64, full: u
     match first.by {
         OrderBy::Key => 0,
         OrderBy::Count if first.descending => error.saturating_sub(covered) as i64,
-        _ if full > 0 => -1,
-        _ => 0,
+        OrderBy::Count | OrderBy::Child(_) => { if full > 0 { -1 } else { 0 } }
     }
 }

@@ -1,5 +1,5 @@
 // The buckets of a histogram.
-ghost use Rattle.std.specs.Prelude.{◌≡◌, ◌<◌, IfOk, OnOk, IsTrue, map};
+ghost use Rattle.std.specs.Prelude.{◌≡◌, IfOk, OnOk, IsTrue, map};
 ghost use Rattle.std.specs.List.{list_all};
 ghost use Rattle.agg_model.specs.declared.key.Key.TheVariants.{Whole};
 ghost use Rattle.agg_evaluation.specs.KeyOrder.{key_eq};
@@ -9,11 +9,13 @@ ghost use Rattle.agg_evaluation.specs.Trees.{is_ascending};
 ghost use Rattle.agg_spec.specs.Filling.{bucket_at, filled_keys};
 ghost use Rattle.agg_spec.specs.Final.{empty_bucket as empty_bucket_of, finisher};
 ghost use Rattle.bucket_order.specs.Kinds.{child_kinds};
+ghost use Rattle.agg_evaluation.specs.Conditions.{is_spaced};
 ghost use Rattle.agg_evaluation.specs.Finishable.{is_histogram_key};
 ghost use Rattle.final_reduce.specs.Standing.{with_gaps};
 ghost use Rattle.final_reduce.specs.Steps.{key_numbers, left_by, taken};
 
-use crate::spans::{Grid, filled_span};
+use crate::grid::{Grid, start_at};
+use crate::spans::filled_span;
 use agg_model::{Agg, Bucket, Key, List, Order};
 use bucket_order::sort_buckets;
 use partial_result::empty_nodes;
@@ -37,7 +39,7 @@ fn is_key(bucket: &Bucket, key: i128) -> bool
 {
     match &bucket.key {
         Key::Whole(number) => *number == key,
-        _ => false,
+        Key::Null | Key::Flag(_) | Key::Word(_) | Key::Fixed(_) | Key::Many(_) => false,
     }
 }
 
@@ -68,20 +70,22 @@ fn filled_buckets(
     grid: Grid,
     buckets: List<Bucket>,
 ) -> Result<Vec<Bucket>, AllocError>
-    requires positive { 0 < grid.interval }
-    requires keys { IsTrue (list_all (λ b. is_histogram_key grid.interval grid.offset grid.hard (bucket_key b)) buckets) }
+    requires spaced { IsTrue (is_spaced grid.spacing grid.extended grid.hard) }
+    requires keys { IsTrue (list_all (λ b. is_histogram_key grid.spacing grid.hard (bucket_key b)) buckets) }
     requires ascending { IsTrue (is_ascending (map bucket_key buckets)) }
-    ensures { IfOk result (λ bs. bs.items ≡ map (bucket_at (empty_bucket_of (map finisher children.now)) buckets) (filled_keys grid.interval grid.offset grid.extended grid.hard (key_numbers buckets))) }
+    ensures { IfOk result (λ bs. bs.items
+        ≡ map (bucket_at (empty_bucket_of (map finisher children.now)) buckets) (filled_keys grid.spacing grid.extended grid.hard (key_numbers buckets))) }
 {
     let mut filled = Vec::new(alloc);
     let Some(span) = filled_span(grid, buckets.as_slice()) else {
         return Ok(filled);
     };
     let mut rest = VecDeque::from_vec(buckets.into_vec());
-    let mut key = span.first;
-    while key <= span.last {
+    let mut number = span.first;
+    while number <= span.last {
+        let key = start_at(grid, number);
         filled.push(take_bucket(alloc, children, key, &mut rest)?)?;
-        key += i128::from(grid.interval);
+        number += 1;
     }
     Ok(filled)
 }
@@ -96,10 +100,11 @@ pub(crate) fn histogram_buckets(
     order: &List<Order>,
     buckets: List<Bucket>,
 ) -> Result<List<Bucket>, AllocError>
-    requires positive { 0 < grid.interval }
-    requires keys { IsTrue (list_all (λ b. is_histogram_key grid.interval grid.offset grid.hard (bucket_key b)) buckets) }
+    requires spaced { IsTrue (is_spaced grid.spacing grid.extended grid.hard) }
+    requires keys { IsTrue (list_all (λ b. is_histogram_key grid.spacing grid.hard (bucket_key b)) buckets) }
     requires ascending { IsTrue (is_ascending (map bucket_key buckets)) }
-    ensures { IfOk result (λ bs. bs ≡ sorted (bucket_cmp (child_kinds children.now) order.now) (with_gaps (empty_bucket_of (map finisher children.now)) grid.interval grid.offset min_doc_count grid.extended grid.hard buckets)) }
+    ensures { IfOk result (λ bs. bs ≡ sorted (bucket_cmp (child_kinds children.now) order.now)
+        (with_gaps (empty_bucket_of (map finisher children.now)) grid.spacing min_doc_count grid.extended grid.hard buckets)) }
 {
     let mut filled = gaps_filled(alloc, children, grid, min_doc_count, buckets)?;
     sort_buckets(children, order, &mut filled)?;
@@ -113,10 +118,11 @@ fn gaps_filled(
     min_doc_count: u64,
     buckets: List<Bucket>,
 ) -> Result<Vec<Bucket>, AllocError>
-    requires positive { 0 < grid.interval }
-    requires keys { IsTrue (list_all (λ b. is_histogram_key grid.interval grid.offset grid.hard (bucket_key b)) buckets) }
+    requires spaced { IsTrue (is_spaced grid.spacing grid.extended grid.hard) }
+    requires keys { IsTrue (list_all (λ b. is_histogram_key grid.spacing grid.hard (bucket_key b)) buckets) }
     requires ascending { IsTrue (is_ascending (map bucket_key buckets)) }
-    ensures { IfOk result (λ bs. bs.items ≡ with_gaps (empty_bucket_of (map finisher children.now)) grid.interval grid.offset min_doc_count grid.extended grid.hard buckets) }
+    ensures { IfOk result (λ bs. bs.items
+        ≡ with_gaps (empty_bucket_of (map finisher children.now)) grid.spacing min_doc_count grid.extended grid.hard buckets) }
 {
     if min_doc_count == 0 {
         return filled_buckets(alloc, children, grid, buckets);

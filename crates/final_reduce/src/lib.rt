@@ -1,5 +1,5 @@
 //! The final answer to a search from the whole of the shard answers (Elasticsearch Reference 8, 'Aggregations': the
-//! reduce phase; 'Terms aggregation', 'Histogram aggregation', 'Composite aggregation').
+//! reduce phase; 'Terms aggregation', 'Histogram aggregation', 'Date histogram aggregation', 'Composite aggregation').
 #![tactic(auto)]
 
 mod answer;
@@ -9,6 +9,7 @@ mod cut;
 mod errors;
 mod filling;
 mod finishing;
+mod grid;
 mod parts;
 mod range;
 mod returned;

@@ -1,7 +1,8 @@
 // Whether each number that an answer prints lies in signed 64 bits.
 ghost use Rattle.std.specs.Prelude.{◌≡◌, IfOk, map, flat_map, string_bytes, option_map};
 ghost use Rattle.std.specs.List.{list_all};
-ghost use Rattle.agg_spec.specs.RangeCheck.{is_in_range as in_range, key_in_range as is_key_in_range, sum_in_range as is_sum_in_range, checker, check_each as checked_each, check_bucket as checked_bucket, first_path};
+ghost use Rattle.agg_spec.specs.RangeCheck.{is_in_range as in_range, key_in_range as is_key_in_range, sum_in_range as is_sum_in_range};
+ghost use Rattle.agg_spec.specs.RangeCheck.{checker, check_each as checked_each, check_bucket as checked_bucket, first_path};
 ghost use Rattle.agg_model.specs.declared.aggregation.Agg.{out-Agg};
 ghost use Rattle.final_reduce.specs.Paths.{path_bytes, checked_inside};
 
@@ -21,7 +22,7 @@ fn key_in_range(key: &Key) -> bool
     match key {
         Key::Whole(number) => is_in_range(*number),
         Key::Many(parts) => parts_in_range(parts),
-        _ => true,
+        Key::Null | Key::Flag(_) | Key::Word(_) | Key::Fixed(_) => true,
     }
 }
 
@@ -45,6 +46,7 @@ fn sum_in_range(kind: &Kind, sum: i128) -> bool
         Kind::Sum { .. } | Kind::Avg { .. } => is_in_range(sum),
         Kind::Terms { .. }
         | Kind::Histogram { .. }
+        | Kind::DateHistogram { .. }
         | Kind::Filters { .. }
         | Kind::Filter { .. }
         | Kind::Missing { .. }
@@ -103,7 +105,8 @@ fn check_node(alloc: Global, agg: &Agg, node: &NodeAnswer) -> Result<Option<Stri
 // The sum comes before the buckets.
 #[cycle(range)]
 fn check_inside(alloc: Global, agg: &Agg, node: &NodeAnswer) -> Result<Option<String>, AllocError>
-    ensures { IfOk result (λ path. option_map string_bytes path ≡ first_path (checked_inside (map checker (out-Agg agg.now).children) (out-Agg agg.now).kind node.now)) }
+    ensures { IfOk result (λ path. option_map string_bytes path
+        ≡ first_path (checked_inside (map checker (out-Agg agg.now).children) (out-Agg agg.now).kind node.now)) }
 {
     if !sum_in_range(&agg.kind, node.metric.sum) {
         return Ok(Some(String::new(alloc)));

@@ -30,7 +30,7 @@ pub(crate) fn returned_buckets(agg: &Agg, buckets: List<Bucket>) -> Result<Retur
             order,
             ..
         } => returned_terms(&agg.children, *size, *min_doc_count, order, buckets),
-        Kind::Histogram { min_doc_count, .. } => {
+        Kind::Histogram { min_doc_count, .. } | Kind::DateHistogram { min_doc_count, .. } => {
             let mut frequent = buckets.into_vec();
             keep_frequent(*min_doc_count, &mut frequent);
             Ok(all_of(List::from_vec(frequent)))

@@ -1,17 +1,20 @@
 // What an answer to one aggregation is made of: the buckets that stand, with gaps filled, and the numbers beside them.
 ghost use Rattle.std.specs.Prelude.{◌≡◌, ◌<◌, ◌^◌, List as Items, ℕ, IfOk, IsTrue, map, option_to_list, None, []};
-ghost use Rattle.agg_evaluation.specs.Trees.{have_children};
+ghost use Rattle.std.specs.List.{list_all};
+ghost use Rattle.agg_evaluation.specs.Orders.{bucket_key};
+ghost use Rattle.agg_evaluation.specs.Trees.{have_children, is_ascending};
+ghost use Rattle.agg_evaluation.specs.Finishable.{is_histogram_key};
 ghost use Rattle.agg_model.specs.declared.aggregation.Agg.{out-Agg};
 ghost use Rattle.agg_spec.specs.Final.{no_metric as metric_of_nothing, buckets_answer, metric_answer, finish_bucket};
-ghost use Rattle.agg_evaluation.specs.Conditions.{has_intervals};
-ghost use Rattle.final_reduce.specs.Standing.{builder, is_standing, terms_built};
+ghost use Rattle.agg_evaluation.specs.Conditions.{has_intervals, is_spaced};
+ghost use Rattle.final_reduce.specs.Standing.{builder, is_standing, spaced_built, terms_built};
 ghost use Rattle.final_reduce.specs.Selection.{answer_of, chosen_bucket, chosen_pass, chosen_term};
 
 use crate::errors::count_error;
 use crate::filling::histogram_buckets;
+use crate::grid::Grid;
 use crate::parts::{NodeParts, into_parts};
-use crate::spans::Grid;
-use agg_model::{Agg, Bucket, Kind, List, Metric, Node, Order};
+use agg_model::{Agg, Bucket, Kind, List, Metric, Node, Order, Spacing};
 use std::alloc::{AllocError, Global};
 
 /// A bucket that is returned, with its error where it is one of terms.
@@ -80,7 +83,9 @@ fn select_terms(
 ) -> Result<Selected, AllocError>
     requires children { IsTrue (have_children (map is_standing children.now) parts.buckets) }
     requires error { parts.error < 2 ^ 63 }
-    ensures answer { IfOk result (λ s. (name : Items ℕ) → answer_of name (map builder children.now) s ≡ terms_built name (map builder children.now) order.now (record { buckets = parts.buckets; error = parts.error; full = parts.full; cut = parts.cut; metrics = [] })) }
+    ensures answer { IfOk result (λ s. (name : Items ℕ) → answer_of name (map builder children.now) s
+        ≡ terms_built name (map builder children.now) order.now
+        (record { buckets = parts.buckets; error = parts.error; full = parts.full; cut = parts.cut; metrics = [] })) }
     ensures children { IfOk result (λ s. IsTrue (chosen_pass (map is_standing children.now) s.chosen)) }
 {
     let error = count_error(order, parts.error, 0, parts.full);
@@ -98,7 +103,8 @@ fn select_buckets(
     buckets: List<Bucket>,
 ) -> Result<Selected, AllocError>
     requires children { IsTrue (have_children (map is_standing children.now) buckets) }
-    ensures answer { IfOk result (λ s. (name : Items ℕ) → answer_of name (map builder children.now) s ≡ buckets_answer name (map (finish_bucket (map builder children.now) None) buckets)) }
+    ensures answer { IfOk result (λ s. (name : Items ℕ) → answer_of name (map builder children.now) s
+        ≡ buckets_answer name (map (finish_bucket (map builder children.now) None) buckets)) }
     ensures children { IfOk result (λ s. IsTrue (chosen_pass (map is_standing children.now) s.chosen)) }
 {
     Ok(Selected {
@@ -107,6 +113,27 @@ fn select_buckets(
         other: 0,
         metric: no_metric(),
     })
+}
+
+// The buckets of a histogram, with its gaps filled.
+fn select_filled(
+    alloc: Global,
+    children: &List<Agg>,
+    grid: Grid,
+    min_doc_count: u64,
+    order: &List<Order>,
+    buckets: List<Bucket>,
+) -> Result<Selected, AllocError>
+    requires spaced { IsTrue (is_spaced grid.spacing grid.extended grid.hard) }
+    requires keys { IsTrue (list_all (λ b. is_histogram_key grid.spacing grid.hard (bucket_key b)) buckets) }
+    requires ascending { IsTrue (is_ascending (map bucket_key buckets)) }
+    requires children { IsTrue (have_children (map is_standing children.now) buckets) }
+    ensures answer { IfOk result (λ s. (name : Items ℕ) → answer_of name (map builder children.now) s
+        ≡ spaced_built name (map builder children.now) grid.spacing min_doc_count grid.extended grid.hard order.now buckets) }
+    ensures children { IfOk result (λ s. IsTrue (chosen_pass (map is_standing children.now) s.chosen)) }
+{
+    let filled = histogram_buckets(alloc, children, grid, min_doc_count, order, buckets)?;
+    select_buckets(alloc, children, filled)
 }
 
 fn select_metric(alloc: Global, children: &List<Agg>, metric: Option<Metric>) -> Selected
@@ -144,20 +171,47 @@ pub(crate) fn select(alloc: Global, agg: &Agg, node: Node) -> Result<Selected, A
             ..
         } => {
             let grid = Grid {
-                interval: *interval,
-                offset: *offset,
+                spacing: Spacing::Numbers {
+                    interval: *interval,
+                    offset: *offset,
+                },
                 extended: *extended,
                 hard: *hard,
             };
-            let buckets = histogram_buckets(
+            select_filled(
                 alloc,
                 &agg.children,
                 grid,
                 *min_doc_count,
                 order,
                 parts.buckets,
-            )?;
-            select_buckets(alloc, &agg.children, buckets)
+            )
+        }
+        Kind::DateHistogram {
+            period,
+            zone,
+            min_doc_count,
+            extended,
+            hard,
+            order,
+            ..
+        } => {
+            let grid = Grid {
+                spacing: Spacing::Dates {
+                    period: *period,
+                    zone: *zone,
+                },
+                extended: *extended,
+                hard: *hard,
+            };
+            select_filled(
+                alloc,
+                &agg.children,
+                grid,
+                *min_doc_count,
+                order,
+                parts.buckets,
+            )
         }
         Kind::Composite { .. }
         | Kind::Filters { .. }

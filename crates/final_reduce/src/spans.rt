@@ -1,71 +1,49 @@
-// The keys of a histogram whose gaps are filled, found by a quotient and not one by one.
-ghost use Rattle.std.specs.Prelude.{◌≡◌, ◌<◌, ◌^◌, ◌≤ℤ◌, pos, ◌-ℤ◌, IsTrue, []};
+// The intervals of a histogram whose gaps are filled, found by their numbers and not one by one.
+ghost use Rattle.std.specs.Prelude.{◌≡◌, ◌^◌, ◌≤ℤ◌, ℤ, pos, ◌-ℤ◌, IsTrue, option_map, []};
 ghost use Rattle.std.specs.Option.{IfNone, IfSome, option_map_or};
 ghost use Rattle.std.specs.Int.{int_min, int_max};
 ghost use Rattle.std.specs.List.{list_all, reduce};
-ghost use Rattle.agg_evaluation.specs.Keys.{interval_start as start_of_interval};
+ghost use Rattle.agg_evaluation.specs.Conditions.{is_spaced};
+ghost use Rattle.agg_evaluation.specs.Finishable.{is_histogram_key, is_near};
 ghost use Rattle.agg_evaluation.specs.Orders.{bucket_key};
-ghost use Rattle.agg_spec.specs.Filling.{least_key as least_of_keys, greatest_key as greatest_of_keys, has_buckets as has_any_bucket, filled_keys};
-ghost use Rattle.agg_spec.specs.GapCount.{step_count as count_of_steps, key_from as first_key_from, filled_count};
-ghost use Rattle.agg_evaluation.specs.Finishable.{is_histogram_key};
-ghost use Rattle.final_reduce.specs.Steps.{IsSpan, key_numbers, first_within as first_within_bounds, last_within as last_within_bounds};
+ghost use Rattle.agg_evaluation.specs.Spacings as intervals;
+ghost use Rattle.agg_spec.specs.Filling.{least_key, greatest_key, has_buckets as has_any_bucket, filled_keys};
+ghost use Rattle.agg_spec.specs.GapCount.{interval_count as count_of_intervals, filled_count};
+ghost use Rattle.final_reduce.specs.Steps.{IsNearNumber, IsSpan, first_from, is_bound, key_numbers, last_to};
 
-use agg_model::{Bounds, Bucket, Key};
-use histogram_agg::interval_start;
+use crate::grid::{Grid, number_at, number_of_bound, start_at};
+use agg_model::{Bucket, Key};
 
-/// Where the keys of a histogram lie, and how far its gaps are filled.
-#[derive(Clone, Copy)]
-pub(crate) struct Grid {
-    pub(crate) interval: u64,
-    pub(crate) offset: u64,
-    pub(crate) extended: Bounds,
-    pub(crate) hard: Bounds,
-}
-
-/// The keys from the first to the last, an interval apart; none where the first is above the last.
+/// The numbers of the intervals from the first to the last; there are none where the first is above the last.
 #[derive(Clone, Copy)]
 pub(crate) struct Span {
     pub(crate) first: i128,
     pub(crate) last: i128,
 }
 
-// The key of a bound.
-fn bound_key(grid: Grid, bound: i64) -> i128
-    requires positive { 0 < grid.interval }
-    ensures start { result ≡ start_of_interval grid.interval grid.offset bound }
-    ensures low { (pos 0 -ℤ pos (2 ^ 80)) ≤ℤ result }
-    ensures high { result ≤ℤ pos (2 ^ 80) }
+// The number of the first interval that does not begin before the bound.
+fn number_from(grid: Grid, bound: i64) -> i128
+    requires spaced { IsTrue (is_spaced grid.spacing grid.extended grid.hard) }
+    requires bound { IsTrue (is_bound grid.spacing bound) }
+    ensures { result ≡ intervals.number_from grid.spacing bound }
 {
-    interval_start(grid.interval, grid.offset, bound)
-}
-
-// The first key that is not below the bound.
-fn key_from(grid: Grid, bound: i64) -> i128
-    requires positive { 0 < grid.interval }
-    ensures { result ≡ first_key_from grid.interval grid.offset bound }
-{
-    let number = i128::from(bound);
-    let start = bound_key(grid, bound);
-    if start < number {
-        return start + i128::from(grid.interval);
+    let number = number_of_bound(grid, bound);
+    if start_at(grid, number) < i128::from(bound) {
+        return number + 1;
     }
-    start
+    number
 }
 
-// How many steps of the interval lead from one key to another, both counted.
-fn step_count(interval: u64, least: i128, greatest: i128) -> u128
-    requires positive { 0 < interval }
-    requires low { (pos 0 -ℤ pos (2 ^ 80)) ≤ℤ least }
-    requires high { greatest ≤ℤ pos (2 ^ 80) }
-    ensures { result ≡ count_of_steps interval least greatest }
+// How many intervals have a number from the first to the last.
+fn interval_count(first: i128, last: i128) -> u128
+    requires low { (pos 0 -ℤ pos (2 ^ 80)) ≤ℤ first }
+    requires high { last ≤ℤ pos (2 ^ 80) }
+    ensures { result ≡ count_of_intervals first last }
 {
-    if least > greatest {
+    if first > last {
         return 0;
     }
-    (greatest - least)
-        .div_euclid(i128::from(interval))
-        .unsigned_abs()
-        + 1
+    (last - first).unsigned_abs() + 1
 }
 
 fn lesser(one: Option<i128>, other: i128) -> i128
@@ -91,23 +69,37 @@ fn own_least(buckets: &[Bucket]) -> Option<i128>
 {
     let mut least = None;
     for bucket in buckets {
-        if let Key::Whole(number) = &bucket.key {
-            least = Some(lesser(least, *number));
+        match &bucket.key {
+            Key::Whole(number) => least = Some(lesser(least, *number)),
+            Key::Null | Key::Flag(_) | Key::Word(_) | Key::Fixed(_) | Key::Many(_) => {}
         }
     }
     least
 }
 
-// The least of the buckets' keys and of the key of the lower bound.
-fn least_key(grid: Grid, buckets: &[Bucket]) -> Option<i128>
-    requires positive { 0 < grid.interval }
-    requires keys { IsTrue (list_all (λ b. is_histogram_key grid.interval grid.offset grid.hard (bucket_key b)) buckets.now) }
-    ensures key { result ≡ least_of_keys grid.interval grid.offset grid.extended (key_numbers buckets.now) }
+// The number of a key, where there is one.
+fn number_of_key(grid: Grid, key: Option<i128>) -> Option<i128>
+    requires spaced { IsTrue (is_spaced grid.spacing grid.extended grid.hard) }
+    requires near { IfSome key (λ k. IsTrue (is_near grid.spacing k)) }
+    ensures number { result ≡ option_map (intervals.number_at grid.spacing) key }
+    ensures near { IfSome result (IsNearNumber grid.spacing) }
+    ensures low { IfSome result (λ n. (pos 0 -ℤ pos (2 ^ 80)) ≤ℤ n) }
+    ensures high { IfSome result (λ n. n ≤ℤ pos (2 ^ 80)) }
+{
+    Some(number_at(grid, key?))
+}
+
+// The number of the least of the buckets' keys and of the key of the lower bound.
+fn least_number(grid: Grid, buckets: &[Bucket]) -> Option<i128>
+    requires spaced { IsTrue (is_spaced grid.spacing grid.extended grid.hard) }
+    requires keys { IsTrue (list_all (λ b. is_histogram_key grid.spacing grid.hard (bucket_key b)) buckets.now) }
+    ensures number { result ≡ option_map (intervals.number_at grid.spacing) (least_key grid.spacing grid.extended (key_numbers buckets.now)) }
+    ensures near { IfSome result (IsNearNumber grid.spacing) }
     ensures low { IfSome result (λ n. (pos 0 -ℤ pos (2 ^ 80)) ≤ℤ n) }
 {
-    let own = own_least(buckets);
+    let own = number_of_key(grid, own_least(buckets));
     match grid.extended.min {
-        Some(bound) => Some(lesser(own, bound_key(grid, bound))),
+        Some(bound) => Some(lesser(own, number_of_bound(grid, bound))),
         None => own,
     }
 }
@@ -117,75 +109,78 @@ fn own_greatest(buckets: &[Bucket]) -> Option<i128>
 {
     let mut greatest = None;
     for bucket in buckets {
-        if let Key::Whole(number) = &bucket.key {
-            greatest = Some(greater(greatest, *number));
+        match &bucket.key {
+            Key::Whole(number) => greatest = Some(greater(greatest, *number)),
+            Key::Null | Key::Flag(_) | Key::Word(_) | Key::Fixed(_) | Key::Many(_) => {}
         }
     }
     greatest
 }
 
-// The greatest of the buckets' keys and of the key of the upper bound.
-fn greatest_key(grid: Grid, buckets: &[Bucket]) -> Option<i128>
-    requires positive { 0 < grid.interval }
-    requires keys { IsTrue (list_all (λ b. is_histogram_key grid.interval grid.offset grid.hard (bucket_key b)) buckets.now) }
-    ensures key { result ≡ greatest_of_keys grid.interval grid.offset grid.extended (key_numbers buckets.now) }
+// The number of the greatest of the buckets' keys and of the key of the upper bound.
+fn greatest_number(grid: Grid, buckets: &[Bucket]) -> Option<i128>
+    requires spaced { IsTrue (is_spaced grid.spacing grid.extended grid.hard) }
+    requires keys { IsTrue (list_all (λ b. is_histogram_key grid.spacing grid.hard (bucket_key b)) buckets.now) }
+    ensures number { result ≡ option_map (intervals.number_at grid.spacing) (greatest_key grid.spacing grid.extended (key_numbers buckets.now)) }
+    ensures near { IfSome result (IsNearNumber grid.spacing) }
     ensures high { IfSome result (λ n. n ≤ℤ pos (2 ^ 80)) }
 {
-    let own = own_greatest(buckets);
+    let own = number_of_key(grid, own_greatest(buckets));
     match grid.extended.max {
-        Some(bound) => Some(greater(own, bound_key(grid, bound))),
+        Some(bound) => Some(greater(own, number_of_bound(grid, bound))),
         None => own,
     }
 }
 
 // Where no bucket has a document, there are keys only where both bounds are given.
 fn has_buckets(grid: Grid, buckets: &[Bucket]) -> bool
-    requires positive { 0 < grid.interval }
-    requires keys { IsTrue (list_all (λ b. is_histogram_key grid.interval grid.offset grid.hard (bucket_key b)) buckets.now) }
+    requires spaced { IsTrue (is_spaced grid.spacing grid.extended grid.hard) }
+    requires keys { IsTrue (list_all (λ b. is_histogram_key grid.spacing grid.hard (bucket_key b)) buckets.now) }
     ensures { result ≡ has_any_bucket grid.extended (key_numbers buckets.now) }
 {
     !buckets.is_empty() || (grid.extended.min.is_some() && grid.extended.max.is_some())
 }
 
-// The first key within the bounds.
+// The number of the first interval, from one on, that begins within the bounds.
 fn first_within(grid: Grid, least: i128) -> i128
-    requires positive { 0 < grid.interval }
-    ensures key { result ≡ first_within_bounds grid.interval grid.offset grid.hard least }
+    requires spaced { IsTrue (is_spaced grid.spacing grid.extended grid.hard) }
+    ensures number { result ≡ first_from grid.spacing grid.hard least }
     ensures low { least ≤ℤ result }
 {
     match grid.hard.min {
-        Some(bound) => least.max(key_from(grid, bound)),
+        Some(bound) => least.max(number_from(grid, bound)),
         None => least,
     }
 }
 
-// The last key within the bounds.
+// The number of the last one, up to another.
 fn last_within(grid: Grid, greatest: i128) -> i128
-    requires positive { 0 < grid.interval }
-    ensures key { result ≡ last_within_bounds grid.interval grid.offset grid.hard greatest }
+    requires spaced { IsTrue (is_spaced grid.spacing grid.extended grid.hard) }
+    ensures number { result ≡ last_to grid.spacing grid.hard greatest }
     ensures high { result ≤ℤ greatest }
 {
     match grid.hard.max {
-        Some(bound) => greatest.min(bound_key(grid, bound)),
+        Some(bound) => greatest.min(number_of_bound(grid, bound)),
         None => greatest,
     }
 }
 
-/// The keys of a histogram with these buckets, gaps included; none where it has no bucket.
+/// The intervals of a histogram with these buckets, gaps included; none where it has no bucket.
 pub(crate) fn filled_span(grid: Grid, buckets: &[Bucket]) -> Option<Span>
-    requires positive { 0 < grid.interval }
-    requires keys { IsTrue (list_all (λ b. is_histogram_key grid.interval grid.offset grid.hard (bucket_key b)) buckets.now) }
-    ensures no_count { IfNone result (filled_count grid.interval grid.offset grid.extended grid.hard (key_numbers buckets.now) ≡ 0) }
-    ensures no_key { IfNone result (filled_keys grid.interval grid.offset grid.extended grid.hard (key_numbers buckets.now) ≡ []) }
-    ensures span { IfSome result (λ s. IsSpan grid.interval grid.offset grid.extended grid.hard (key_numbers buckets.now) s.first s.last) }
+    requires spaced { IsTrue (is_spaced grid.spacing grid.extended grid.hard) }
+    requires keys { IsTrue (list_all (λ b. is_histogram_key grid.spacing grid.hard (bucket_key b)) buckets.now) }
+    ensures no_count { IfNone result (filled_count grid.spacing grid.extended grid.hard (key_numbers buckets.now) ≡ 0) }
+    ensures no_key { IfNone result (filled_keys grid.spacing grid.extended grid.hard (key_numbers buckets.now) ≡ []) }
+    ensures span { IfSome result (λ s. IsSpan grid.spacing grid.extended grid.hard (key_numbers buckets.now) s.first s.last) }
+    ensures near { IfSome result (λ s. (n : ℤ) → s.first ≤ℤ n → n ≤ℤ s.last → IsNearNumber grid.spacing n) }
     ensures low { IfSome result (λ s. (pos 0 -ℤ pos (2 ^ 80)) ≤ℤ s.first) }
     ensures high { IfSome result (λ s. s.last ≤ℤ pos (2 ^ 80)) }
 {
     if !has_buckets(grid, buckets) {
         return None;
     }
-    let least = least_key(grid, buckets)?;
-    let greatest = greatest_key(grid, buckets)?;
+    let least = least_number(grid, buckets)?;
+    let greatest = greatest_number(grid, buckets)?;
     Some(Span {
         first: first_within(grid, least),
         last: last_within(grid, greatest),
@@ -194,12 +189,12 @@ pub(crate) fn filled_span(grid: Grid, buckets: &[Bucket]) -> Option<Span>
 
 /// The number of keys of a histogram with these buckets, gaps included.
 pub(crate) fn filled_number(grid: Grid, buckets: &[Bucket]) -> u128
-    requires positive { 0 < grid.interval }
-    requires keys { IsTrue (list_all (λ b. is_histogram_key grid.interval grid.offset grid.hard (bucket_key b)) buckets.now) }
-    ensures { result ≡ filled_count grid.interval grid.offset grid.extended grid.hard (key_numbers buckets.now) }
+    requires spaced { IsTrue (is_spaced grid.spacing grid.extended grid.hard) }
+    requires keys { IsTrue (list_all (λ b. is_histogram_key grid.spacing grid.hard (bucket_key b)) buckets.now) }
+    ensures { result ≡ filled_count grid.spacing grid.extended grid.hard (key_numbers buckets.now) }
 {
     match filled_span(grid, buckets) {
-        Some(span) => step_count(grid.interval, span.first, span.last),
+        Some(span) => interval_count(span.first, span.last),
         None => 0,
     }
 }

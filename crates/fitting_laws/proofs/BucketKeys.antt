@@ -1,4 +1,4 @@
--- The keys of rows that fit: those of a histogram are starts of intervals near the range of 64 bits, and those of a composite
+-- The keys of rows that fit: those of a histogram are starts of intervals near the range of its values, and those of a composite
 -- have a part for each source.
 use Rattle.std.specs.Prelude.{◌≡◌, refl, ℕ, suc, ◌^◌, ◌<◌, ◌==◌, ℤ, pos, negsuc, neg_ℤ, ◌-ℤ◌, ◌≤ℤ◌, ◌<ℤ◌, Bool, true, false, cond, ◌&&◌, T, List, [], ◌∷◌, ◌++◌, map, filter, flat_map, length, int_le, int_lt, Option}
 use Rattle.std.specs.List.{list_all}
@@ -9,9 +9,16 @@ use Rattle.std.proofs.lemmas.Bool.{and_parts, and_from}
 use Rattle.std.proofs.lemmas.Bool.Decides.{nat_tests}
 use Rattle.std.proofs.lemmas.Cmp.{int_eq_equiv}
 use Rattle.std.proofs.lemmas.Int.{ints}
+use Rattle.date_spec.specs.declared.period.Period.{Period}
+use Rattle.date_spec.specs.declared.range.TheConstants.{GREATEST_INSTANT, LEAST_INSTANT}
+use Rattle.date_spec.specs.Instants.{is_in_range}
+use Rattle.date_spec.specs.Periods.{IsPeriod, IsZone}
+use Rattle.date_spec.proofs.KeyLemmas.{instant-place, key-begun, key-own, key-rises}
 use Rattle.agg_model.specs.FieldKinds.{fits_below}
 use Rattle.agg_model.specs.declared.aggregation.Bounds.{Bounds}
 use Rattle.agg_model.specs.declared.aggregation.CompositeSource.{CompositeSource}
+use Rattle.agg_model.specs.declared.aggregation.Spacing.{Spacing}
+use Rattle.agg_model.specs.declared.aggregation.Spacing.TheVariants.{Numbers, Dates}
 use Rattle.agg_model.specs.declared.key.Key.{Key}
 use Rattle.agg_model.specs.declared.key.Key.TheVariants as key
 use Rattle.agg_model.specs.declared.row.Scalar.{Scalar}
@@ -19,13 +26,15 @@ use Rattle.agg_model.specs.declared.row.Scalar.TheVariants.{Whole, Word, Flag}
 use Rattle.agg_evaluation.specs.CompositeKeys.{has_parts, is_composite_of}
 use Rattle.agg_evaluation.specs.Finishable.{is_near, is_histogram_key}
 use Rattle.agg_evaluation.specs.KeyOrder.{key_cmp}
-use Rattle.agg_evaluation.specs.Keys.{distinct_keys, values_or, interval_start, interval_key, is_between, histogram_keys, combinations, source_keys, composite_keys}
+use Rattle.agg_evaluation.specs.Keys.{distinct_keys, values_or, interval_key, is_between, histogram_keys, combinations, source_keys, composite_keys}
 use Rattle.agg_evaluation.specs.Rows.{PlacedRow}
+use Rattle.agg_evaluation.specs.Spacings.{interval_start}
 use Rattle.agg_evaluation.proofs.FoldLaws.{out-Many}
 use Rattle.agg_evaluation.proofs.IntervalLaws.{interval_start-is, interval-unique}
+use Rattle.agg_evaluation.proofs.SpacingLaws.{instant-is}
 use Rattle.list_laws.specs.Sorting.{insert_once}
 use Rattle.list_laws.proofs.Booleans.{and_left, and_right, both, holds}
-use Rattle.fitting_laws.proofs.Measures.{all_64}
+use Rattle.fitting_laws.proofs.Measures.{is_number}
 
 module _ (p : Key → Bool) where
   once_all : (k : Key) (ks : List Key) → T (p k) → T (list_all p ks) → T (list_all p (insert_once key_cmp k ks))
@@ -48,18 +57,30 @@ module _ (p : Key → Bool) where
 
 -- histograms
 
+-- whether a key is the start of an interval, and near
+abbrev is_start : Spacing → Key → Bool
+is_start spacing (key.Whole k) = int_eq (interval_start spacing k) k && is_near spacing k
+is_start spacing key.Null = false
+is_start spacing (key.Flag b) = false
+is_start spacing (key.Word w) = false
+is_start spacing (key.Fixed n) = false
+is_start spacing (key.Many' n ks) = false
+
 module _ (interval offset : ℕ) (some : 0 < interval) (near : interval < 2 ^ 63) where
+  abbrev every : Spacing
+  every = Numbers interval offset
+
   -- the start of an interval starts its own
-  start_again : (n : ℤ) → interval_start interval offset (interval_start interval offset n) ≡ interval_start interval offset n
+  start_again : (n : ℤ) → interval_start every (interval_start every n) ≡ interval_start every n
   start_again n =
-      let k = interval_start interval offset n in
+      let k = interval_start every n in
       let is = interval_start-is interval offset n some in
-      interval-unique interval offset k (interval_start interval offset k) k (interval_start-is interval offset k some)
+      interval-unique interval offset k (interval_start every k) k (interval_start-is interval offset k some)
       (record { times = is.times; multiple = is.multiple; at_most = omega (arith, ints); above = omega (arith, ints, some) })
 
-  start_near : (n : ℤ) → fits_below (2 ^ 63) n ≡ true → is_near (interval_start interval offset n) ≡ true
+  start_near : (n : ℤ) → fits_below (2 ^ 63) n ≡ true → is_near every (interval_start every n) ≡ true
   start_near n h =
-      let k = interval_start interval offset n in
+      let k = interval_start every n in
       let is = interval_start-is interval offset n some in
       let parts = and_parts (int_le (neg_ℤ (pos (2 ^ 63))) n) (int_lt n (pos (2 ^ 63))) h in
       let least = low_of n parts.0 in
@@ -84,51 +105,75 @@ module _ (interval offset : ℕ) (some : 0 < interval) (near : interval < 2 ^ 63
       high_is (pos k) h = let small : k < 2 ^ 63 = omega (arith, ints, h) in grind (arith, nat_tests, small)
       high_is (negsuc k) h = refl
 
-  -- whether a key is the start of an interval, and near
-  abbrev is_start : Key → Bool
-  is_start (key.Whole k) = int_eq (interval_start interval offset k) k && is_near k
-  is_start _ = false
+  pub number_starts : (n : ℤ) → fits_below (2 ^ 63) n ≡ true → is_start every (key.Whole (interval_start every n)) ≡ true
+  number_starts n h =
+      let k = interval_start every n in
+      let same : int_eq (interval_start every k) k ≡ true = ap (λ (j : ℤ). int_eq j k) (start_again n) ∙ int_eq_equiv.refl k in
+      and_from _ _ same (start_near n h)
 
-  starts : (vs : List Scalar) → all_64 vs ≡ true → T (list_all is_start (flat_map (interval_key interval offset) vs))
+module _ (period : Period) (zone : ℤ) (is : IsPeriod period) (zoned : IsZone zone) where
+  abbrev each : Spacing
+  each = Dates period zone
+
+  most_is : (a b : ℤ) → a ≤ℤ b → int_le a b ≡ true
+  most_is a b h = grind (arith, ints, h)
+
+  pub instant_starts : (n : ℤ) → is_in_range n ≡ true → is_start each (key.Whole (interval_start each n)) ≡ true
+  instant_starts n h =
+      let k = interval_start each n in
+      let instant = instant-is n h in
+      let place = instant-place period zone n zoned instant.0 in
+      let first = instant-place period zone LEAST_INSTANT zoned (let e : LEAST_INSTANT ≤ℤ LEAST_INSTANT = omega (arith, ints) in e) in
+      let same : int_eq (interval_start each k) k ≡ true = ap (λ (j : ℤ). int_eq j k) (key-own period zone is n place) ∙ int_eq_equiv.refl k in
+      let low = key-rises period zone is LEAST_INSTANT first n instant.0 in
+      let begun = key-begun period zone is n place in
+      let high = instant.1 in
+      let last : k ≤ℤ GREATEST_INSTANT = omega (arith, ints, begun, high) in
+      and_from _ _ same (and_from _ _ (most_is (interval_start each LEAST_INSTANT) k low) (most_is k GREATEST_INSTANT last))
+
+-- Values of which each starts an interval: a test tells them.
+module _ (spacing : Spacing) (test : ℤ → Bool) (each_starts : (n : ℤ) → test n ≡ true → is_start spacing (key.Whole (interval_start spacing n)) ≡ true) where
+  starts : (vs : List Scalar) → list_all (is_number test) vs ≡ true → T (list_all (is_start spacing) (flat_map (interval_key spacing) vs))
   starts [] h = tt
-  starts (Whole n ∷ vs) h =
-      let parts = and_parts (fits_below (2 ^ 63) n) (all_64 vs) h in
-      let k = interval_start interval offset n in
-      let same : int_eq (interval_start interval offset k) k ≡ true = ap (λ (j : ℤ). int_eq j k) (start_again n) ∙ int_eq_equiv.refl k in
-      both _ _ (holds _ (and_from _ _ same (start_near n parts.0))) (starts vs parts.1)
+  starts (Whole n ∷ vs) h = let parts = and_parts (test n) (list_all (is_number test) vs) h in both _ _ (holds _ (each_starts n parts.0)) (starts vs parts.1)
   starts (Word w ∷ vs) h = starts vs h
   starts (Flag b ∷ vs) h = starts vs h
 
   module _ (hard : Bounds) where
-    one_key : (k : Key) → T (is_start k) → is_between hard k ≡ true → T (is_histogram_key interval offset hard k)
+    one_key : (k : Key) → T (is_start spacing k) → is_between hard k ≡ true → T (is_histogram_key spacing hard k)
     one_key (key.Whole k) h e =
-        let is = int_eq (interval_start interval offset k) k in
-        both is (is_near k && is_between hard (key.Whole k)) (and_left is (is_near k) h) (both (is_near k) (is_between hard (key.Whole k)) (and_right is (is_near k) h) (holds (is_between hard (key.Whole k)) e))
+        let is = int_eq (interval_start spacing k) k in
+        both is (is_near spacing k && is_between hard (key.Whole k)) (and_left is (is_near spacing k) h)
+        (both (is_near spacing k) (is_between hard (key.Whole k)) (and_right is (is_near spacing k) h) (holds (is_between hard (key.Whole k)) e))
     one_key key.Null h e = absurd h
     one_key (key.Flag b) h e = absurd h
     one_key (key.Word w) h e = absurd h
     one_key (key.Fixed n) h e = absurd h
     one_key (key.Many' n ks) h e = absurd h
 
-    between : (ks : List Key) → T (list_all is_start ks) → T (list_all (is_histogram_key interval offset hard) (filter (is_between hard) ks))
+    between : (ks : List Key) → T (list_all (is_start spacing) ks) → T (list_all (is_histogram_key spacing hard) (filter (is_between hard) ks))
     between [] h = tt
     between (k ∷ ks) h =
-        elim (is_between hard k) as (λ b. is_between hard k ≡ b → T (list_all (is_histogram_key interval offset hard) (cond b (k ∷ filter (is_between hard) ks) (filter (is_between hard) ks)))) [
+        elim (is_between hard k) as (λ b. is_between hard k ≡ b → T (list_all (is_histogram_key spacing hard) (cond b (k ∷ filter (is_between hard) ks) (filter (is_between hard) ks)))) [
           | true ↦ λ e. both _ _ (one_key k (and_left _ _ h) e) (between ks (and_right _ _ h))
           | false ↦ λ e. between ks (and_right _ _ h)
         ] refl
 
-    -- of a row whose values have 64 bits
-    pub histogram_row : (field : ℕ) (missing : Option Scalar) (row : PlacedRow) → all_64 (values_or field missing row) ≡ true → T (list_all (is_histogram_key interval offset hard) (histogram_keys field interval offset hard missing row))
+    -- of a row with such values
+    pub histogram_row : (field : ℕ) (missing : Option Scalar) (row : PlacedRow) → list_all (is_number test) (values_or field missing row) ≡ true
+        → T (list_all (is_histogram_key spacing hard) (histogram_keys field spacing hard missing row))
     histogram_row field missing row h =
-        between (distinct_keys (flat_map (interval_key interval offset) (values_or field missing row))) (distinct_all is_start (flat_map (interval_key interval offset) (values_or field missing row)) (starts (values_or field missing row) h))
+        between (distinct_keys (flat_map (interval_key spacing) (values_or field missing row)))
+        (distinct_all (is_start spacing) (flat_map (interval_key spacing) (values_or field missing row)) (starts (values_or field missing row) h))
 
-    pub histogram_rows : (field : ℕ) (missing : Option Scalar) (rows : List PlacedRow) → list_all (λ (r : PlacedRow). all_64 (values_or field missing r)) rows ≡ true
-        → T (list_all (is_histogram_key interval offset hard) (flat_map (histogram_keys field interval offset hard missing) rows))
+    pub histogram_rows : (field : ℕ) (missing : Option Scalar) (rows : List PlacedRow) → list_all (λ (r : PlacedRow). list_all (is_number test) (values_or field missing r)) rows ≡ true
+        → T (list_all (is_histogram_key spacing hard) (flat_map (histogram_keys field spacing hard missing) rows))
     histogram_rows field missing [] h = tt
     histogram_rows field missing (r ∷ rows) h =
-        let parts = and_parts (all_64 (values_or field missing r)) (list_all (λ (r : PlacedRow). all_64 (values_or field missing r)) rows) h in
-        append_all (is_histogram_key interval offset hard) (histogram_keys field interval offset hard missing r) (flat_map (histogram_keys field interval offset hard missing) rows) (histogram_row field missing r parts.0) (histogram_rows field missing rows parts.1)
+        let such = λ (r : PlacedRow). list_all (is_number test) (values_or field missing r) in
+        let parts = and_parts (such r) (list_all such rows) h in
+        append_all (is_histogram_key spacing hard) (histogram_keys field spacing hard missing r) (flat_map (histogram_keys field spacing hard missing) rows)
+        (histogram_row field missing r parts.0) (histogram_rows field missing rows parts.1)
 
 -- composites
 

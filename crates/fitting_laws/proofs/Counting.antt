@@ -9,6 +9,8 @@ use Rattle.std.proofs.lemmas.List.{length-map}
 use Rattle.std.proofs.lemmas.List.Folds.{list_all-append}
 use Rattle.std.proofs.lemmas.List.Sums.{sum_by-cons}
 use Rattle.agg_model.specs.declared.aggregation.Bounds.{Bounds}
+use Rattle.agg_model.specs.declared.aggregation.Spacing.{Spacing}
+use Rattle.agg_model.specs.declared.aggregation.Spacing.TheVariants.{Numbers, Dates}
 use Rattle.agg_model.specs.declared.aggregation.Kind.{Kind}
 use Rattle.agg_model.specs.declared.aggregation.Kind.TheVariants as kind
 use Rattle.agg_model.specs.declared.key.Key.{Key}
@@ -119,6 +121,7 @@ module _ (all : List PlacedRow) where
   under_counted context kind.Global rows apart h = roots_counted
   under_counted context (kind.Terms a b c d n f g e i) rows apart h = h
   under_counted context (kind.Histogram a b c d n f g e i) rows apart h = h
+  under_counted context (kind.DateHistogram a b c d n f g e i) rows apart h = h
   under_counted context (kind.Filters a b c) rows apart h = h
   under_counted context (kind.Filter a) rows apart h = h
   under_counted context (kind.Missing a) rows apart h = h
@@ -176,24 +179,25 @@ term_keys_light field include exclude missing row =
     let d = values_or_light field missing row in
     omega (arith, a, b, c, d)
 
-interval_length : (interval offset : ℕ) (vs : List Scalar) → length (flat_map (interval_key interval offset) vs) ≤ length vs
-interval_length interval offset [] = omega arith
-interval_length interval offset (scalar.Whole n ∷ vs) = omega (arith, interval_length interval offset vs)
-interval_length interval offset (scalar.Word n ∷ vs) = omega (arith, interval_length interval offset vs)
-interval_length interval offset (scalar.Flag n ∷ vs) = omega (arith, interval_length interval offset vs)
+interval_length : (spacing : Spacing) (vs : List Scalar) → length (flat_map (interval_key spacing) vs) ≤ length vs
+interval_length spacing [] = omega arith
+interval_length spacing (scalar.Whole n ∷ vs) = omega (arith, interval_length spacing vs)
+interval_length spacing (scalar.Word n ∷ vs) = omega (arith, interval_length spacing vs)
+interval_length spacing (scalar.Flag n ∷ vs) = omega (arith, interval_length spacing vs)
 
-histogram_keys_light : (field interval offset : ℕ) (hard : Bounds) (missing : Option Scalar) (row : PlacedRow) → length (histogram_keys field interval offset hard missing row) ≤ row_weight row
-histogram_keys_light field interval offset hard missing row =
+histogram_keys_light : (field : ℕ) (spacing : Spacing) (hard : Bounds) (missing : Option Scalar) (row : PlacedRow) → length (histogram_keys field spacing hard missing row) ≤ row_weight row
+histogram_keys_light field spacing hard missing row =
     let vs = values_or field missing row in
-    let a = filter_length (is_between hard) (distinct_keys (flat_map (interval_key interval offset) vs)) in
-    let b = distinct_length (flat_map (interval_key interval offset) vs) in
-    let c = interval_length interval offset vs in
+    let a = filter_length (is_between hard) (distinct_keys (flat_map (interval_key spacing) vs)) in
+    let b = distinct_length (flat_map (interval_key spacing) vs) in
+    let c = interval_length spacing vs in
     let d = values_or_light field missing row in
     omega (arith, a, b, c, d)
 
 one_light : (all : List PlacedRow) (k : Kind) → is_by_value k ≡ true → (row : PlacedRow) → length (keys all k row) ≤ row_weight row
 one_light all (kind.Terms field size shard_size least order include exclude missing show) e row = term_keys_light field include exclude missing row
-one_light all (kind.Histogram field interval offset least extended hard keyed order missing) e row = histogram_keys_light field interval offset hard missing row
+one_light all (kind.Histogram field interval offset least extended hard keyed order missing) e row = histogram_keys_light field (Numbers interval offset) hard missing row
+one_light all (kind.DateHistogram field period zone least extended hard keyed order missing) e row = histogram_keys_light field (Dates period zone) hard missing row
 one_light all (kind.Filters a b c) e row = absurd (false≢true e)
 one_light all (kind.Filter a) e row = absurd (false≢true e)
 one_light all (kind.Missing a) e row = absurd (false≢true e)

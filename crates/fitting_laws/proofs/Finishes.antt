@@ -70,6 +70,7 @@ module _ (ts os : List (Node → Bool)) (fs : List (Node → ℕ)) (ps : List (N
       let second : T (nat_lt p.error (2 ^ 63)) = grind (arith, nat_tests, error) in
       both _ _ first (both _ _ second covered)
   parts_finish (kind.Histogram a b c d n f g h i) p made covered low = made
+  parts_finish (kind.DateHistogram a b c d n f g h i) p made covered low = made
   parts_finish (kind.Composite a b c) p made covered low = made
   parts_finish (kind.Filters a b c) p made covered low = tt
   parts_finish (kind.Filter a) p made covered low = tt

@@ -87,11 +87,11 @@ stored_ok Date at (probe.Whole z) a = whole_stored Date at z (λ z. refl)
 stored_ok Date at (probe.Word w) a = absurd (false≢true a)
 stored_ok Date at (probe.Flag w) a = absurd (false≢true a)
 
-missing_at-ok : (k : FieldKind) (at : List ℕ) (d : Data) → IfOk (missing_at k at d) (Stored k)
+pub missing_at-ok : (k : FieldKind) (at : List ℕ) (d : Data) → IfOk (missing_at k at d) (Stored k)
 unfolding missing_at
 missing_at-ok k at d = next_ok (Asked k) (Stored k) (value_at k at d) _ (value_asked k at d) (λ p a. stored_ok k at p a)
 
-missing_is : (k : FieldKind) (o : Option Scalar) → IfSome o (Stored k) → is_missing k o ≡ true
+pub missing_is : (k : FieldKind) (o : Option Scalar) → IfSome o (Stored k) → is_missing k o ≡ true
 missing_is k None h = refl
 missing_is k (Some s) h = h
 
@@ -168,7 +168,7 @@ pub record KindRead (m : Mapping) (context : ℕ) (n : KindName) (k : Kind) (ord
 
 -- orders
 
-abbrev Few : List NamedOrder → Type 0
+abbrev pub Few : List NamedOrder → Type 0
 Few os = Between 1 4 (length os)
 
 abbrev Number : ℕ → List NamedOrder → Type 0
@@ -183,7 +183,7 @@ orders_from-number at n done (item d ds) =
     let more = length-append done (o ∷ []) in
     weaken (Number (length (done ++ o ∷ []) + item_count ds)) (Number (length done + (1 + item_count ds))) (orders_from at (n + 1) (done ++ o ∷ []) ds) (orders_from-number at (n + 1) (done ++ o ∷ []) ds) (λ os e. omega (arith, e, more))))
 
-orders_few : (at : List ℕ) (d : Data) → IfOk (orders_at at d) Few
+pub orders_few : (at : List ℕ) (d : Data) → IfOk (orders_at at d) Few
 unfolding orders_at
 orders_few at (object ms) = then_ok Few (order_at at ms) _ (λ o. (omega arith, omega arith))
 orders_few at (array ds) =
@@ -197,11 +197,11 @@ orders_few at (boolean b) = tt
 orders_few at (number b) = tt
 orders_few at (string b) = tt
 
-or_one : (o : Option (List NamedOrder)) (one : NamedOrder) → IfSome o Few → Few (unwrap_or o (one ∷ []))
+pub or_one : (o : Option (List NamedOrder)) (one : NamedOrder) → IfSome o Few → Few (unwrap_or o (one ∷ []))
 or_one None one h = (omega arith, omega arith)
 or_one (Some os) one h = h
 
-fit_orders : (children : List Kind) (os : List Order) (n : ℕ) → Between 1 4 n → length os ≡ n → list_all (order_fits children) os ≡ true → orders_fit children os ≡ true
+pub fit_orders : (children : List Kind) (os : List Order) (n : ℕ) → Between 1 4 n → length os ≡ n → list_all (order_fits children) os ≡ true → orders_fit children os ≡ true
 fit_orders children os n b e h = and_from (nat_le 1 (length os)) _ (grind (arith, nat_tests, b.0, e)) (and_from (nat_le (length os) 4) _ (grind (arith, nat_tests, b.1, e)) h)
 
 -- terms
@@ -275,7 +275,7 @@ terms_read m context at d =
 abbrev Ordered : Bounds → Type 0
 Ordered b = is_at_most b.min b.max ≡ true
 
-bounds_ordered : (at : List ℕ) (d : Data) → IfOk (bounds_at at d) Ordered
+bounds_ordered : (at : List ℕ) (d : Data) → IfOk (bounds_at signed_at at d) Ordered
 unfolding bounds_at
 bounds_ordered at d =
     then_ok Ordered (object_at 103 at d) _ (λ ms.
@@ -294,8 +294,8 @@ Ranges r = Ordered r.0 × Ordered r.1 × IfSome r.2 (Between 1 92233720368547758
 ranges_ok : (at : List ℕ) (ms : Members) → IfOk (histogram_ranges_in at ms) Ranges
 unfolding histogram_ranges_in
 ranges_ok at ms =
-    next_ok (λ o. IfSome o Ordered) Ranges (optional bounds_at (codes "extended_bounds") at ms) _ (optional_of-ok Ordered bounds_at _ _ bounds_ordered) (λ extended e.
-    next_ok (λ o. IfSome o Ordered) Ranges (optional bounds_at (codes "hard_bounds") at ms) _ (optional_of-ok Ordered bounds_at _ _ bounds_ordered) (λ hard h.
+    next_ok (λ o. IfSome o Ordered) Ranges (optional (bounds_at signed_at) (codes "extended_bounds") at ms) _ (optional_of-ok Ordered (bounds_at signed_at) _ _ bounds_ordered) (λ extended e.
+    next_ok (λ o. IfSome o Ordered) Ranges (optional (bounds_at signed_at) (codes "hard_bounds") at ms) _ (optional_of-ok Ordered (bounds_at signed_at) _ _ bounds_ordered) (λ hard h.
     next_ok (λ o. IfSome o (Between 1 9223372036854775807)) Ranges (optional (whole_at 1 9223372036854775807) (codes "interval") at ms) _ (optional_of-ok (Between 1 9223372036854775807) (whole_at 1 9223372036854775807) _ _ (whole_at-ok 1 9223372036854775807)) (λ interval i.
     then_ok Ranges (optional truth_at (codes "keyed") at ms) _ (λ keyed. (or_unbounded extended e, or_unbounded hard h, i)))))
 
@@ -333,7 +333,7 @@ histogram_in-read m context f at ms there =
     record {
       ready = λ children os e h.
           and_from _ _ (of_field m (λ k. is_whole_kind k && is_missing k counts.1) f there.0 (and_from _ _ there.1 c.0))
-          (and_from _ _ (interval_is interval i) (and_from _ _ rules.0 (and_from _ _ r.0 (and_from _ _ r.1 (and_from _ _ rules.1 (fit_orders children os (length counts.3) c.1 e h))))));
+          (and_from _ _ (and_from _ _ (interval_is interval i) rules.0) (and_from _ _ r.0 (and_from _ _ r.1 (and_from _ _ rules.1 (fit_orders children os (length counts.3) c.1 e h)))));
       metric = λ os. refl;
       top = λ os. refl;
       within_is = λ os. refl;

@@ -1,12 +1,13 @@
 -- The numbers of metrics: a count is at most the weight of the rows, and a sum of values of 64 bits at most so many times 2^63.
-use Rattle.std.specs.Prelude.{◌≡◌, refl, ℕ, ◌+◌, ◌*◌, ◌^◌, ◌==◌, ◌≤◌, Bool, true, false, cond, ◌&&◌, List, [], ◌∷◌, filter_map, flat_map, find, length, sum_by, slice_get, Option, Some, None, option_map, unwrap_or, nat_le}
+use Rattle.std.specs.Prelude.{◌≡◌, refl, ℕ, ℤ, ◌+◌, ◌*◌, ◌^◌, ◌==◌, ◌≤◌, Bool, true, false, cond, ◌&&◌, List, [], ◌∷◌, filter_map, flat_map, find, length, sum_by, slice_get, Option, Some, None, option_map, unwrap_or, nat_le}
 use Rattle.std.specs.List.{list_all}
 use Rattle.std.specs.Option.{option_map_or}
-use Rattle.std.proofs.Common.{◌∙◌, ap, arith}
-use Rattle.std.proofs.lemmas.Bool.{false≢true, and_parts, and_from}
+use Rattle.std.proofs.Common.{◌∙◌, ap, subst, arith}
+use Rattle.std.proofs.lemmas.Bool.{eqb-true, false≢true, and_parts, and_from}
 use Rattle.std.proofs.lemmas.List.Folds.{list_all-append}
 use Rattle.std.proofs.lemmas.List.Sums.{sum_by-cons}
-use Rattle.agg_model.specs.FieldKinds.{fits_below}
+use Rattle.date_spec.specs.Instants.{is_in_range}
+use Rattle.agg_model.specs.FieldKinds.{is_date_kind, fits_below}
 use Rattle.agg_model.proofs.InstantBits.{instant_in_64}
 use Rattle.agg_model.specs.declared.mapping.Field.{Field}
 use Rattle.agg_model.specs.declared.mapping.FieldKind.{FieldKind}
@@ -22,78 +23,129 @@ use Rattle.agg_evaluation.specs.PlacedFits.{placed_fits, rows_placed}
 use Rattle.agg_evaluation.specs.QueryFits.{field_is}
 use Rattle.agg_evaluation.specs.Rows.{PlacedRow, values_of}
 use Rattle.agg_evaluation.specs.RowsWeight.{row_weight, rows_weight}
-use Rattle.agg_evaluation.specs.SearchFits.{is_stored, is_missing}
+use Rattle.agg_evaluation.specs.SearchFits.{is_stored, is_missing, is_date_field}
 use Rattle.agg_evaluation.specs.Shard.{integer_of, int_sum, metric_of}
 use Rattle.list_laws.proofs.Lists.{length-flat_map}
 use Rattle.list_laws.proofs.Sums.{sum_by-at_most}
 use Rattle.fitting_laws.proofs.Counting.{values_or_light}
 use Rattle.fitting_laws.proofs.Sizes.{size, size_plus, size_fits, size_wider}
 
+-- a value that is no number, or one that passes
+abbrev pub is_number : (ℤ → Bool) → Scalar → Bool
+is_number test (Whole z) = test z
+is_number test (Word w) = true
+is_number test (Flag b) = true
+
 -- a value that is no number, or one of 64 bits
 abbrev pub is_64 : Scalar → Bool
-is_64 (Whole z) = fits_below (2 ^ 63) z
-is_64 _ = true
+is_64 = is_number (fits_below (2 ^ 63))
 
-value_64 : (k : FieldKind) (v : Scalar) → is_value k v ≡ true → is_64 v ≡ true
-value_64 k (Word w) h = refl
-value_64 k (Flag b) h = refl
-value_64 Long (Whole z) h = h
-value_64 Integer (Whole z) h = size_wider (2 ^ 31) (2 ^ 63) z (omega arith) h
-value_64 Short (Whole z) h = size_wider (2 ^ 15) (2 ^ 63) z (omega arith) h
-value_64 Byte (Whole z) h = size_wider (2 ^ 7) (2 ^ 63) z (omega arith) h
-value_64 Keyword (Whole z) h = absurd (false≢true h)
-value_64 Boolean (Whole z) h = absurd (false≢true h)
-value_64 Date (Whole z) h = instant_in_64 z h
+value_64 : (k : FieldKind) (v : Scalar) → true ≡ true → is_value k v ≡ true → is_64 v ≡ true
+value_64 k (Word w) t h = refl
+value_64 k (Flag b) t h = refl
+value_64 Long (Whole z) t h = h
+value_64 Integer (Whole z) t h = size_wider (2 ^ 31) (2 ^ 63) z (omega arith) h
+value_64 Short (Whole z) t h = size_wider (2 ^ 15) (2 ^ 63) z (omega arith) h
+value_64 Byte (Whole z) t h = size_wider (2 ^ 7) (2 ^ 63) z (omega arith) h
+value_64 Keyword (Whole z) t h = absurd (false≢true h)
+value_64 Boolean (Whole z) t h = absurd (false≢true h)
+value_64 Date (Whole z) t h = instant_in_64 z h
 
-stored_64 : (k : FieldKind) (v : Scalar) → is_stored k v ≡ true → is_64 v ≡ true
-stored_64 k (Word w) h = refl
-stored_64 k (Flag b) h = refl
-stored_64 Long (Whole z) h = h
-stored_64 Integer (Whole z) h = h
-stored_64 Short (Whole z) h = h
-stored_64 Byte (Whole z) h = h
-stored_64 Keyword (Whole z) h = absurd (false≢true h)
-stored_64 Boolean (Whole z) h = absurd (false≢true h)
-stored_64 Date (Whole z) h = instant_in_64 z h
+stored_64 : (k : FieldKind) (v : Scalar) → true ≡ true → is_stored k v ≡ true → is_64 v ≡ true
+stored_64 k (Word w) t h = refl
+stored_64 k (Flag b) t h = refl
+stored_64 Long (Whole z) t h = h
+stored_64 Integer (Whole z) t h = h
+stored_64 Short (Whole z) t h = h
+stored_64 Byte (Whole z) t h = h
+stored_64 Keyword (Whole z) t h = absurd (false≢true h)
+stored_64 Boolean (Whole z) t h = absurd (false≢true h)
+stored_64 Date (Whole z) t h = instant_in_64 z h
+
+value_dated : (k : FieldKind) (v : Scalar) → is_date_kind k ≡ true → is_value k v ≡ true → is_number is_in_range v ≡ true
+value_dated k (Word w) t h = refl
+value_dated k (Flag b) t h = refl
+value_dated Long (Whole z) t h = absurd (false≢true t)
+value_dated Integer (Whole z) t h = absurd (false≢true t)
+value_dated Short (Whole z) t h = absurd (false≢true t)
+value_dated Byte (Whole z) t h = absurd (false≢true t)
+value_dated Keyword (Whole z) t h = absurd (false≢true t)
+value_dated Boolean (Whole z) t h = absurd (false≢true t)
+value_dated Date (Whole z) t h = h
+
+stored_dated : (k : FieldKind) (v : Scalar) → is_date_kind k ≡ true → is_stored k v ≡ true → is_number is_in_range v ≡ true
+stored_dated k (Word w) t h = refl
+stored_dated k (Flag b) t h = refl
+stored_dated Long (Whole z) t h = absurd (false≢true t)
+stored_dated Integer (Whole z) t h = absurd (false≢true t)
+stored_dated Short (Whole z) t h = absurd (false≢true t)
+stored_dated Byte (Whole z) t h = absurd (false≢true t)
+stored_dated Keyword (Whole z) t h = absurd (false≢true t)
+stored_dated Boolean (Whole z) t h = absurd (false≢true t)
+stored_dated Date (Whole z) t h = h
 
 abbrev pub all_64 : List Scalar → Bool
 all_64 vs = list_all is_64 vs
 
-values_64 : (k : FieldKind) (vs : List Scalar) → list_all (is_value k) vs ≡ true → all_64 vs ≡ true
-values_64 k [] h = refl
-values_64 k (v ∷ vs) h = let parts = and_parts (is_value k v) (list_all (is_value k) vs) h in and_from _ _ (value_64 k v parts.0) (values_64 k vs parts.1)
+-- What holds of the values of fields of some kinds, and of those that stand for them, holds of the values of rows.
+module _ (kinds : FieldKind → Bool) (p : Scalar → Bool) (valued : (k : FieldKind) (v : Scalar) → kinds k ≡ true → is_value k v ≡ true → p v ≡ true)
+    (kept : (k : FieldKind) (v : Scalar) → kinds k ≡ true → is_stored k v ≡ true → p v ≡ true) (m : Mapping) where
+  all_valued : (k : FieldKind) (vs : List Scalar) → kinds k ≡ true → list_all (is_value k) vs ≡ true → list_all p vs ≡ true
+  all_valued k [] t h = refl
+  all_valued k (v ∷ vs) t h = let parts = and_parts (is_value k v) (list_all (is_value k) vs) h in and_from _ _ (valued k v t parts.0) (all_valued k vs t parts.1)
 
-module _ (m : Mapping) where
-  own_64 : (context field : ℕ) (vs : List Scalar) → is_own m context field vs ≡ true → all_64 vs ≡ true
-  own_64 context field vs h =
-      elim (slice_get m.fields field) as (λ o. option_map_or (λ (f : Field). (f.context == context) && list_all (is_value f.kind) vs) o false ≡ true → all_64 vs ≡ true) [
-        | None ↦ λ e. absurd (false≢true e)
-        | Some f ↦ λ e. values_64 f.kind vs (and_parts (f.context == context) (list_all (is_value f.kind) vs) e).1
+  own_valued : (context field : ℕ) (vs : List Scalar) → field_is m kinds field ≡ true → is_own m context field vs ≡ true → list_all p vs ≡ true
+  own_valued context field vs t h =
+      elim (slice_get m.fields field) as (λ o. option_map_or (λ (f : Field). kinds f.kind) o false ≡ true
+      → option_map_or (λ (f : Field). (f.context == context) && list_all (is_value f.kind) vs) o false ≡ true → list_all p vs ≡ true) [
+        | None ↦ λ t e. absurd (false≢true e)
+        | Some f ↦ λ t e. all_valued f.kind vs t (and_parts (f.context == context) (list_all (is_value f.kind) vs) e).1
+      ] t h
+
+  module _ (field : ℕ) (of_kind : field_is m kinds field ≡ true) where
+    found_valued : (context least : ℕ) (fs : List FieldValues) → fields_fit m context least fs ≡ true
+        → list_all p (unwrap_or (option_map (λ (v : FieldValues). v.values) (find (λ (v : FieldValues). v.field == field) fs)) []) ≡ true
+    found_valued context least [] h = refl
+    found_valued context least (f ∷ fs) h =
+        let first = (and_parts (nat_le least f.field) (field_fits m context f && fields_fit m context (f.field + 1) fs) h).1 in
+        let parts = and_parts (field_fits m context f) (fields_fit m context (f.field + 1) fs) first in
+        let own = (and_parts (is_own m context f.field f.values) (is_number_of_values (length f.values) && ascend f.values) parts.0).0 in
+        elim (f.field == field) as (λ b. (f.field == field) ≡ b
+        → list_all p (unwrap_or (option_map (λ (v : FieldValues). v.values) (cond b (Some f) (find (λ (v : FieldValues). v.field == field) fs))) []) ≡ true) [
+          | true ↦ λ e. own_valued context field f.values of_kind (subst (λ n. is_own m context n f.values ≡ true) (eqb-true f.field field e) own)
+          | false ↦ λ e. found_valued context (f.field + 1) fs parts.1
+        ] refl
+
+    -- the values of a placed row, and what stands for them
+    row_valued : (missing : Option Scalar) → field_is m (λ k. kinds k && is_missing k missing) field ≡ true → (row : PlacedRow) → placed_fits m row ≡ true
+        → list_all p (values_or field missing row) ≡ true
+    row_valued missing h row fits =
+        or_valued (values_of field row) (found_valued row.context 0 row.values (and_parts (nat_le row.context (length m.nested)) (fields_fit m row.context 0 row.values) fits).1)
+      where
+        stands : (missing : Option Scalar) (o : Option Field) → option_map_or (λ (f : Field). kinds f.kind && is_missing f.kind missing) o false ≡ true
+            → list_all p (or_missing missing []) ≡ true
+        stands None o e = refl
+        stands (Some s) None e = absurd (false≢true e)
+        stands (Some s) (Some f) e = let parts = and_parts (kinds f.kind) (is_stored f.kind s) e in and_from _ _ (kept f.kind s parts.0 parts.1) refl
+
+        or_valued : (vs : List Scalar) → list_all p vs ≡ true → list_all p (or_missing missing vs) ≡ true
+        or_valued [] e = stands missing (slice_get m.fields field) h
+        or_valued (v ∷ vs) e = e
+
+  -- a field with such a value for rows without one is of such a kind
+  kind_of : (field : ℕ) (missing : Option Scalar) → field_is m (λ k. kinds k && is_missing k missing) field ≡ true → field_is m kinds field ≡ true
+  kind_of field missing h =
+      elim (slice_get m.fields field) as (λ o. option_map_or (λ (f : Field). kinds f.kind && is_missing f.kind missing) o false ≡ true → option_map_or (λ (f : Field). kinds f.kind) o false ≡ true) [
+        | None ↦ λ e. e
+        | Some f ↦ λ e. (and_parts (kinds f.kind) (is_missing f.kind missing) e).0
       ] h
 
-  found_64 : (context least field : ℕ) (fs : List FieldValues) → fields_fit m context least fs ≡ true → all_64 (unwrap_or (option_map (λ (v : FieldValues). v.values) (find (λ (v : FieldValues). v.field == field) fs)) []) ≡ true
-  found_64 context least field [] h = refl
-  found_64 context least field (f ∷ fs) h =
-      let first = (and_parts (nat_le least f.field) (field_fits m context f && fields_fit m context (f.field + 1) fs) h).1 in
-      let parts = and_parts (field_fits m context f) (fields_fit m context (f.field + 1) fs) first in
-      let own = (and_parts (is_own m context f.field f.values) (is_number_of_values (length f.values) && ascend f.values) parts.0).0 in
-      elim (f.field == field) as (λ b. all_64 (unwrap_or (option_map (λ (v : FieldValues). v.values) (cond b (Some f) (find (λ (v : FieldValues). v.field == field) fs))) []) ≡ true) [
-        | true ↦ own_64 context f.field f.values own
-        | false ↦ found_64 context (f.field + 1) field fs parts.1
-      ]
-
-  -- the values of a placed row, and what stands for them
-  pub row_64 : (field : ℕ) (missing : Option Scalar) → field_is m (λ k. is_missing k missing) field ≡ true → (row : PlacedRow) → placed_fits m row ≡ true → all_64 (values_or field missing row) ≡ true
-  row_64 field missing h row fits = or_64 (values_of field row) (found_64 row.context 0 field row.values (and_parts (nat_le row.context (length m.nested)) (fields_fit m row.context 0 row.values) fits).1)
-    where
-      stands : (missing : Option Scalar) (o : Option Field) → option_map_or (λ (f : Field). is_missing f.kind missing) o false ≡ true → all_64 (or_missing missing []) ≡ true
-      stands None o e = refl
-      stands (Some s) None e = absurd (false≢true e)
-      stands (Some s) (Some f) e = and_from _ _ (stored_64 f.kind s e) refl
-
-      or_64 : (vs : List Scalar) → all_64 vs ≡ true → all_64 (or_missing missing vs) ≡ true
-      or_64 [] e = stands missing (slice_get m.fields field) h
-      or_64 (v ∷ vs) e = e
+  rows_valued : (field : ℕ) (missing : Option Scalar) → field_is m (λ k. kinds k && is_missing k missing) field ≡ true → (rows : List PlacedRow) → list_all (placed_fits m) rows ≡ true
+      → list_all (λ (r : PlacedRow). list_all p (values_or field missing r)) rows ≡ true
+  rows_valued field missing h [] e = refl
+  rows_valued field missing h (r ∷ rows) e =
+      let parts = and_parts (placed_fits m r) (list_all (placed_fits m) rows) e in
+      and_from _ _ (row_valued field (kind_of field missing h) missing h r parts.0) (rows_valued field missing h rows parts.1)
 
 -- one where a test fails
 abbrev pub missing_one : Bool → ℕ
@@ -153,13 +205,16 @@ module _ (all : List PlacedRow) (field : ℕ) (missing : Option Scalar) where
       let parts = and_parts (all_64 (values_or field missing r)) (list_all (λ (r : PlacedRow). all_64 (values_or field missing r)) rows) h in
       list_all-append is_64 (values_or field missing r) (flat_map (values_or field missing) rows) ∙ and_from _ _ parts.0 (all_rows_64 rows parts.1)
 
-  module _ (m : Mapping) (h : field_is m (λ k. is_missing k missing) field ≡ true) (placed : rows_placed m all ≡ true) where
-    each_64 : (rows : List PlacedRow) → list_all (placed_fits m) rows ≡ true → list_all (λ (r : PlacedRow). all_64 (values_or field missing r)) rows ≡ true
-    each_64 [] e = refl
-    each_64 (r ∷ rows) e = let parts = and_parts (placed_fits m r) (list_all (placed_fits m) rows) e in and_from _ _ (row_64 m field missing h r parts.0) (each_64 rows parts.1)
+  -- the values of counted rows at a field of dates are instants in their range
+  pub counted_dated : (m : Mapping) → is_date_field m field missing ≡ true → rows_placed m all ≡ true → (context : ℕ) (rows : List PlacedRow) → IsCounted all context rows
+      → list_all (λ (r : PlacedRow). list_all (is_number is_in_range) (values_or field missing r)) rows ≡ true
+  counted_dated m h placed context rows counted =
+      rows_valued is_date_kind (is_number is_in_range) value_dated stored_dated m field missing h rows (counted_hold (placed_fits m) all context rows placed counted)
 
+  module _ (m : Mapping) (h : field_is m (λ k. is_missing k missing) field ≡ true) (placed : rows_placed m all ≡ true) where
     pub counted_64 : (context : ℕ) (rows : List PlacedRow) → IsCounted all context rows → list_all (λ (r : PlacedRow). all_64 (values_or field missing r)) rows ≡ true
-    counted_64 context rows counted = each_64 rows (counted_hold (placed_fits m) all context rows placed counted)
+    counted_64 context rows counted =
+        rows_valued (λ k. true) is_64 value_64 stored_64 m field missing h rows (counted_hold (placed_fits m) all context rows placed counted)
 
     -- and their sum is no more than so many times 2^63
     pub sums_light : (context : ℕ) (rows : List PlacedRow) → IsCounted all context rows → size (metric_of (flat_map (values_or field missing) rows)).sum ≤ rows_weight all * 2 ^ 63

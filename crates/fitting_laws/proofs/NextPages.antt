@@ -123,6 +123,7 @@ module _ (a : Agg) where
           answer_all sources size after name children (parts (whole_by ws (kind.Composite sources size after) by_key xs)) (whole_all (length sources) ws (kind.Composite sources size after) xs h)
   of_kind (kind.Terms a b c d n f g h i) e shards rows ws name children = absurd (false≢true e)
   of_kind (kind.Histogram a b c d n f g h i) e shards rows ws name children = absurd (false≢true e)
+  of_kind (kind.DateHistogram a b c d n f g h i) e shards rows ws name children = absurd (false≢true e)
   of_kind (kind.Filters a b c) e shards rows ws name children = absurd (false≢true e)
   of_kind (kind.Filter a) e shards rows ws name children = absurd (false≢true e)
   of_kind (kind.Missing a) e shards rows ws name children = absurd (false≢true e)

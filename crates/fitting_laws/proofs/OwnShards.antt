@@ -6,10 +6,13 @@ use Rattle.std.specs.Ordering.{is_gt}
 use Rattle.std.proofs.Common.{sym, ap, subst, arith}
 use Rattle.std.proofs.lemmas.Bool.{and_parts}
 use Rattle.std.proofs.lemmas.Bool.Decides.{nat_tests}
+use Rattle.date_spec.specs.Instants.{is_in_range}
+use Rattle.agg_model.specs.FieldKinds.{fits_below}
 use Rattle.agg_model.specs.Options.{TermsOptions, terms_kind}
 use Rattle.agg_model.specs.BoundsOrder.{is_at_most, lies_within}
 use Rattle.agg_model.specs.declared.aggregation.Agg.{Agg, Agg', Row_of-Agg, end_of-Agg, more_of-Agg}
 use Rattle.agg_model.specs.declared.aggregation.CompositeSource.{CompositeSource}
+use Rattle.agg_model.specs.declared.aggregation.Spacing.TheVariants.{Numbers, Dates}
 use Rattle.agg_model.specs.declared.aggregation.Kind.{Kind}
 use Rattle.agg_model.specs.declared.aggregation.Kind.TheVariants as kind
 use Rattle.agg_model.specs.declared.key.Key.{Key}
@@ -18,6 +21,7 @@ use Rattle.agg_model.specs.declared.partial.Bucket.{Bucket}
 use Rattle.agg_model.specs.declared.partial.Metric.{Metric}
 use Rattle.agg_model.specs.declared.partial.Node.{Node}
 use Rattle.agg_model.specs.declared.partial.Node.TheVariants.{Keyed, Fixed, Number}
+use Rattle.agg_evaluation.specs.Conditions.{is_spaced}
 use Rattle.agg_evaluation.specs.Counted.{IsApart, IsCounted}
 use Rattle.agg_evaluation.specs.Folds.{fold_aggs}
 use Rattle.agg_evaluation.specs.Groups.{under, group, all_keys, total_key_count}
@@ -26,7 +30,8 @@ use Rattle.agg_evaluation.specs.Keys.{keys}
 use Rattle.agg_evaluation.specs.Orders.{bucket_key, bucket_count, bucket_cmp, composite_cmp}
 use Rattle.agg_evaluation.specs.PlacedFits.{rows_placed}
 use Rattle.agg_evaluation.specs.Rows.{PlacedRow, roots}
-use Rattle.agg_evaluation.specs.SearchFits.{kind_fits, Made, made_at, handed, agg_fits, is_whole_field, is_interval, orders_fit}
+use Rattle.agg_evaluation.specs.SearchFits.{kind_fits, Made, made_at, handed, agg_fits, is_whole_field, is_date_field, is_interval, orders_fit}
+use Rattle.agg_evaluation.specs.Spacings.{is_period, is_zone, are_instants}
 use Rattle.agg_evaluation.specs.Shard.{Collector, fixed_keys, is_terms, page, with_covered, bucket_of, node_of, collector_of, collected_node}
 use Rattle.agg_evaluation.specs.Trees.{pass_each, have_children}
 use Rattle.agg_evaluation.specs.Whole.{Parts, parts, parts_at}
@@ -34,10 +39,11 @@ use Rattle.list_laws.specs.Sorting.{sorted}
 use Rattle.agg_evaluation.proofs.NodeForms.{out-Keyed, out-Fixed, out-Number}
 use Rattle.list_laws.proofs.Booleans.{and_left, and_right, both}
 use Rattle.list_laws.proofs.Occurrences.{all-sorted, all-take, all-map}
-use Rattle.fitting_laws.proofs.BucketKeys.{distinct_all, histogram_rows, composite_rows}
+use Rattle.fitting_laws.proofs.BucketKeys.{distinct_all, number_starts, instant_starts, histogram_rows, composite_rows}
 use Rattle.fitting_laws.proofs.Counting.{under_counted, filter_counted}
 use Rattle.agg_evaluation.proofs.MadeSearches.{made_parts}
-use Rattle.fitting_laws.proofs.Measures.{counted_64}
+use Rattle.agg_evaluation.proofs.SpacingLaws.{period-is, zone-is}
+use Rattle.fitting_laws.proofs.Measures.{counted_64, counted_dated}
 use Rattle.fitting_laws.proofs.Owns.{is_made_key, made_keys, are_covered, owns_parts, owns}
 use Rattle.fitting_laws.proofs.ReachShards.{whole_field}
 
@@ -134,14 +140,25 @@ module _ (all : List PlacedRow) where
         terms context cs os laws rows counted (record { field = field; size = size; shard_size = shard_size; min_doc_count = least; order = order; include = include; exclude = exclude; missing = missing; show_error = show })
     node_owns context cs os laws top outer children (kind.Histogram field interval offset least extended hard is_keyed order missing) h rows counted =
         let k = kind.Histogram field interval offset least extended hard is_keyed order missing in
-        let first = and_parts (is_whole_field m field missing) (is_interval interval && (nat_lt offset interval && (is_at_most extended.min extended.max && (is_at_most hard.min hard.max && (lies_within extended hard && orders_fit children order))))) h in
-        let second = (and_parts (is_interval interval) (nat_lt offset interval && (is_at_most extended.min extended.max && (is_at_most hard.min hard.max && (lies_within extended hard && orders_fit children order)))) first.1).0 in
-        let third = and_parts (nat_le 1 interval) (nat_lt interval (2 ^ 63)) second in
+        let rest = is_at_most extended.min extended.max && (is_at_most hard.min hard.max && (lies_within extended hard && orders_fit children order)) in
+        let first = and_parts (is_whole_field m field missing) ((is_interval interval && nat_lt offset interval) && rest) h in
+        let second = and_parts (is_interval interval && nat_lt offset interval) rest first.1 in
+        let third = and_parts (nat_le 1 interval) (nat_lt interval (2 ^ 63)) (and_parts (is_interval interval) (nat_lt offset interval) second.0).0 in
         let low = third.0 in
         let high = third.1 in
         let some : 0 < interval = grind (arith, nat_tests, low) in
         let near : interval < 2 ^ 63 = grind (arith, nat_tests, high) in
-        let of_rows = histogram_rows interval offset some near hard field missing rows (counted_64 all field missing m (whole_field m field missing first.0) placed context rows counted) in
+        let of_rows = histogram_rows (Numbers interval offset) (fits_below (2 ^ 63)) (number_starts interval offset some near) hard field missing rows
+        (counted_64 all field missing m (whole_field m field missing first.0) placed context rows counted) in
+        keyed context cs os laws rows counted k (all_keys all k rows) refl (distinct_all (is_made_key k) (flat_map (keys all k) rows) of_rows)
+    node_owns context cs os laws top outer children (kind.DateHistogram field period zone least extended hard is_keyed order missing) h rows counted =
+        let k = kind.DateHistogram field period zone least extended hard is_keyed order missing in
+        let rest = is_at_most extended.min extended.max && (is_at_most hard.min hard.max && (lies_within extended hard && orders_fit children order)) in
+        let first = and_parts (is_date_field m field missing) (is_spaced (Dates period zone) extended hard && rest) h in
+        let second = and_parts (is_period period) (is_zone zone && (are_instants extended && are_instants hard)) (and_parts (is_spaced (Dates period zone) extended hard) rest first.1).0 in
+        let zoned = (and_parts (is_zone zone) (are_instants extended && are_instants hard) second.1).0 in
+        let of_rows = histogram_rows (Dates period zone) is_in_range (instant_starts period zone (period-is period second.0) (zone-is zone zoned)) hard field missing rows
+        (counted_dated all field missing m first.0 placed context rows counted) in
         keyed context cs os laws rows counted k (all_keys all k rows) refl (distinct_all (is_made_key k) (flat_map (keys all k) rows) of_rows)
     node_owns context cs os laws top outer children (kind.Composite sources size after) h rows counted =
         let k = kind.Composite sources size after in

@@ -31,7 +31,7 @@ use Rattle.fitting_laws.proofs.ReachUnions.{AreLevels, levels_of, all_children, 
 -- a key such as the aggregation makes
 abbrev pub is_made_key : Kind → Key → Bool
 is_made_key k key = elim (options_of k) [
-  | Options.Histogram h ↦ is_histogram_key h.interval h.offset h.hard key
+  | Options.Histogram h ↦ is_histogram_key h.spacing h.hard key
   | Options.Composite sources size after ↦ is_composite_of (length sources) key
   | _ ↦ true
 ]
@@ -171,6 +171,7 @@ module _ (ws : List Union) (ts os : List (Node → Bool)) (laws : EachKeeps ws t
 kind_keeps : (ws : List Union) (ts os : List (Node → Bool)) → EachKeeps ws ts os → (k : Kind) → Keeps (whole_by ws k (shape_of k)) (λ x. is_tree_at ts (fixed_keys k) (shape_of k) (out-Node x)) (λ x. owns_parts os k (parts x))
 kind_keeps ws ts os laws (kind.Terms a b c d n f g h i) = keyed_keeps ws ts os laws (kind.Terms a b c d n f g h i)
 kind_keeps ws ts os laws (kind.Histogram a b c d n f g h i) = keyed_keeps ws ts os laws (kind.Histogram a b c d n f g h i)
+kind_keeps ws ts os laws (kind.DateHistogram a b c d n f g h i) = keyed_keeps ws ts os laws (kind.DateHistogram a b c d n f g h i)
 kind_keeps ws ts os laws (kind.Composite a b c) = keyed_keeps ws ts os laws (kind.Composite a b c)
 kind_keeps ws ts os laws (kind.Filters a b c) = started_keeps ws ts os laws (kind.Filters a b c) refl (λ key. tt)
 kind_keeps ws ts os laws (kind.Filter a) = started_keeps ws ts os laws (kind.Filter a) refl (λ key. tt)

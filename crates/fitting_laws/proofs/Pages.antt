@@ -29,6 +29,7 @@ composite_after m top context children (kind.Composite sources size after) key t
     and_from _ _ a.0 (and_from _ _ b.0 (and_from _ _ c.0 (and_from _ _ d.0 (and_from _ _ e.0 (and_from _ _ f.0 t)))))
 composite_after m top context children (kind.Terms a b c d n f g h i) key t e = e
 composite_after m top context children (kind.Histogram a b c d n f g h i) key t e = e
+composite_after m top context children (kind.DateHistogram a b c d n f g h i) key t e = e
 composite_after m top context children (kind.Filters a b c) key t e = e
 composite_after m top context children (kind.Filter a) key t e = e
 composite_after m top context children (kind.Missing a) key t e = e
@@ -45,6 +46,7 @@ same_metric : (key : Key) (k : Kind) → is_metric (kind_after key k) ≡ is_met
 same_metric key (kind.Composite sources size after) = refl
 same_metric key (kind.Terms a b c d n f g h i) = refl
 same_metric key (kind.Histogram a b c d n f g h i) = refl
+same_metric key (kind.DateHistogram a b c d n f g h i) = refl
 same_metric key (kind.Filters a b c) = refl
 same_metric key (kind.Filter a) = refl
 same_metric key (kind.Missing a) = refl
@@ -61,6 +63,7 @@ same_handed : (context : ℕ) (key : Key) (k : Kind) → handed context (kind_af
 same_handed context key (kind.Composite sources size after) = refl
 same_handed context key (kind.Terms a b c d n f g h i) = refl
 same_handed context key (kind.Histogram a b c d n f g h i) = refl
+same_handed context key (kind.DateHistogram a b c d n f g h i) = refl
 same_handed context key (kind.Filters a b c) = refl
 same_handed context key (kind.Filter a) = refl
 same_handed context key (kind.Missing a) = refl

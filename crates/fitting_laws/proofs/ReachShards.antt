@@ -197,6 +197,9 @@ module _ (number : Metric → ℕ) (bound : ℕ) (all : List PlacedRow) (heavy :
     node_within context cs fs laws top outer children (kind.Histogram field interval offset least extended hard keyed order missing) h rows counted =
         let k = kind.Histogram field interval offset least extended hard keyed order missing in
         plain context cs fs laws rows counted k (all_keys all k rows) refl
+    node_within context cs fs laws top outer children (kind.DateHistogram field period zone least extended hard keyed order missing) h rows counted =
+        let k = kind.DateHistogram field period zone least extended hard keyed order missing in
+        plain context cs fs laws rows counted k (all_keys all k rows) refl
     node_within context cs fs laws top outer children (kind.Composite sources size after) h rows counted =
         let k = kind.Composite sources size after in
         plain context cs fs laws rows counted k (page sources size after (all_keys all k rows)) refl

@@ -21,6 +21,7 @@ use Rattle.agg_reading.specs.Json.{object_at, known, json_at, optional}
 use Rattle.agg_reading.specs.Numbers.{truth_at}
 use Rattle.agg_reading.specs.Terms.{terms_at}
 use Rattle.agg_reading.specs.Histogram.{histogram_at}
+use Rattle.agg_reading.specs.DateHistogram.{date_histogram_at}
 use Rattle.agg_reading.specs.Metrics.{Metered, number_metric_at, extreme_at, any_metric_at, missing_kind_at, global_at, nested_context_at, outer_context_at}
 use Rattle.agg_reading.specs.Orders.{with_order, child_from, or_else, child_named, compared_by, resolved}
 use Rattle.agg_model.specs.Options.{is_sortable}
@@ -47,6 +48,7 @@ use Rattle.agg_evaluation.specs.QueryFits.{query_fits, field_is}
 use Rattle.agg_model.specs.FieldKinds.{is_number_kind}
 use Rattle.fitting_laws.proofs.Queries.{top_query_fits, or_refuse_ok}
 use Rattle.fitting_laws.proofs.KindReads.{weaken, number_metric_ok, extreme_ok, any_metric_ok, KindRead, PairRead, terms_read, histogram_read}
+use Rattle.fitting_laws.proofs.PeriodReads.{date_histogram_read}
 
 -- the kinds
 
@@ -64,6 +66,7 @@ module _ (m : Mapping) (context : ℕ) where
   unfolding kind_at with_order
   kind_read name.Terms queries at d = next_ok (PairRead m context name.Terms) (Read name.Terms) (terms_at m at d) _ (terms_read m context at d) (λ k r. r)
   kind_read name.Histogram queries at d = next_ok (PairRead m context name.Histogram) (Read name.Histogram) (histogram_at m at d) _ (histogram_read m context at d) (λ k r. r)
+  kind_read name.DateHistogram queries at d = next_ok (PairRead m context name.DateHistogram) (Read name.DateHistogram) (date_histogram_at m at d) _ (date_histogram_read m context at d) (λ k r. r)
   kind_read name.Filters queries at d = next_ok (λ (f : Kind × ℕ). KindRead m context name.Filters f.0 0 context) (Read name.Filters) (filters_at m context queries at d) _ (filters_read m context queries at d) (λ k r. r)
   kind_read name.Filter queries at d = filter_read queries at d
   kind_read name.Missing queries at d = next_ok (λ k. KindRead m context name.Missing k 0 context) (Read name.Missing) (missing_kind_at m at d) _ (missing_read m context at d) (λ k r. r)
@@ -140,6 +143,7 @@ resolved_ok children done (o ∷ os) h =
 below_top : (m : Mapping) (context : ℕ) (children : List Kind) (k : Kind) → kind_fits m true context children k ≡ true → is_top k ≡ false → kind_fits m false context children k ≡ true
 below_top m context children (kind.Terms a b c d n f g h i) fit e = fit
 below_top m context children (kind.Histogram a b c d n f g h i) fit e = fit
+below_top m context children (kind.DateHistogram a b c d n f g h i) fit e = fit
 below_top m context children (kind.Filters a b c) fit e = fit
 below_top m context children (kind.Filter a) fit e = fit
 below_top m context children (kind.Missing a) fit e = fit

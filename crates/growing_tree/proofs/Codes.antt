@@ -9,6 +9,7 @@ use Rattle.shard_columns.specs.Values.{Words}
 use Rattle.terms_agg.specs.Codes.{code_words, content_in, is_code, key_at, key_of}
 use Rattle.terms_agg.specs.Prepared.{IsReady}
 use Rattle.filters_agg.specs.declared.prepared_filters.PreparedFilters.{PreparedFilters}
+use Rattle.date_agg.proofs.Coding.{keys-apart as periods-apart}
 use Rattle.histogram_agg.proofs.Coding.{keys-apart}
 use Rattle.terms_agg.specs.declared.content.Content.{Content}
 use Rattle.terms_agg.specs.declared.content.Content.TheVariants as content
@@ -24,7 +25,7 @@ use Rattle.shard_columns.specs.Columns.{Columns}
 use Rattle.growing_tree.specs.Codes.{code_key, fixed_key, key_where, no_key}
 use Rattle.growing_tree.specs.Readiness.{IsKindReady}
 use Rattle.growing_tree.specs.declared.ready.ReadyKind.{ReadyKind}
-use Rattle.growing_tree.specs.declared.ready.ReadyKind.TheVariants.{Single, Metric, Terms, Filters, Histogram, Composite}
+use Rattle.growing_tree.specs.declared.ready.ReadyKind.TheVariants.{Single, Metric, Terms, Filters, Histogram, DateHistogram, Composite}
 
 -- the number that a key shows
 number_at : Key-F ℤ → ℤ
@@ -84,6 +85,7 @@ codes-own shard k Metric h c d e = fixed-own c d e
 codes-own shard k (Terms p) h c d e = terms-own shard k p h c d e
 codes-own shard k (Filters p) h c d e = fixed-own c d e
 codes-own shard k (Histogram p) h c d e = keys-apart p c d e
+codes-own shard k (DateHistogram p) h c d e = periods-apart p c d e
 codes-own shard k Composite h c d e = fixed-own c d e
 
 -- the bytes of keys that no row has

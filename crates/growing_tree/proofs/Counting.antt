@@ -9,6 +9,9 @@ use Rattle.list_laws.proofs.Options.{some_same}
 use Rattle.agg_model.specs.declared.aggregation.Agg.{Agg, out-Agg}
 use Rattle.agg_model.specs.declared.aggregation.Kind.{Kind}
 use Rattle.agg_model.specs.declared.aggregation.Kind.TheVariants as kind
+use Rattle.agg_model.specs.declared.aggregation.Spacing.{Spacing}
+use Rattle.agg_model.specs.declared.aggregation.Spacing.TheVariants.{Numbers, Dates}
+use Rattle.agg_model.specs.Options.{HistogramOptions, histogram_kind}
 use Rattle.agg_model.specs.declared.key.Key.{Key}
 use Rattle.agg_model.specs.declared.partial.Bucket.{Bucket}
 use Rattle.agg_model.specs.declared.partial.Metric.{Metric}
@@ -29,7 +32,7 @@ use Rattle.growing_tree.specs.Shown.{HasBuckets, IsAlike, TakesRows, node_with, 
 use Rattle.growing_tree.specs.Trees.{level_node}
 use Rattle.growing_tree.specs.declared.ready.Ready.{Ready, out-Ready}
 use Rattle.growing_tree.specs.declared.ready.ReadyKind.{ReadyKind}
-use Rattle.growing_tree.specs.declared.ready.ReadyKind.TheVariants.{Single, Metric as Values, Terms, Filters, Histogram, Composite}
+use Rattle.growing_tree.specs.declared.ready.ReadyKind.TheVariants.{Single, Metric as Values, Terms, Filters, Histogram, DateHistogram, Composite}
 use Rattle.growing_tree.specs.declared.tree.Level.{Level}
 use Rattle.growing_tree.specs.declared.tree.Level.TheVariants.{Keyed, Measured, Counts, Fixed, Number}
 use Rattle.growing_tree.proofs.Finals.{keeps_all}
@@ -44,13 +47,22 @@ filtering-keeps (kind.Filter query) h = refl
 filtering-keeps (kind.Missing field) h = refl
 filtering-keeps _ h = absurd h
 
+-- and histograms too
+histogram-keeps : (h : HistogramOptions) → keeps_all (histogram_kind h) ≡ true
+histogram-keeps h = at h.spacing
+  where
+    at : (s : Spacing) → keeps_all (histogram_kind (record h { spacing = s })) ≡ true
+    at (Numbers interval offset) = refl
+    at (Dates period zone) = refl
+
 -- an aggregation whose rows have their own keys keeps all its buckets
 pub keyed-keeps : (shard : Columns) (k : Kind) (r : ReadyKind) → IsKindReady shard k r → IsTrue (is_keyed r) → keeps_all k ≡ true
 keyed-keeps shard k Single h keyed = absurd (false≢true keyed)
 keyed-keeps shard k Values h keyed = absurd (false≢true keyed)
 keyed-keeps shard k (Terms p) h keyed = ap keeps_all h.kind_is
 keyed-keeps shard k (Filters p) h keyed = filtering-keeps k h.filtering
-keyed-keeps shard k (Histogram p) h keyed = ap keeps_all h.kind_is
+keyed-keeps shard k (Histogram p) h keyed = ap keeps_all h.kind_is ∙ histogram-keeps h.options
+keyed-keeps shard k (DateHistogram p) h keyed = ap keeps_all h.0.kind_is ∙ histogram-keeps h.0.options
 keyed-keeps shard k Composite h keyed = absurd (false≢true keyed)
 
 -- a list of which it is told that it is empty

@@ -8,6 +8,9 @@ use Rattle.std.proofs.lemmas.Option.{slice_get-get_or, slice_get-map}
 use Rattle.agg_model.specs.declared.aggregation.Agg.{Agg, out-Agg}
 use Rattle.agg_model.specs.declared.aggregation.Kind.{Kind}
 use Rattle.agg_model.specs.declared.aggregation.Kind.TheVariants as kind
+use Rattle.agg_model.specs.declared.aggregation.Spacing.{Spacing}
+use Rattle.agg_model.specs.declared.aggregation.Spacing.TheVariants.{Numbers, Dates}
+use Rattle.agg_model.specs.Options.{HistogramOptions, histogram_kind}
 use Rattle.agg_model.specs.declared.partial.Bucket.{Bucket}
 use Rattle.agg_evaluation.specs.Cost.{node_cost}
 use Rattle.agg_evaluation.specs.Groups.{under}
@@ -24,7 +27,7 @@ use Rattle.growing_tree.specs.Shown.{HasBuckets, IsAlike, node_with}
 use Rattle.growing_tree.specs.Trees.{level_node}
 use Rattle.growing_tree.specs.declared.ready.Ready.{Ready, out-Ready}
 use Rattle.growing_tree.specs.declared.ready.ReadyKind.{ReadyKind}
-use Rattle.growing_tree.specs.declared.ready.ReadyKind.TheVariants.{Single, Metric, Terms, Filters, Histogram, Composite}
+use Rattle.growing_tree.specs.declared.ready.ReadyKind.TheVariants.{Single, Metric, Terms, Filters, Histogram, DateHistogram, Composite}
 use Rattle.growing_tree.specs.declared.tree.Level.{Level}
 use Rattle.growing_tree.specs.declared.tree.Level.TheVariants.{Keyed, Measured, Counts, Fixed, Number}
 use Rattle.growing_tree.proofs.Children.{take-full}
@@ -64,12 +67,20 @@ filtering-handed all (kind.Filter query) rows h = refl
 filtering-handed all (kind.Missing field) rows h = refl
 filtering-handed all _ rows h = absurd h
 
+histogram-handed : (all : List PlacedRow) (h : HistogramOptions) (rows : List PlacedRow) → under all [] (histogram_kind h) rows ≡ rows
+histogram-handed all h rows = at h.spacing
+  where
+    at : (s : Spacing) → under all [] (histogram_kind (record h { spacing = s })) rows ≡ rows
+    at (Numbers interval offset) = refl
+    at (Dates period zone) = refl
+
 pub keyed-handed : (shard : Columns) (k : Kind) (r : ReadyKind) (rows : List PlacedRow) → IsKindReady shard k r → IsTrue (is_keyed r) → under shard.rows [] k rows ≡ rows
 keyed-handed shard k Single rows h keyed = absurd (false≢true keyed)
 keyed-handed shard k Metric rows h keyed = absurd (false≢true keyed)
 keyed-handed shard k (Terms p) rows h keyed = ap (λ q. under shard.rows [] q rows) h.kind_is
 keyed-handed shard k (Filters p) rows h keyed = filtering-handed shard.rows k rows h.filtering
-keyed-handed shard k (Histogram p) rows h keyed = ap (λ q. under shard.rows [] q rows) h.kind_is
+keyed-handed shard k (Histogram p) rows h keyed = ap (λ q. under shard.rows [] q rows) h.kind_is ∙ histogram-handed shard.rows h.options rows
+keyed-handed shard k (DateHistogram p) rows h keyed = ap (λ q. under shard.rows [] q rows) h.0.kind_is ∙ histogram-handed shard.rows h.0.options rows
 keyed-handed shard k Composite rows h keyed = absurd (false≢true keyed)
 
 -- what a node costs that has buckets

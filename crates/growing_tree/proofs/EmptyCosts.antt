@@ -62,6 +62,7 @@ empty-cost a = at (out-Agg a).kind refl
     at (kind.ReverseNested context) is = fixed (kind.ReverseNested context) (0 ∷ []) is refl refl
     at (kind.Terms field size shard_size min_doc_count order include exclude missing show_error) is = keyed _ is refl
     at (kind.Histogram field interval offset min_doc_count extended hard keyed_answer order missing) is = keyed _ is refl
+    at (kind.DateHistogram field period zone min_doc_count extended hard keyed_answer order missing) is = keyed _ is refl
     at (kind.Composite sources size after) is = keyed _ is refl
     at (kind.Sum field missing) is = number _ is refl
     at (kind.Min field missing) is = number _ is refl

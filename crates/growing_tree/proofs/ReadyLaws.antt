@@ -1,5 +1,5 @@
 -- Aggregations that are made for a shard's mapping can be prepared, and what is prepared level by level is prepared.
-use Rattle.std.specs.Prelude.{◌≡◌, refl, ℕ, zero, suc, ◌≤◌, ◌<◌, ◌^◌, ◌+◌, List, [], ◌∷◌, ◌++◌, length, map, take, slice_get, Option, Some, None, option_and_then, sum_by, nat_le}
+use Rattle.std.specs.Prelude.{◌≡◌, refl, ℕ, ℤ, Bool, zero, suc, ◌≤◌, ◌<◌, ◌^◌, ◌+◌, List, [], ◌∷◌, ◌++◌, length, map, take, slice_get, Option, Some, None, option_and_then, sum_by, nat_le}
 use Rattle.std.proofs.Common.{sym, ◌∙◌, ap, subst, arith, get_or}
 use Rattle.std.proofs.Math.Bool.{Bool-set}
 use Rattle.std.proofs.Math.Logic.{∥∥₁_elim}
@@ -12,13 +12,22 @@ use Rattle.list_laws.proofs.Options.{none_some, some_same}
 use Rattle.agg_model.specs.declared.aggregation.Agg.{Agg, out-Agg, size-Agg}
 use Rattle.agg_model.specs.declared.aggregation.Agg.TheViews.{size_is-Agg}
 use Rattle.agg_model.specs.declared.aggregation.Kind.{Kind}
+use Rattle.agg_model.specs.declared.aggregation.Bounds.{Bounds}
 use Rattle.agg_model.specs.declared.aggregation.Kind.TheVariants as kind
+use Rattle.agg_model.specs.declared.aggregation.Order.{Order}
+use Rattle.agg_model.specs.declared.aggregation.Spacing.{Spacing}
+use Rattle.agg_model.specs.declared.aggregation.Spacing.TheVariants.{Numbers, Dates}
 use Rattle.agg_model.specs.declared.limits.TheConstants.{MAX_FILTERS}
 use Rattle.agg_model.specs.declared.query.Query.{Query}
-use Rattle.agg_model.specs.Options.{TermsOptions, HistogramOptions, terms_kind, histogram_kind}
+use Rattle.agg_model.specs.declared.row.Scalar.{Scalar}
+use Rattle.agg_model.specs.Options.{TermsOptions, HistogramOptions, terms_kind}
 use Rattle.agg_evaluation.specs.Cost.{node_cost}
 use Rattle.agg_evaluation.specs.SearchFits.{kind_fits}
 use Rattle.agg_evaluation.specs.Whole.{empty_node}
+use Rattle.date_agg.proofs.Made.{made-dated, made-dates}
+use Rattle.date_agg.specs.Codes.{IsDated}
+use Rattle.date_agg.specs.Dates.{IsOverDates}
+use Rattle.date_spec.specs.declared.period.Period.{Period}
 use Rattle.filters_agg.specs.Filtering.{IsFiltering, IsMadeFor}
 use Rattle.histogram_agg.proofs.Made.{made-spaced}
 use Rattle.histogram_agg.specs.Codes.{IsSpaced}
@@ -41,13 +50,39 @@ module _ (shard : Columns) where
             (made-terms found.0 found.1.1.1.0 t (ap (kind_fits found.0 found.1.0 found.1.1.0 found.1.1.1.0) (sym is) ∙ found.1.1.1.1.1) shard found.1.1.1.1.0).missing_fits v there);
       })
 
-  pub histogram-made : (k : Kind) (h : HistogramOptions) → k ≡ histogram_kind h → IsMadeFor shard k → IsSpaced k
-  histogram-made k h is made =
+  -- the options of a histogram, of which this is the spacing
+  abbrev pub spaced : Spacing → ℕ → ℕ → Bounds → Bounds → Bool → List Order → Option Scalar → HistogramOptions
+  spaced spacing field min_doc_count extended hard keyed order missing = record {
+    field = field;
+    spacing = spacing;
+    min_doc_count = min_doc_count;
+    extended = extended;
+    hard = hard;
+    keyed = keyed;
+    order = order;
+    missing = missing;
+  }
+
+  pub histogram-made : (k : Kind) (field interval offset min_doc_count : ℕ) (extended hard : Bounds) (keyed : Bool) (order : List Order) (missing : Option Scalar)
+      → k ≡ kind.Histogram field interval offset min_doc_count extended hard keyed order missing → IsMadeFor shard k → IsSpaced k
+  histogram-made k field interval offset min_doc_count extended hard keyed order missing is made =
+      let h = spaced (Numbers interval offset) field min_doc_count extended hard keyed order missing in
       subst IsSpaced (sym is) (
-        ltb-true h.offset h.interval (∥∥₁_elim made (Bool-set _ _) (λ found.
-            lt-ltb h.offset h.interval (made-spaced found.0 found.1.1.1.0 h (ap (kind_fits found.0 found.1.0 found.1.1.0 found.1.1.1.0) (sym is) ∙ found.1.1.1.1.1)).0)),
-        ltb-true h.interval (2 ^ 63) (∥∥₁_elim made (Bool-set _ _) (λ found.
-            lt-ltb h.interval (2 ^ 63) (made-spaced found.0 found.1.1.1.0 h (ap (kind_fits found.0 found.1.0 found.1.1.0 found.1.1.1.0) (sym is) ∙ found.1.1.1.1.1)).1)),
+        ltb-true offset interval (∥∥₁_elim made (Bool-set _ _) (λ found.
+            lt-ltb offset interval (made-spaced found.0 found.1.1.1.0 h interval offset refl (ap (kind_fits found.0 found.1.0 found.1.1.0 found.1.1.1.0) (sym is) ∙ found.1.1.1.1.1)).0)),
+        ltb-true interval (2 ^ 63) (∥∥₁_elim made (Bool-set _ _) (λ found.
+            lt-ltb interval (2 ^ 63) (made-spaced found.0 found.1.1.1.0 h interval offset refl (ap (kind_fits found.0 found.1.0 found.1.1.0 found.1.1.1.0) (sym is) ∙ found.1.1.1.1.1)).1)),
+      )
+
+  -- a date histogram can be prepared, and its field is one of dates
+  pub dates-made : (k : Kind) (field : ℕ) (period : Period) (zone : ℤ) (min_doc_count : ℕ) (extended hard : Bounds) (keyed : Bool) (order : List Order) (missing : Option Scalar)
+      → k ≡ kind.DateHistogram field period zone min_doc_count extended hard keyed order missing → IsMadeFor shard k → IsDated k × IsOverDates shard k
+  dates-made k field period zone min_doc_count extended hard keyed order missing is made =
+      let h = spaced (Dates period zone) field min_doc_count extended hard keyed order missing in (
+        subst IsDated (sym is) (∥∥₁_elim made (Bool-set _ _) (λ found.
+            made-dated found.0 found.1.1.1.0 h period zone refl (ap (kind_fits found.0 found.1.0 found.1.1.0 found.1.1.1.0) (sym is) ∙ found.1.1.1.1.1))),
+        subst (IsOverDates shard) (sym is) (∥∥₁_elim made (Bool-set _ _) (λ found.
+            made-dates found.0 shard found.1.1.1.0 h period zone refl found.1.1.1.1.0 (ap (kind_fits found.0 found.1.0 found.1.1.0 found.1.1.1.0) (sym is) ∙ found.1.1.1.1.1))),
       )
 
   pub filters-made : (k : Kind) (names : Option (List (List ℕ))) (filters : List Query) (other : Option (List ℕ)) → k ≡ kind.Filters names filters other → IsMadeFor shard k → IsFiltering k

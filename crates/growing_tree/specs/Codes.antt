@@ -3,10 +3,11 @@ use Rattle.std.specs.Prelude.{◌≡◌, Bool, true, false, ℤ, pos, negsuc, Li
 use Rattle.agg_model.specs.declared.key.Key.{Key}
 use Rattle.agg_model.specs.declared.key.Key.TheVariants as key
 use Rattle.shard_columns.specs.Columns.{Columns}
+use Rattle.date_agg.specs.Codes.{key_of as period_key_of}
 use Rattle.histogram_agg.specs.Codes.{key_of as interval_key_of}
 use Rattle.terms_agg.specs.Codes.{is_code, key_of}
 use Rattle.growing_tree.specs.declared.ready.ReadyKind.{ReadyKind}
-use Rattle.growing_tree.specs.declared.ready.ReadyKind.TheVariants.{Single, Metric, Terms, Filters, Histogram, Composite}
+use Rattle.growing_tree.specs.declared.ready.ReadyKind.TheVariants.{Single, Metric, Terms, Filters, Histogram, DateHistogram, Composite}
 
 -- a list that shows a number, and costs nothing
 abbrev pub number_keys : ℤ → List Key
@@ -34,6 +35,7 @@ code_key shard Metric code = fixed_key code
 code_key shard (Terms p) code = key_where (is_code shard p code) code (key_of shard p code)
 code_key shard (Filters p) code = fixed_key code
 code_key shard (Histogram p) code = interval_key_of p code
+code_key shard (DateHistogram p) code = period_key_of p code
 code_key shard Composite code = fixed_key code
 
 -- the codes are numbers of buckets that exist from the start

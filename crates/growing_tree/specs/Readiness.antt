@@ -6,13 +6,15 @@ use Rattle.agg_model.specs.declared.aggregation.Kind.{Kind}
 use Rattle.agg_model.specs.declared.aggregation.Kind.TheVariants as kind
 use Rattle.agg_evaluation.specs.Cost.{node_cost}
 use Rattle.agg_evaluation.specs.Whole.{empty_node}
+use Rattle.date_agg.specs.Codes.{IsReady as IsReadyDates}
+use Rattle.date_agg.specs.Dates.{HoldsDates}
 use Rattle.filters_agg.specs.PreparedFilters.{IsReady as IsReadyFilters}
 use Rattle.histogram_agg.specs.Codes.{IsReady as IsReadyHistogram}
 use Rattle.shard_columns.specs.Columns.{Columns}
 use Rattle.terms_agg.specs.Prepared.{IsReady as IsReadyTerms}
 use Rattle.growing_tree.specs.declared.ready.Ready.{Ready, out-Ready}
 use Rattle.growing_tree.specs.declared.ready.ReadyKind.{ReadyKind}
-use Rattle.growing_tree.specs.declared.ready.ReadyKind.TheVariants.{Single, Metric, Terms, Filters, Histogram, Composite}
+use Rattle.growing_tree.specs.declared.ready.ReadyKind.TheVariants.{Single, Metric, Terms, Filters, Histogram, DateHistogram, Composite}
 
 -- each row that the aggregation counts has its one key
 abbrev pub has_single_key : Kind → Bool
@@ -35,6 +37,7 @@ IsKindReady shard k Metric = IsTrue (is_metric k)
 IsKindReady shard k (Terms p) = IsReadyTerms shard k p
 IsKindReady shard k (Filters p) = IsReadyFilters shard k p
 IsKindReady shard k (Histogram p) = IsReadyHistogram k p
+IsKindReady shard k (DateHistogram p) = IsReadyDates k p × HoldsDates shard p.field
 IsKindReady shard k Composite = IsTrue (is_composite k)
 
 -- rows have their own keys
@@ -44,6 +47,7 @@ is_keyed Metric = false
 is_keyed (Terms p) = true
 is_keyed (Filters p) = true
 is_keyed (Histogram p) = true
+is_keyed (DateHistogram p) = true
 is_keyed Composite = false
 
 -- what the children of a bucket cost before its first row

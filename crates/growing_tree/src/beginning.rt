@@ -153,7 +153,10 @@ pub fn begin(alloc: Global, agg: &Agg, ready: &Ready) -> Result<Tree, AllocError
     ensures { IfOk result (λ tree. (shard : Columns) → decoded shard ready.now tree ≡ empty_node agg.now) }
 {
     match &agg.kind {
-        Kind::Terms { .. } | Kind::Histogram { .. } | Kind::Composite { .. } => {
+        Kind::Terms { .. }
+        | Kind::Histogram { .. }
+        | Kind::DateHistogram { .. }
+        | Kind::Composite { .. } => {
             let level = begin_keyed(alloc, agg, ready.table)?;
             Ok(Tree { level })
         }

@@ -24,6 +24,7 @@ pub(crate) fn start_count(kind: &Kind) -> u64
         | Kind::ReverseNested { .. } => 1,
         Kind::Terms { .. }
         | Kind::Histogram { .. }
+        | Kind::DateHistogram { .. }
         | Kind::Composite { .. }
         | Kind::Sum { .. }
         | Kind::Min { .. }

@@ -27,6 +27,7 @@ use crate::ready::{Ready, ReadyKind};
 use crate::tree::{Growing, Level, Tree};
 use agg_model::{Agg, Bucket, Key, Kind, List, Node};
 use bucket_order::sort_by_key;
+use date_agg::key as key_of_period;
 use histogram_agg::key as key_of_interval;
 use shard_columns::Shard;
 use std::alloc::{AllocError, Global};
@@ -64,6 +65,7 @@ fn key_of_code(
             fixed_key(code)
         }
         ReadyKind::Histogram(histogram) => Ok(key_of_interval(histogram, code)),
+        ReadyKind::DateHistogram(dates) => Ok(key_of_period(dates, code)),
         ReadyKind::Terms(terms) => {
             if !has_key(shard, terms, code) {
                 return Err(AllocError);

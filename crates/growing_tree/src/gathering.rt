@@ -586,7 +586,10 @@ pub(crate) fn count(
             )?;
             Ok(more)
         }
-        ReadyKind::Terms(_) | ReadyKind::Filters(_) | ReadyKind::Histogram(_) => {
+        ReadyKind::Terms(_)
+        | ReadyKind::Filters(_)
+        | ReadyKind::Histogram(_)
+        | ReadyKind::DateHistogram(_) => {
             if !has_buckets(&tree.level) {
                 return Err(AllocError);
             }

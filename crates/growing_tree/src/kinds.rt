@@ -19,6 +19,9 @@ use crate::number::Taken;
 use crate::ready::ReadyKind;
 use crate::tree::Level;
 use agg_model::{Agg, Kind, List};
+use date_agg::{
+    codes as codes_of_dates, key_bytes as key_bytes_of_period, lone_code as lone_code_of_dates,
+};
 use filters_agg::codes as codes_of_filters;
 use histogram_agg::{
     codes as codes_of_histogram, key_bytes as key_bytes_of_interval,
@@ -44,7 +47,7 @@ pub(crate) fn has_fixed_keys(kind: &ReadyKind) -> bool
     match kind {
         ReadyKind::Single | ReadyKind::Metric | ReadyKind::Filters(_) | ReadyKind::Composite =>
             true,
-        ReadyKind::Terms(_) | ReadyKind::Histogram(_) => false,
+        ReadyKind::Terms(_) | ReadyKind::Histogram(_) | ReadyKind::DateHistogram(_) => false,
     }
 }
 
@@ -53,7 +56,10 @@ pub(crate) fn is_keyed(kind: &ReadyKind) -> bool
     ensures { result ≡ is_keyed_kind kind.now }
 {
     match kind {
-        ReadyKind::Terms(_) | ReadyKind::Filters(_) | ReadyKind::Histogram(_) => true,
+        ReadyKind::Terms(_)
+        | ReadyKind::Filters(_)
+        | ReadyKind::Histogram(_)
+        | ReadyKind::DateHistogram(_) => true,
         ReadyKind::Single | ReadyKind::Metric | ReadyKind::Composite => false,
     }
 }
@@ -85,6 +91,7 @@ pub fn code_bytes(shard: &Shard, kind: &Kind, ready: &ReadyKind, code: i64) -> u
         ReadyKind::Single | ReadyKind::Metric | ReadyKind::Filters(_) | ReadyKind::Composite => 0,
         ReadyKind::Terms(terms) => key_bytes_of_term(shard, terms, code),
         ReadyKind::Histogram(histogram) => key_bytes_of_interval(histogram, code),
+        ReadyKind::DateHistogram(dates) => key_bytes_of_period(dates, code),
     }
 }
 
@@ -123,6 +130,10 @@ pub fn row_codes(
             codes_of_histogram(shard, histogram, row, codes)?;
             Ok(())
         }
+        ReadyKind::DateHistogram(dates) => {
+            codes_of_dates(shard, dates, row, codes)?;
+            Ok(())
+        }
         ReadyKind::Metric => {
             codes.clear();
             Ok(())
@@ -148,6 +159,7 @@ pub(crate) fn lone_code(
     match ready {
         ReadyKind::Terms(terms) => lone_code_of_terms(shard, terms, row),
         ReadyKind::Histogram(histogram) => lone_code_of_histogram(shard, histogram, row),
+        ReadyKind::DateHistogram(dates) => lone_code_of_dates(shard, dates, row),
         ReadyKind::Single | ReadyKind::Metric | ReadyKind::Filters(_) | ReadyKind::Composite => {
             None
         }

@@ -10,6 +10,7 @@ use crate::kinds::has_fixed_keys;
 use crate::ready::{Ready, ReadyKind, Table};
 use crate::table_room::TableRoom;
 use agg_model::{Agg, Kind, List};
+use date_agg::prepare as prepare_date_histogram;
 use filters_agg::prepare as prepare_filters;
 use histogram_agg::prepare as prepare_histogram;
 use shard_columns::Shard;
@@ -24,8 +25,8 @@ const PLACE_BYTES: u64 = 4;
 
 const COUNTER_BYTES: u64 = 8;
 
-// The table of whole numbers and of intervals, of which it is not known how many there are, is for so many: those from 0 on,
-// or from the offset on. It takes 16 KiB.
+// The table of whole numbers, of intervals and of periods, of which it is not known how many there are, is for so many: those
+// from 0 on, or from the offset on. It takes 16 KiB.
 const OPEN_WIDTH: u32 = 4096;
 
 // What an aggregation of the kind needs of the shard.
@@ -39,6 +40,7 @@ fn prepare_kind(alloc: Global, shard: &Shard, kind: &Kind) -> Result<ReadyKind, 
             Ok(ReadyKind::Terms(terms))
         }
         Kind::Histogram { .. } => Ok(ReadyKind::Histogram(prepare_histogram(kind))),
+        Kind::DateHistogram { .. } => Ok(ReadyKind::DateHistogram(prepare_date_histogram(kind))),
         Kind::Filters { .. } | Kind::Filter { .. } | Kind::Missing { .. } => {
             let filters = prepare_filters(alloc, shard, kind)?;
             Ok(ReadyKind::Filters(filters))
@@ -61,14 +63,19 @@ fn most_buckets(shard: &Shard, kind: &Kind, ready: &ReadyKind) -> u64
         ReadyKind::Single => 1,
         ReadyKind::Filters(_) => start_count(kind),
         ReadyKind::Terms(terms) => code_count(shard, terms).unwrap_or(u64::MAX),
-        ReadyKind::Histogram(_) | ReadyKind::Metric | ReadyKind::Composite => u64::MAX,
+        ReadyKind::Histogram(_)
+        | ReadyKind::DateHistogram(_)
+        | ReadyKind::Metric
+        | ReadyKind::Composite => u64::MAX,
     }
 }
 
 // The table of each tree, where there may be so many trees. They have it from the start where all of them find room for it.
 fn table_of(agg: &Agg, kind: &ReadyKind, codes: u64, trees: u64, room: &mut TableRoom) -> Table {
     let width = match kind {
-        ReadyKind::Terms(_) | ReadyKind::Histogram(_) => u32::try_from(codes).unwrap_or(OPEN_WIDTH),
+        ReadyKind::Terms(_) | ReadyKind::Histogram(_) | ReadyKind::DateHistogram(_) => {
+            u32::try_from(codes).unwrap_or(OPEN_WIDTH)
+        }
         ReadyKind::Filters(_) => u32::try_from(codes).unwrap_or(0),
         ReadyKind::Single | ReadyKind::Metric | ReadyKind::Composite => 0,
     };

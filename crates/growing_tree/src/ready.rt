@@ -1,6 +1,7 @@
 //! Aggregations that are prepared for a shard.
 
 use agg_model::List;
+use date_agg::PreparedDateHistogram;
 use filters_agg::PreparedFilters;
 use histogram_agg::PreparedHistogram;
 use terms_agg::PreparedTerms;
@@ -15,6 +16,7 @@ pub enum ReadyKind {
     /// Of a filters, a filter or a missing aggregation: the codes are the numbers of its buckets.
     Filters(PreparedFilters),
     Histogram(PreparedHistogram),
+    DateHistogram(PreparedDateHistogram),
     /// It has no codes: its page is no tree that grows here.
     Composite,
 }

@@ -8,6 +8,7 @@ use Rattle.std.specs.Ordering.{is_lt, ordering_then}
 use Rattle.std.specs.declared.cmp.Ordering.{Ordering}
 use Rattle.std.specs.declared.cmp.Ordering.TheVariants.{Less}
 use Rattle.std.proofs.Common.{sym, ◌∙◌, ap, subst, arith, length-append}
+use Rattle.agg_model.specs.declared.aggregation.Spacing.TheVariants.{Numbers}
 use Rattle.agg_model.specs.declared.aggregation.CompositeSource.{CompositeSource}
 use Rattle.agg_model.specs.declared.key.Key.{Key, out-Key}
 use Rattle.agg_model.specs.declared.key.Key.TheOpen.{Key-F}
@@ -98,17 +99,17 @@ ascending-ways (k ∷ ks) kss up up' =
 -- a row has each of its keys at a source once, ascending
 ascending-source : (row : PlacedRow) (s : CompositeSource) → T (is_ascending (source_keys row s))
 ascending-source row s =
-    or-null s.missing_bucket (option_map_or (λ interval. histogram_keys s.field interval 0 no_bounds None row) s.interval (term_keys s.field None [] None row)) (by s.interval)
+    or-null s.missing_bucket (option_map_or (λ interval. histogram_keys s.field (Numbers interval 0) no_bounds None row) s.interval (term_keys s.field None [] None row)) (by s.interval)
   where
     or-null : (missing : Bool) (ks : List Key) → T (is_ascending ks) → T (is_ascending (or_null missing ks))
     or-null true [] up = tt
     or-null false [] up = tt
     or-null missing (k ∷ ks) up = up
 
-    by : (o : Option ℕ) → T (is_ascending (option_map_or (λ interval. histogram_keys s.field interval 0 no_bounds None row) o (term_keys s.field None [] None row)))
+    by : (o : Option ℕ) → T (is_ascending (option_map_or (λ interval. histogram_keys s.field (Numbers interval 0) no_bounds None row) o (term_keys s.field None [] None row)))
     by None = ascending-filter (is_included None []) (distinct_keys (map scalar_key (values_or s.field None row))) (ascending-distinct_keys (map scalar_key (values_or s.field None row)))
     by (Some interval) =
-        ascending-filter (is_between no_bounds) (distinct_keys (flat_map (interval_key interval 0) (values_or s.field None row))) (ascending-distinct_keys (flat_map (interval_key interval 0) (values_or s.field None row)))
+        ascending-filter (is_between no_bounds) (distinct_keys (flat_map (interval_key (Numbers interval 0)) (values_or s.field None row))) (ascending-distinct_keys (flat_map (interval_key (Numbers interval 0)) (values_or s.field None row)))
 
 -- the combinations of a row ascend as keys
 ascending-combinations : (row : PlacedRow) (sources : List CompositeSource) → T (is_ascending (map Many (combinations (map (source_keys row) sources))))

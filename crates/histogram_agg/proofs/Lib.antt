@@ -1,7 +1,8 @@
-mod Starts
-mod Distinct
-mod Rows
-mod Values
+pub mod Starts
+pub mod Rows
+pub mod Given
+mod Walking
+mod Once
+pub mod RowKeys
 pub mod Coding
 pub mod Made
-pub mod Numbers

@@ -1,3 +1,3 @@
--- Keys of histograms, and codes for them.
+-- Codes for the keys of histograms.
 pub mod Codes
-pub mod Histogram
+pub mod RowCodes

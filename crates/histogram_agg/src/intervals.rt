@@ -1,25 +1,19 @@
 //! The intervals of a histogram.
 ghost use Rattle.std.specs.Prelude.{◌≡◌, ◌<◌, ◌^◌, IfSome};
+ghost use Rattle.agg_model.specs.declared.aggregation.Spacing.TheVariants.{Numbers};
 ghost use Rattle.agg_model.specs.declared.key.Key.TheVariants.{Whole};
-ghost use Rattle.agg_evaluation.specs.Keys.{interval_start as start_of_interval, is_between as is_between_bounds};
+ghost use Rattle.agg_evaluation.specs.Keys.{is_between as is_between_bounds};
+ghost use Rattle.agg_evaluation.specs.Spacings.{interval_start as start_of_interval};
 
 use agg_model::Bounds;
 
 // Numbers below it have 63 bits.
 const NEAR: u64 = 1 << 63;
 
-/// Where the keys of a histogram lie: each is a multiple of the interval above or below the offset, within the hard bounds.
-#[derive(Clone, Copy)]
-pub(crate) struct Spacing {
-    pub(crate) interval: u64,
-    pub(crate) offset: u64,
-    pub(crate) hard: Bounds,
-}
-
 /// The key of a number: the start of its interval, rounded down for negative numbers too. The interval is not 0.
 pub fn interval_start(interval: u64, offset: u64, number: i64) -> i128
     requires positive { 0 < interval }
-    ensures { result ≡ start_of_interval interval offset number }
+    ensures { result ≡ start_of_interval (Numbers interval offset) number }
 {
     if interval < NEAR && offset < NEAR {
         if let Some(start) = near_start(interval, offset, number) {
@@ -34,7 +28,7 @@ fn near_start(interval: u64, offset: u64, number: i64) -> Option<i128>
     requires positive { 0 < interval }
     requires small { interval < 2 ^ 63 }
     requires near { offset < 2 ^ 63 }
-    ensures { IfSome result (λ start. start ≡ start_of_interval interval offset number) }
+    ensures { IfSome result (λ start. start ≡ start_of_interval (Numbers interval offset) number) }
 {
     let distance = number.checked_sub(offset as i64)?;
     let beyond = distance.rem_euclid(interval as i64);
@@ -44,7 +38,7 @@ fn near_start(interval: u64, offset: u64, number: i64) -> Option<i128>
 // The same for all.
 fn far_start(interval: u64, offset: u64, number: i64) -> i128
     requires positive { 0 < interval }
-    ensures { result ≡ start_of_interval interval offset number }
+    ensures { result ≡ start_of_interval (Numbers interval offset) number }
 {
     let number = i128::from(number);
     let offset = i128::from(offset);

@@ -1,6 +1,7 @@
 //! Preparing a histogram, and what its codes stand for.
-ghost use Rattle.std.specs.Prelude.{◌≡◌, ℤ, ◌<◌, ◌^◌, ◌-ℤ◌, pos, List, IsTrue, map, filter, flat_map, option_to_list};
+ghost use Rattle.std.specs.Prelude.{◌≡◌, ℕ, ℤ, ◌<◌, ◌^◌, ◌-ℤ◌, pos, List, IsTrue, map, filter, flat_map, option_to_list};
 ghost use Rattle.std.specs.Int.{int_div_euclid};
+ghost use Rattle.agg_model.specs.declared.aggregation.Spacing.TheVariants.{Numbers};
 ghost use Rattle.agg_model.specs.declared.aggregation.Kind.{Kind};
 ghost use Rattle.agg_model.specs.declared.mapping.Mapping.{Mapping};
 ghost use Rattle.agg_model.specs.Options.{HistogramOptions, histogram_kind};
@@ -67,7 +68,7 @@ fn code_of_missing(
     requires below { offset < interval }
     requires small { interval < 2 ^ 63 }
     ensures { map (λ c. Whole (start_of interval offset c)) (option_to_list result)
-        ≡ filter (is_between_bounds hard) (distinct_keys (flat_map (interval_key interval offset) (option_to_list missing.now))) }
+        ≡ filter (is_between_bounds hard) (distinct_keys (flat_map (interval_key (Numbers interval offset)) (option_to_list missing.now))) }
 {
     match missing {
         Some(Scalar::Whole(number)) => {
@@ -105,7 +106,20 @@ pub fn prepare(kind: &Kind) -> PreparedHistogram
                 missing,
             }
         }
-        _ => unreachable!(),
+        Kind::Terms { .. }
+        | Kind::DateHistogram { .. }
+        | Kind::Filters { .. }
+        | Kind::Filter { .. }
+        | Kind::Missing { .. }
+        | Kind::Global
+        | Kind::Nested { .. }
+        | Kind::ReverseNested { .. }
+        | Kind::Composite { .. }
+        | Kind::Sum { .. }
+        | Kind::Min { .. }
+        | Kind::Max { .. }
+        | Kind::Avg { .. }
+        | Kind::ValueCount { .. } => unreachable!(),
     }
 }
 
@@ -123,9 +137,9 @@ pub fn key_bytes(_prepared: &PreparedHistogram, _code: i64) -> u64
     NUMBER_KEY_BYTES
 }
 
-/// A histogram that is made for a mapping can be prepared.
+/// A histogram of numbers that is made for a mapping can be prepared.
 pub fn made_histograms_can_be_prepared()
-    ensures { (m : Mapping) (children : List Kind) (h : HistogramOptions) →
+    ensures { (m : Mapping) (children : List Kind) (h : HistogramOptions) (interval offset : ℕ) → h.spacing ≡ Numbers interval offset →
         IsTrue (histogram_made m children h) → IsSpaced (histogram_kind h) }
 {}
 

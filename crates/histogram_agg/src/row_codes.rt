@@ -1,16 +1,49 @@
 //! The codes of a row's keys.
-ghost use Rattle.std.specs.Prelude.{◌≡◌, ◌<◌, ◌∷◌, [], filter, length, map, option_to_list, IfNone, IfSome, OnOk};
+ghost use Rattle.std.specs.Prelude.{◌≡◌, ◌<◌, length, map, option_to_list, IfNone, IfSome, OnOk};
 ghost use Rattle.agg_model.specs.declared.aggregation.Kind.{Kind};
-ghost use Rattle.agg_evaluation.specs.Keys.{interval_start, is_between, keys as keys_of_row};
-ghost use Rattle.agg_model.specs.declared.key.Key.TheVariants.{Whole};
+ghost use Rattle.agg_evaluation.specs.Keys.{keys as keys_of_row};
 ghost use Rattle.agg_evaluation.specs.Rows.{row_of, values_of};
 ghost use Rattle.shard_columns.specs.Built.{IsShard};
 ghost use Rattle.histogram_agg.specs.Codes.{IsReady, key_of};
 
+use crate::coder::{Coder, count_codes, only_code, put_codes};
 use crate::prepared::PreparedHistogram;
 use crate::preparing::{code_of, is_allowed};
-use shard_columns::{Cell, Shard};
+use shard_columns::Shard;
 use std::alloc::AllocError;
+
+impl Coder for PreparedHistogram {
+    ghost use Rattle.agg_model.specs.declared.aggregation.Spacing.TheVariants.{Numbers};
+    ghost use Rattle.agg_evaluation.specs.Keys.{is_between};
+    ghost use Rattle.agg_evaluation.specs.Spacings.{number_at};
+    ghost use Rattle.histogram_agg.specs.Codes.{key_of};
+
+    ghost field_of = { λ p. p.field };
+
+    ghost missing_of = { λ p. p.missing };
+
+    ghost can_code = { λ p number. Unit {0} };
+
+    ghost code_of = { λ p number. number_at (Numbers p.interval p.offset) number };
+
+    ghost is_kept = { λ p code. is_between p.hard (key_of p code) };
+
+    fn field(&self) -> u32 {
+        self.field
+    }
+
+    fn missing(&self) -> Option<i64> {
+        self.missing
+    }
+
+    fn code(&self, number: i64) -> i64 {
+        code_of(self.interval, self.offset, number)
+    }
+
+    fn keeps(&self, code: i64) -> bool {
+        is_allowed(self, code)
+    }
+}
 
 /// Puts the codes of the row's keys, each once and ascending, in the place of what the list has. It takes time in proportion
 /// to the row's values, and memory only where the list has no room for them.
@@ -25,43 +58,7 @@ pub fn codes(
     ensures keys { OnOk result ((kind : Kind) → IsReady kind prepared.now →
         map (key_of prepared.now) codes.new.items ≡ keys_of_row shard.now.rows kind (row_of shard.now.rows row)) }
 {
-    codes.clear();
-    let count = shard.value_count(row, prepared.field);
-    if count == 0 {
-        if let Some(code) = prepared.missing {
-            codes.push(code)?;
-        }
-        return Ok(());
-    }
-    let mut last = None;
-    for place in 0..count {
-        match shard.value(row, prepared.field, place) {
-            Cell::Whole(number) => {
-                let code = code_of(prepared.interval, prepared.offset, number);
-                if last != Some(code) {
-                    last = Some(code);
-                    if is_allowed(prepared, code) {
-                        codes.push(code)?;
-                    }
-                }
-            }
-            Cell::Word(_) | Cell::Flag(_) => {}
-        }
-    }
-    Ok(())
-}
-
-// The code of a number's key, where the key lies within the hard bounds.
-fn code_within(prepared: &PreparedHistogram, number: i64) -> Option<i64>
-    ensures { map (key_of prepared.now) (option_to_list result) ≡ filter (is_between prepared.now.hard)
-        (Whole (interval_start prepared.now.interval prepared.now.offset number) ∷ []) }
-{
-    let code = code_of(prepared.interval, prepared.offset, number);
-    if is_allowed(prepared, code) {
-        Some(code)
-    } else {
-        None
-    }
+    put_codes(shard, prepared, row, codes)
 }
 
 /// The code of the row's one key, where the row has at most one value of the field; `Some(None)` says that it has no key. `None`
@@ -73,16 +70,7 @@ pub fn lone_code(shard: &Shard, prepared: &PreparedHistogram, row: u32) -> Optio
         map (key_of prepared.now) (option_to_list code) ≡ keys_of_row shard.now.rows kind (row_of shard.now.rows row)) }
     ensures none { IfNone result (1 < length (values_of prepared.now.field (row_of shard.now.rows row))) }
 {
-    let numbers = shard.numbers(row, prepared.field);
-    if numbers.len() == 1 {
-        return Some(code_within(prepared, numbers[0]));
-    }
-    match shard.value_count(row, prepared.field) {
-        0 => Some(prepared.missing),
-        // A value that is no number has no key.
-        1 => Some(None),
-        _ => None,
-    }
+    only_code(shard, prepared, row)
 }
 
 /// The number of the row's keys. It takes time in proportion to the row's values, and no memory.
@@ -92,25 +80,5 @@ pub fn count(shard: &Shard, prepared: &PreparedHistogram, row: u32) -> u64
     ensures { (kind : Kind) → IsReady kind prepared.now →
         result ≡ length (keys_of_row shard.now.rows kind (row_of shard.now.rows row)) }
 {
-    let values = shard.value_count(row, prepared.field);
-    if values == 0 {
-        return u64::from(prepared.missing.is_some());
-    }
-    let mut count = 0;
-    let mut last = None;
-    for place in 0..values {
-        match shard.value(row, prepared.field, place) {
-            Cell::Whole(number) => {
-                let code = code_of(prepared.interval, prepared.offset, number);
-                if last != Some(code) {
-                    last = Some(code);
-                    if is_allowed(prepared, code) {
-                        count += 1;
-                    }
-                }
-            }
-            Cell::Word(_) | Cell::Flag(_) => {}
-        }
-    }
-    count
+    count_codes(shard, prepared, row)
 }

@@ -38,6 +38,7 @@ pub fn under(
         Kind::ReverseNested { context } => rows_around(alloc, shard, *context, rows.as_slice()),
         Kind::Terms { .. }
         | Kind::Histogram { .. }
+        | Kind::DateHistogram { .. }
         | Kind::Filters { .. }
         | Kind::Filter { .. }
         | Kind::Missing { .. }

@@ -36,7 +36,10 @@ fn empty_node_of(alloc: Global, agg: &Agg) -> Result<Node, AllocError>
     ensures { IfOk result (λ node. node ≡ empty_node agg.now) }
 {
     match &agg.kind {
-        Kind::Terms { .. } | Kind::Histogram { .. } | Kind::Composite { .. } => Ok(Node::Keyed {
+        Kind::Terms { .. }
+        | Kind::Histogram { .. }
+        | Kind::DateHistogram { .. }
+        | Kind::Composite { .. } => Ok(Node::Keyed {
             buckets: List::new(alloc),
             error: 0,
             full: 0,

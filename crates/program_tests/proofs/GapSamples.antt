@@ -9,6 +9,7 @@ use Rattle.agg_model.specs.declared.key.Key.TheVariants.{Whole}
 use Rattle.agg_model.specs.declared.partial.Bucket.{Bucket}
 use Rattle.agg_model.specs.declared.partial.Node.TheVariants.{Keyed}
 use Rattle.agg_model.specs.declared.aggregation.Bounds.{Bounds}
+use Rattle.agg_model.specs.declared.aggregation.Spacing.TheVariants.{Numbers}
 use Rattle.agg_model.specs.BoundsOrder.{is_at_most, lies_within}
 use Rattle.agg_model.specs.declared.aggregation.Agg.{Agg, out-Agg}
 use Rattle.agg_evaluation.specs.KeyOrder.{key_cmp}
@@ -52,17 +53,17 @@ module _ (interval offset : ℕ) (extended : Bounds) (agg : Agg) where
       let made = list_all-map (λ (m : Made). m.fits false 0) (fold_agg (made_at sample_mapping)) children ∙ fit in
       agg_fits-level true agg
       ∙ (λ i. is_made sample_mapping (is.0 i) (map (fold_agg (made_at sample_mapping)) (is.1 i)) true 0)
-      ∙ and_from _ _ (and_from _ _ (and_from _ _ (le-leb _ _ positive) (lt-ltb _ _ below)) (and_from _ _ (lt-ltb _ _ within) (and_from _ _ ordered (and_from _ _ inside refl)))) made
+      ∙ and_from _ _ (and_from _ _ (and_from _ _ (and_from _ _ (le-leb _ _ positive) (lt-ltb _ _ below)) (lt-ltb _ _ within)) (and_from _ _ ordered (and_from _ _ inside refl))) made
 
   -- with these keys
-  pub keys-finishable : (ps : List (ℤ × ℕ)) → IsHistogram interval offset extended [] (out-Agg agg) → rises ps ≡ true → list_all (λ p. is_histogram_key interval offset no_bounds (Whole p.0)) ps ≡ true
+  pub keys-finishable : (ps : List (ℤ × ℕ)) → IsHistogram interval offset extended [] (out-Agg agg) → rises ps ≡ true → list_all (λ p. is_histogram_key (Numbers interval offset) no_bounds (Whole p.0)) ps ≡ true
       → is_finishable agg (Keyed (map counted_bucket ps) 0 0 0) ≡ true
   keys-finishable ps is up made =
       let bs = map counted_bucket ps in
       is_finishable-level agg (Keyed bs 0 0 0)
       ∙ (λ i. is_finishable_at (map is_finishable (is.1 i)) (is.0 i) (Keyed bs 0 0 0))
       ∙ ap (λ l. is_tree_at [] (fixed_keys (gapless interval offset extended)) by_key l && fits_at (gapless interval offset extended) (parts_at l)) (out-Keyed bs 0 0 0)
-      ∙ and_from _ _ (and_from _ _ (ascending ps up) (no_children ps)) (list_all-map (λ (b : Bucket). is_histogram_key interval offset no_bounds (bucket_key b)) counted_bucket ps ∙ made)
+      ∙ and_from _ _ (and_from _ _ (ascending ps up) (no_children ps)) (list_all-map (λ (b : Bucket). is_histogram_key (Numbers interval offset) no_bounds (bucket_key b)) counted_bucket ps ∙ made)
 
   -- with no bucket
   pub nothing-finishable : (children : List Agg) → IsHistogram interval offset extended children (out-Agg agg) → is_finishable agg (Keyed [] 0 0 0) ≡ true

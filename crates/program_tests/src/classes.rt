@@ -395,6 +395,46 @@ fn dates() -> Case {
     }
 }
 
+/// Date histograms: the calendar, zones, gaps, bounds, names, one below terms, and two that are refused.
+fn date_histograms() -> Case {
+    Case {
+        name: "date histograms",
+        words: "",
+        script: r#"{"index":"i","mappings":{"properties":{"d":{"type":"date"},"n":{"type":"long"},"t":{"type":"keyword"}}},"settings":{"number_of_shards":2}}
+
+{"index":{"routing":"1"}}
+{"d":"2024-01-31T23:30:00Z","t":"a","n":1}
+{"index":{"routing":"0"}}
+{"d":["2024-03-01",1709251200000],"t":"b","n":2}
+{"index":{"routing":"0"}}
+{"d":-1,"t":"a"}
+
+{}
+{"query":{"range":{"d":{"gte":"2024"}}},"aggs":{"d":{"date_histogram":{"field":"d","calendar_interval":"month"},"aggs":{"n":{"sum":{"field":"n"}}}}}}
+{}
+{"query":{"range":{"d":{"gte":"2024"}}},"aggs":{"d":{"date_histogram":{"field":"d","calendar_interval":"1M","time_zone":"+01:00","keyed":true}}}}
+{}
+{"aggs":{"t":{"terms":{"field":"t"},"aggs":{"d":{"date_histogram":{"field":"d","fixed_interval":"12h","time_zone":"-05:30","min_doc_count":1,"missing":"2024"}}}},"q":{"date_histogram":{"field":"d","calendar_interval":"quarter","hard_bounds":{"min":"2024"},"extended_bounds":{"min":"2024","max":"2024-07-01"}}}}}
+{}
+{"query":{"ids":{"values":[]}},"aggs":{"w":{"date_histogram":{"field":"d","calendar_interval":"week","extended_bounds":{"min":"2024-02-29","max":"2024-03-04"}}}}}
+{}
+{"aggs":{"d":{"date_histogram":{"field":"d","calendar_interval":"day","time_zone":"Europe/Berlin"}}}}
+{}
+{"aggs":{"d":{"date_histogram":{"field":"d","calendar_interval":"hour"}}}}
+"#,
+        output: r#"{"errors":false,"items":[{"index":{"_id":"_auto_0","_index":"i","result":"created","status":201}},{"index":{"_id":"_auto_1","_index":"i","result":"created","status":201}},{"index":{"_id":"_auto_2","_index":"i","result":"created","status":201}}],"took":0}
+{"_shards":{"failed":0,"skipped":0,"successful":2,"total":2},"aggregations":{"d":{"buckets":[{"doc_count":1,"key":1704067200000,"key_as_string":"2024-01-01T00:00:00.000Z","n":{"value":1}},{"doc_count":0,"key":1706745600000,"key_as_string":"2024-02-01T00:00:00.000Z","n":{"value":0}},{"doc_count":1,"key":1709251200000,"key_as_string":"2024-03-01T00:00:00.000Z","n":{"value":2}}]}},"hits":{"hits":[],"max_score":null,"total":{"relation":"eq","value":2}},"status":200,"timed_out":false,"took":0}
+{"_shards":{"failed":0,"skipped":0,"successful":2,"total":2},"aggregations":{"d":{"buckets":{"2024-02-01T00:00:00.000+01:00":{"doc_count":1,"key":1706742000000,"key_as_string":"2024-02-01T00:00:00.000+01:00"},"2024-03-01T00:00:00.000+01:00":{"doc_count":1,"key":1709247600000,"key_as_string":"2024-03-01T00:00:00.000+01:00"}}}},"hits":{"hits":[],"max_score":null,"total":{"relation":"eq","value":2}},"status":200,"timed_out":false,"took":0}
+{"_shards":{"failed":0,"skipped":0,"successful":2,"total":2},"aggregations":{"q":{"buckets":[{"doc_count":2,"key":1704067200000,"key_as_string":"2024-01-01T00:00:00.000Z"},{"doc_count":0,"key":1711929600000,"key_as_string":"2024-04-01T00:00:00.000Z"},{"doc_count":0,"key":1719792000000,"key_as_string":"2024-07-01T00:00:00.000Z"}]},"t":{"buckets":[{"d":{"buckets":[{"doc_count":1,"key":-23400000,"key_as_string":"1969-12-31T12:00:00.000-05:30"},{"doc_count":1,"key":1706722200000,"key_as_string":"2024-01-31T12:00:00.000-05:30"}]},"doc_count":2,"key":"a"},{"d":{"buckets":[{"doc_count":1,"key":1709227800000,"key_as_string":"2024-02-29T12:00:00.000-05:30"}]},"doc_count":1,"key":"b"}],"doc_count_error_upper_bound":0,"sum_other_doc_count":0}},"hits":{"hits":[],"max_score":null,"total":{"relation":"eq","value":3}},"status":200,"timed_out":false,"took":0}
+{"_shards":{"failed":0,"skipped":0,"successful":2,"total":2},"aggregations":{"w":{"buckets":[{"doc_count":0,"key":1708905600000,"key_as_string":"2024-02-26T00:00:00.000Z"},{"doc_count":0,"key":1709510400000,"key_as_string":"2024-03-04T00:00:00.000Z"}]}},"hits":{"hits":[],"max_score":null,"total":{"relation":"eq","value":0}},"status":200,"timed_out":false,"took":0}
+{"error":{"code":104,"path":"/aggs/d/date_histogram/time_zone","reason":"bad request","type":"parsing_exception"},"status":400}
+{"error":{"count":474794,"max_buckets":65536,"reason":"too many buckets","type":"too_many_buckets_exception"},"status":400}
+{"breakers":{"fielddata":{"estimated_size_in_bytes":78,"granted_size_in_bytes":78,"limit_size_in_bytes":429496729,"overhead_percent":103,"tripped":0},"inflight_requests":{"estimated_size_in_bytes":0,"granted_size_in_bytes":1884,"limit_size_in_bytes":1073741824,"overhead_percent":200,"tripped":0},"parent":{"estimated_size_in_bytes":78,"granted_size_in_bytes":66522,"limit_size_in_bytes":751619276,"overhead_percent":100,"tripped":0},"request":{"estimated_size_in_bytes":0,"granted_size_in_bytes":64560,"limit_size_in_bytes":644245094,"overhead_percent":100,"tripped":0}}}
+"#,
+        status: 0,
+    }
+}
+
 /// Each kind of aggregation.
 fn aggregations() -> Case {
     Case {
@@ -547,6 +587,7 @@ fn each_class_of_answers_is_given(rt: HostRuntime) -> Result<(), Fail> {
         refused_index_line(),
         refused_words(),
         dates(),
+        date_histograms(),
         aggregations(),
         queries(),
         wide_sum(),

@@ -5,6 +5,7 @@ ghost use Rattle.agg_model.specs.declared.aggregation.Agg.{out-Agg};
 ghost use Rattle.agg_model.specs.declared.aggregation.Kind.TheVariants.{Sum};
 ghost use Rattle.agg_model.specs.declared.key.Key.TheVariants.{Whole};
 ghost use Rattle.agg_model.specs.declared.partial.Node.TheVariants.{Keyed};
+ghost use Rattle.agg_model.specs.declared.aggregation.Spacing.TheVariants.{Numbers};
 ghost use Rattle.agg_evaluation.specs.Finishable.{can_finish, is_histogram_key};
 ghost use Rattle.agg_evaluation.specs.SearchFits.{IsMade};
 ghost use Rattle.program_tests.specs.SampleGaps.{IsHistogram, counted_bucket, no_bounds, rises};
@@ -88,7 +89,7 @@ fn of_keys(
     requires below { interval < 2 ^ 63 }
     requires offset { offset < interval }
     requires ascending { IsTrue (rises keys.now) }
-    requires keys { IsTrue (list_all (λ p. is_histogram_key interval offset no_bounds (Whole p.0)) keys.now) }
+    requires keys { IsTrue (list_all (λ p. is_histogram_key (Numbers interval offset) no_bounds (Whole p.0)) keys.now) }
     ensures made { IfOk result (λ sample. IsMade sample.search) }
     ensures whole { IfOk result (λ sample. IsTrue (can_finish sample.search sample.whole)) }
 {

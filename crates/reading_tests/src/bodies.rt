@@ -3,19 +3,21 @@ ghost use Rattle.std.specs.Prelude.{IfOk};
 ghost use Rattle.agg_model.specs.MappingOrder.{IsOrdered};
 
 use agg_mapping::index_line_of;
-use agg_model::{Agg, Key, Kind, Mapping, Order, OrderBy, Search};
+use agg_model::{Agg, Bounds, Key, Kind, Mapping, Order, OrderBy, Scalar, Search};
 use agg_reading::RequestFault;
 use agg_request::search_of;
+use date_spec::Period;
 use std::alloc::{AllocError, Global};
 use std::process::Abort;
 use std::test::Fail;
 
 const INDEX: &[u8] =
     b"{\"index\":\"i\",\"mappings\":{\"properties\":{\"b\":{\"type\":\"boolean\"},\"n\":{\"type\":\"long\"},\
-\"t\":{\"type\":\"keyword\"},\"v\":{\"type\":\"nested\",\"properties\":{\"s\":{\"type\":\"keyword\"}}}}}}";
+\"t\":{\"type\":\"keyword\"},\"v\":{\"type\":\"nested\",\"properties\":{\"s\":{\"type\":\"keyword\"},\
+\"when\":{\"type\":\"date\"}}},\"when\":{\"type\":\"date\"}}}}";
 
 /// The mapping that the bodies are read by.
-fn mapping(alloc: Global) -> Result<Mapping, Fail>
+pub(crate) fn mapping(alloc: Global) -> Result<Mapping, Fail>
     ensures { IfOk result (λ mapping. IsOrdered mapping) }
 {
     match index_line_of(alloc, INDEX) {
@@ -25,7 +27,7 @@ fn mapping(alloc: Global) -> Result<Mapping, Fail>
 }
 
 /// What a body gives.
-fn read(alloc: Global, body: &[u8], mapping: &Mapping) -> Result<Search, RequestFault>
+pub(crate) fn read(alloc: Global, body: &[u8], mapping: &Mapping) -> Result<Search, RequestFault>
     requires { IsOrdered mapping.now }
 {
     search_of(alloc, body, mapping)
@@ -162,7 +164,9 @@ const EVERY_KIND: &[u8] = b"{\"size\":0,\"query\":{\"term\":{\"t\":\"x\"}},\"agg
 \"i\":{\"sum\":{\"field\":\"n\"}},\
 \"j\":{\"min\":{\"field\":\"n\"}},\
 \"k\":{\"avg\":{\"field\":\"n\",\"missing\":1}},\
-\"l\":{\"value_count\":{\"field\":\"b\"}}}}";
+\"l\":{\"value_count\":{\"field\":\"b\"}},\
+\"m\":{\"date_histogram\":{\"field\":\"when\",\"fixed_interval\":\"12h\",\"time_zone\":\"-05:30\",\"min_doc_count\":1,\
+\"extended_bounds\":{\"max\":1709251200000},\"hard_bounds\":{\"min\":\"1969-12-31T23:59:59.999Z\"},\"keyed\":true,\"missing\":\"1970\"}}}}";
 
 fn is_terms(kind: &Kind) -> bool {
     matches!(
@@ -196,6 +200,29 @@ fn is_histogram(kind: &Kind) -> bool {
             interval: 5,
             offset: 2,
             min_doc_count: 0,
+            ..
+        }
+    )
+}
+
+fn is_date_histogram(kind: &Kind) -> bool {
+    matches!(
+        kind,
+        Kind::DateHistogram {
+            field: 5,
+            period: Period::Fixed(43_200_000),
+            zone: -19_800_000,
+            min_doc_count: 1,
+            extended: Bounds {
+                min: None,
+                max: Some(1_709_251_200_000),
+            },
+            hard: Bounds {
+                min: Some(-1),
+                max: None,
+            },
+            keyed: true,
+            missing: Some(Scalar::Whole(0)),
             ..
         }
     )
@@ -236,6 +263,7 @@ fn is_wanted(place: usize, kind: &Kind) -> bool {
         9 => matches!(kind, Kind::Min { field: 1, .. }),
         10 => matches!(kind, Kind::Avg { field: 1, .. }),
         11 => matches!(kind, Kind::ValueCount { field: 0, .. }),
+        12 => is_date_histogram(kind),
         _ => false,
     }
 }
@@ -253,7 +281,7 @@ fn every_kind_is_read(rt: HostRuntime) -> Result<(), Fail> {
     let Ok(search) = read(rt.alloc(), EVERY_KIND, &mapping) else {
         return Err(Fail::new("no search"));
     };
-    assert!(rt; search.body_bytes == EVERY_KIND.len() as u64 && search.aggs.len() == 12);
+    assert!(rt; search.body_bytes == EVERY_KIND.len() as u64 && search.aggs.len() == 13);
     expect_every_kind(&rt, search.aggs.as_slice());
     Ok(())
 }

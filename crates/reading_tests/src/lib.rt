@@ -10,6 +10,8 @@ mod bodies;
 #[cfg(test)]
 mod copies;
 #[cfg(test)]
+mod date_histograms;
+#[cfg(test)]
 mod entries;
 #[cfg(test)]
 mod fields;

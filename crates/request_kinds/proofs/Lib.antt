@@ -1,2 +1,5 @@
+pub mod Amounts
 pub mod Lists
 pub mod NameLemmas
+mod OffsetTexts
+mod DatedBounds

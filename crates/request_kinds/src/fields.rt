@@ -4,7 +4,8 @@ ghost use Rattle.std.specs.Prelude.{◌≡◌};
 ghost use Rattle.serde_json.specs.View.{members_view};
 ghost use Rattle.json_walk.specs.Places.{pointer};
 ghost use Rattle.agg_reading.specs.Reading.{Gives};
-ghost use Rattle.agg_model.specs.FieldKinds.{is_number_kind, is_whole_kind};
+ghost use Rattle.agg_model.specs.FieldKinds.{is_date_kind, is_number_kind, is_whole_kind};
+ghost use Rattle.agg_reading.specs.DateHistogram.{date_field_in};
 ghost use Rattle.agg_reading.specs.Histogram.{whole_field_in};
 ghost use Rattle.agg_reading.specs.Metrics.{enclosing_at, number_field_in};
 
@@ -41,6 +42,21 @@ fn is_number_kind(kind: FieldKind) -> bool
     }
 }
 
+/// Whether a field of this kind has dates.
+fn is_date_kind(kind: FieldKind) -> bool
+    ensures { result ≡ is_date_kind kind }
+{
+    match kind {
+        FieldKind::Date => true,
+        FieldKind::Long
+        | FieldKind::Integer
+        | FieldKind::Short
+        | FieldKind::Byte
+        | FieldKind::Keyword
+        | FieldKind::Boolean => false,
+    }
+}
+
 /// The field of whole numbers that the member `field` names, and its place. Refused as any field is, and the member with
 /// `NO_SUCH_FIELD` where the field has no whole numbers.
 #[tactic(auto, unfolding(agg_reading::specs::Histogram::whole_field_in))]
@@ -72,6 +88,24 @@ pub fn number_field_in<'m>(
 {
     let (place, field) = field_in(alloc, mapping, at, members)?;
     if !is_number_kind(field.kind) {
+        return At::Member(at, "field").refuse(alloc, NO_SUCH_FIELD);
+    }
+    Ok((place, field))
+}
+
+/// The field of dates that the member `field` names, and its place. Refused as any field is, and the member with
+/// `NO_SUCH_FIELD` where the field has no dates.
+#[tactic(auto, unfolding(agg_reading::specs::DateHistogram::date_field_in))]
+pub fn date_field_in<'m>(
+    alloc: Global,
+    mapping: &OrderedMapping<'m>,
+    at: &At<'_>,
+    members: &Map<String, Value>,
+) -> Result<(u32, &'m Field), RequestFault>
+    ensures { Gives (λ f. (f.0, f.1.now)) result (date_field_in mapping.now (pointer at.now) (members_view members.now.entries)) }
+{
+    let (place, field) = field_in(alloc, mapping, at, members)?;
+    if !is_date_kind(field.kind) {
         return At::Member(at, "field").refuse(alloc, NO_SUCH_FIELD);
     }
     Ok((place, field))

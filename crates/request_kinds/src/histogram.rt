@@ -1,13 +1,12 @@
 //! The kind `histogram` ('Histogram aggregation').
 
-ghost use Rattle.std.specs.Prelude.{◌≡◌, codes};
+ghost use Rattle.std.specs.Prelude.{◌≡◌};
 ghost use Rattle.serde_json.specs.View.{view, members_view};
 ghost use Rattle.json_walk.specs.Places.{pointer};
 ghost use Rattle.agg_reading.specs.Reading.{Gives};
-ghost use Rattle.agg_reading.specs.Json.{optional};
-ghost use Rattle.agg_reading.specs.Histogram.{ordered_bounds, bounds_at, unbounded, histogram_ranges_in, histogram_counts_in, histogram_rules, histogram_in, histogram_at};
-ghost use Rattle.agg_model.specs.BoundsOrder.{is_at_most, lies_within};
+ghost use Rattle.agg_reading.specs.Histogram.{histogram_ranges_in, histogram_counts_in, histogram_rules, histogram_in, histogram_at};
 
+use crate::bounds::{UNBOUNDED, check_bounds, number_bounds_in};
 use crate::fields::whole_field_in;
 use crate::orders::{orders_in, orders_or};
 use agg_mapping::OrderedMapping;
@@ -15,78 +14,9 @@ use agg_model::body_refusal::{MISSING_MEMBER, OUT_OF_RANGE, UNKNOWN_MEMBER, WRON
 use agg_model::{Bounds, Field, FieldKind, Kind, List, Scalar};
 use agg_query::missing_in;
 use agg_reading::{NamedOrder, RequestFault};
-use json_walk::{At, check_names, member, object, signed_in, truth_in, whole_in};
+use json_walk::{At, check_names, object, truth_in, whole_in};
 use serde_json::{Map, Value};
 use std::alloc::Global;
-
-/// Bounds that hold always.
-const UNBOUNDED: Bounds = Bounds {
-    min: None,
-    max: None,
-};
-
-/// Whether one bound is at most the other; a bound that is not given holds always.
-fn is_at_most(least: Option<i64>, most: Option<i64>) -> bool
-    ensures { result ≡ is_at_most least most }
-{
-    match (least, most) {
-        (Some(least), Some(most)) => least <= most,
-        _ => true,
-    }
-}
-
-/// Bounds, refused with `OUT_OF_RANGE` where the least is above the greatest.
-fn ordered_bounds(
-    alloc: Global,
-    at: &At<'_>,
-    min: Option<i64>,
-    max: Option<i64>,
-) -> Result<Bounds, RequestFault>
-    ensures { Gives (λ x. x) result (ordered_bounds (pointer at.now) min max) }
-{
-    if is_at_most(min, max) {
-        Ok(Bounds { min, max })
-    } else {
-        at.refuse(alloc, OUT_OF_RANGE)
-    }
-}
-
-/// Bounds: an object with `min` and `max`, each a whole number of signed 64 bits that may be absent.
-#[tactic(auto, unfolding(agg_reading::specs::Histogram::bounds_at))]
-fn bounds(alloc: Global, at: &At<'_>, value: &Value) -> Result<Bounds, RequestFault>
-    ensures { Gives (λ x. x) result (bounds_at (pointer at.now) (view value.now)) }
-{
-    let members = object(alloc, WRONG_TYPE, at, value)?;
-    check_names(alloc, UNKNOWN_MEMBER, at, members, &["max", "min"])?;
-    let max = signed_in(alloc, "max", at, members)?;
-    let min = signed_in(alloc, "min", at, members)?;
-    ordered_bounds(alloc, at, min, max)
-}
-
-/// The bounds in the member of this name; none where it is absent.
-fn bounds_in(
-    alloc: Global,
-    name: &str,
-    at: &At<'_>,
-    members: &Map<String, Value>,
-) -> Result<Option<Bounds>, RequestFault>
-    ensures { Gives (λ x. x) result (optional bounds_at name.now (pointer at.now) (members_view members.now.entries)) }
-{
-    match member(members, name) {
-        None => Ok(None),
-        Some(value) => Ok(Some(bounds(alloc, &At::Member(at, name), value)?)),
-    }
-}
-
-/// Whether each extended bound that is given lies between the hard bounds that are given.
-fn lies_within(extended: Bounds, hard: Bounds) -> bool
-    ensures { result ≡ lies_within extended hard }
-{
-    is_at_most(hard.min, extended.min)
-        && is_at_most(extended.min, hard.max)
-        && is_at_most(hard.min, extended.max)
-        && is_at_most(extended.max, hard.max)
-}
 
 /// Extended bounds, hard bounds, the interval where it is given, and whether the buckets are keyed.
 #[tactic(auto, unfolding(agg_reading::specs::Histogram::histogram_ranges_in))]
@@ -97,8 +27,8 @@ fn ranges(
 ) -> Result<(Bounds, Bounds, Option<u64>, bool), RequestFault>
     ensures { Gives (λ x. x) result (histogram_ranges_in (pointer at.now) (members_view members.now.entries)) }
 {
-    let extended = bounds_in(alloc, "extended_bounds", at, members)?;
-    let hard = bounds_in(alloc, "hard_bounds", at, members)?;
+    let extended = number_bounds_in(alloc, "extended_bounds", at, members)?;
+    let hard = number_bounds_in(alloc, "hard_bounds", at, members)?;
     let interval = whole_in(alloc, 1, 9_223_372_036_854_775_807, "interval", at, members)?;
     let keyed = truth_in(alloc, "keyed", at, members)?;
     Ok((
@@ -150,10 +80,7 @@ fn check_rules(
     if offset >= interval {
         return At::Member(at, "offset").refuse(alloc, OUT_OF_RANGE);
     }
-    if !lies_within(extended, hard) {
-        return At::Member(at, "extended_bounds").refuse(alloc, OUT_OF_RANGE);
-    }
-    Ok(())
+    check_bounds(alloc, at, extended, hard)
 }
 
 /// The members beside `field`, over the field at this place.

@@ -7,6 +7,7 @@ ghost use Rattle.agg_reading.specs.Reading.{Gives};
 ghost use Rattle.agg_reading.specs.Aggregations.{kind_name, kind_at};
 
 use crate::composite::composite;
+use crate::date_histogram::date_histogram;
 use crate::filters::filters;
 use crate::histogram::histogram;
 use crate::metrics::{
@@ -17,7 +18,7 @@ use agg_mapping::OrderedMapping;
 use agg_model::limits::MAX_QUERIES;
 use agg_model::{Kind, List};
 use agg_query::counted_query_at;
-use agg_reading::{KindName, ReadKind, RequestFault};
+use agg_reading::{KindName, NamedOrder, ReadKind, RequestFault};
 use json_walk::At;
 use serde_json::Value;
 use std::alloc::Global;
@@ -30,6 +31,7 @@ pub fn kind_name(name: &str) -> Option<KindName>
     match name {
         "avg" => Some(KindName::Avg),
         "composite" => Some(KindName::Composite),
+        "date_histogram" => Some(KindName::DateHistogram),
         "filter" => Some(KindName::Filter),
         "filters" => Some(KindName::Filters),
         "global" => Some(KindName::Global),
@@ -58,6 +60,18 @@ fn plain(alloc: Global, within: u32, queries: u32, kind: Kind) -> ReadKind
     }
 }
 
+/// A kind with its orders as written.
+fn ordered(within: u32, queries: u32, kind: Kind, order: List<NamedOrder>) -> ReadKind
+    ensures { result ≡ record { kind = kind; order = order; within = within; queries = queries } }
+{
+    ReadKind {
+        kind,
+        order,
+        within,
+        queries,
+    }
+}
+
 /// What stands under the name of a kind: the kind, over rows of this context, and how many queries of the search were
 /// begun up to its end, where so many were begun before. Refused with the pointer of the first thing that breaks a rule.
 #[tactic(auto, unfolding(agg_reading::specs::Aggregations::kind_at))]
@@ -77,21 +91,15 @@ pub fn kind_at(
     match name {
         KindName::Terms => {
             let (kind, order) = terms(alloc, mapping, at, value)?;
-            Ok(ReadKind {
-                kind,
-                order,
-                within: context,
-                queries: before,
-            })
+            Ok(ordered(context, before, kind, order))
         }
         KindName::Histogram => {
             let (kind, order) = histogram(alloc, mapping, at, value)?;
-            Ok(ReadKind {
-                kind,
-                order,
-                within: context,
-                queries: before,
-            })
+            Ok(ordered(context, before, kind, order))
+        }
+        KindName::DateHistogram => {
+            let (kind, order) = date_histogram(alloc, mapping, at, value)?;
+            Ok(ordered(context, before, kind, order))
         }
         KindName::Filters => {
             let (kind, count) = filters(alloc, mapping, context, before, at, value)?;

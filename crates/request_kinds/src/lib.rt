@@ -6,7 +6,9 @@
 #![tactic(auto)]
 
 mod after;
+mod bounds;
 mod composite;
+mod date_histogram;
 mod fields;
 mod filters;
 mod histogram;
@@ -14,7 +16,9 @@ mod kind;
 mod metrics;
 mod names;
 mod numbers;
+mod offsets;
 mod orders;
+mod periods;
 mod resolving;
 mod sources;
 mod terms;

@@ -31,7 +31,17 @@ fn is_sortable(kind: &Kind) -> bool
 {
     match kind {
         Kind::Sum { .. } | Kind::Min { .. } | Kind::Max { .. } | Kind::ValueCount { .. } => true,
-        _ => false,
+        Kind::Terms { .. }
+        | Kind::Histogram { .. }
+        | Kind::DateHistogram { .. }
+        | Kind::Filters { .. }
+        | Kind::Filter { .. }
+        | Kind::Missing { .. }
+        | Kind::Global
+        | Kind::Nested { .. }
+        | Kind::ReverseNested { .. }
+        | Kind::Composite { .. }
+        | Kind::Avg { .. } => false,
     }
 }
 
@@ -148,6 +158,38 @@ pub fn with_order(order: List<Order>, kind: Kind) -> Kind
             order,
             missing,
         },
-        other => other,
+        Kind::DateHistogram {
+            field,
+            period,
+            zone,
+            min_doc_count,
+            extended,
+            hard,
+            keyed,
+            order: _,
+            missing,
+        } => Kind::DateHistogram {
+            field,
+            period,
+            zone,
+            min_doc_count,
+            extended,
+            hard,
+            keyed,
+            order,
+            missing,
+        },
+        Kind::Filters { .. }
+        | Kind::Filter { .. }
+        | Kind::Missing { .. }
+        | Kind::Global
+        | Kind::Nested { .. }
+        | Kind::ReverseNested { .. }
+        | Kind::Composite { .. }
+        | Kind::Sum { .. }
+        | Kind::Min { .. }
+        | Kind::Max { .. }
+        | Kind::Avg { .. }
+        | Kind::ValueCount { .. } => kind,
     }
 }

@@ -1,2 +1,3 @@
 -- The index, the documents and the aggregation that the tests speak of.
 pub mod Example
+pub mod Months

@@ -13,6 +13,8 @@ mod filters;
 #[cfg(test)]
 mod matching;
 #[cfg(test)]
+mod months;
+#[cfg(test)]
 mod nesting;
 #[cfg(test)]
 mod places;

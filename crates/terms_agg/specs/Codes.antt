@@ -30,10 +30,15 @@ content_of Byte = content.Wholes
 content_of Date = content.Wholes
 
 abbrev pub is_content : Content → Scalar → Bool
+is_content content.Words (scalar.Whole n) = false
 is_content content.Words (scalar.Word w) = true
+is_content content.Words (scalar.Flag b) = false
+is_content content.Flags (scalar.Whole n) = false
+is_content content.Flags (scalar.Word w) = false
 is_content content.Flags (scalar.Flag b) = true
 is_content content.Wholes (scalar.Whole n) = true
-is_content _ _ = false
+is_content content.Wholes (scalar.Word w) = false
+is_content content.Wholes (scalar.Flag b) = false
 
 -- what a field of the shard holds
 abbrev pub content_in : Columns → ℕ → Content

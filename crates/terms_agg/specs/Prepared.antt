@@ -2,11 +2,10 @@
 use Rattle.std.specs.Prelude.{◌≡◌, ℕ, ℤ, ◌<◌, ◌++◌, Bool, true, false, List, length, map, filter, slice_get, Option, Some, option_to_list}
 use Rattle.std.specs.List.{list_all}
 use Rattle.std.specs.Option.{option_map_or}
-use Rattle.agg_model.specs.Options.{TermsOptions, terms_kind}
+use Rattle.agg_model.specs.Options.{Options, TermsOptions, options_of, terms_kind}
 use Rattle.agg_model.specs.ValueKeys.{scalar_key, probe_key}
 use Rattle.agg_model.specs.declared.key.Key.{Key}
 use Rattle.agg_model.specs.declared.aggregation.Kind.{Kind}
-use Rattle.agg_model.specs.declared.aggregation.Kind.TheVariants as kind
 use Rattle.agg_model.specs.declared.query.Probe.{Probe}
 use Rattle.agg_model.specs.declared.row.Scalar.{Scalar}
 use Rattle.agg_evaluation.specs.KeyOrder.{key_eq, has_key}
@@ -27,8 +26,18 @@ pub record IsTermsOf (shard : Columns) (field : ℕ) (missing : Option Scalar) :
 
 -- a terms aggregation of a field of the shard
 abbrev pub IsTerms : Columns → Kind → Type 0
-IsTerms shard (kind.Terms field size shard_size min_doc_count order include exclude missing show_error) = IsTermsOf shard field missing
-IsTerms shard _ = ⊥
+IsTerms shard k = elim (options_of k) [
+  | Options.Terms t ↦ IsTermsOf shard t.field t.missing
+  | Options.Histogram h ↦ ⊥
+  | Options.Filters names filters other ↦ ⊥
+  | Options.Filter query ↦ ⊥
+  | Options.Missing field ↦ ⊥
+  | Options.Global ↦ ⊥
+  | Options.Nested context ↦ ⊥
+  | Options.ReverseNested context ↦ ⊥
+  | Options.Composite sources size after ↦ ⊥
+  | Options.Metric m ↦ ⊥
+]
 
 -- the number is the code of the key that the probe asks for, or there is none among these words
 pub record StandsFor (content : Content) (words : Words) (probe : Probe) (number : Option ℤ) : Type 0 where

@@ -143,7 +143,20 @@ pub fn prepare(alloc: Global, shard: &Shard, kind: &Kind) -> Result<PreparedTerm
                 other: coded.other,
             })
         }
-        _ => unreachable!(),
+        Kind::Histogram { .. }
+        | Kind::DateHistogram { .. }
+        | Kind::Filters { .. }
+        | Kind::Filter { .. }
+        | Kind::Missing { .. }
+        | Kind::Global
+        | Kind::Nested { .. }
+        | Kind::ReverseNested { .. }
+        | Kind::Composite { .. }
+        | Kind::Sum { .. }
+        | Kind::Min { .. }
+        | Kind::Max { .. }
+        | Kind::Avg { .. }
+        | Kind::ValueCount { .. } => unreachable!(),
     }
 }
 

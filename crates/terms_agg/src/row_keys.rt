@@ -107,6 +107,19 @@ pub fn key_count(shard: &Shard, row: u32, kind: &Kind) -> u64
                 None => 0,
             }
         }
-        _ => unreachable!(),
+        Kind::Histogram { .. }
+        | Kind::DateHistogram { .. }
+        | Kind::Filters { .. }
+        | Kind::Filter { .. }
+        | Kind::Missing { .. }
+        | Kind::Global
+        | Kind::Nested { .. }
+        | Kind::ReverseNested { .. }
+        | Kind::Composite { .. }
+        | Kind::Sum { .. }
+        | Kind::Min { .. }
+        | Kind::Max { .. }
+        | Kind::Avg { .. }
+        | Kind::ValueCount { .. } => unreachable!(),
     }
 }

@@ -88,7 +88,20 @@ pub fn trim(alloc: Global, agg: &Agg, node: Node) -> Result<Node, AllocError>
             Node::Fixed { buckets } => Ok(Node::Fixed { buckets }),
             Node::Number(metric) => Ok(Node::Number(metric)),
         },
-        _ => Ok(node),
+        Kind::Histogram { .. }
+        | Kind::DateHistogram { .. }
+        | Kind::Filters { .. }
+        | Kind::Filter { .. }
+        | Kind::Missing { .. }
+        | Kind::Global
+        | Kind::Nested { .. }
+        | Kind::ReverseNested { .. }
+        | Kind::Composite { .. }
+        | Kind::Sum { .. }
+        | Kind::Min { .. }
+        | Kind::Max { .. }
+        | Kind::Avg { .. }
+        | Kind::ValueCount { .. } => Ok(node),
     }
 }
 
@@ -109,7 +122,20 @@ pub fn trim_some(
             order,
             ..
         } => trim_buckets(alloc, &agg.children, *shard_size, order, total, buckets),
-        _ => Ok(Node::Keyed {
+        Kind::Histogram { .. }
+        | Kind::DateHistogram { .. }
+        | Kind::Filters { .. }
+        | Kind::Filter { .. }
+        | Kind::Missing { .. }
+        | Kind::Global
+        | Kind::Nested { .. }
+        | Kind::ReverseNested { .. }
+        | Kind::Composite { .. }
+        | Kind::Sum { .. }
+        | Kind::Min { .. }
+        | Kind::Max { .. }
+        | Kind::Avg { .. }
+        | Kind::ValueCount { .. } => Ok(Node::Keyed {
             buckets: List::from_vec(buckets),
             error: 0,
             full: 0,

@@ -4,10 +4,12 @@ ghost use Rattle.std.specs.Cmp.{IsTotalOrder};
 ghost use Rattle.std.specs.declared.cmp.Ordering.TheVariants.{Equal};
 ghost use Rattle.agg_model.specs.declared.key.Key.{Key as AnyKey};
 ghost use Rattle.agg_model.specs.declared.aggregation.Kind.{Kind};
+ghost use Rattle.agg_model.specs.declared.aggregation.Spacing.TheVariants.{Numbers};
 ghost use Rattle.agg_evaluation.specs.Intervals.{IsIntervalOf};
 ghost use Rattle.agg_evaluation.specs.KeyOrder.{key_cmp};
-ghost use Rattle.agg_evaluation.specs.Keys.{interval_start, keys};
+ghost use Rattle.agg_evaluation.specs.Keys.{keys};
 ghost use Rattle.agg_evaluation.specs.Rows.{PlacedRow};
+ghost use Rattle.agg_evaluation.specs.Spacings.{interval_start};
 ghost use Rattle.agg_evaluation.specs.Trees.{is_ascending};
 
 use agg_model::Key;
@@ -23,7 +25,7 @@ pub fn keys_have_one_order()
 /// number and less than one interval below it.
 pub fn histogram_key_is_the_one_multiple()
     ensures multiple { (interval offset : ℕ) (value : ℤ) → 0 < interval →
-        IsIntervalOf interval offset value (interval_start interval offset value) }
+        IsIntervalOf interval offset value (interval_start (Numbers interval offset) value) }
     ensures one { (interval offset : ℕ) (value j k : ℤ) →
         IsIntervalOf interval offset value j → IsIntervalOf interval offset value k → j ≡ k }
 {}

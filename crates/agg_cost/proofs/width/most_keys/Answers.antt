@@ -4,7 +4,7 @@ use Rattle.std.specs.Option.{SomeIff}
 use Rattle.std.proofs.lemmas.Option.{IfSome_then}
 use Rattle.agg_model.specs.declared.aggregation.Kind.{Kind}
 use Rattle.agg_cost.specs.Widths.{HasKeysAtMost}
-use Rattle.agg_cost.proofs.KeyNumbers.{few-composite, few-terms, few-starts, few-filters}
+use Rattle.agg_cost.proofs.KeyNumbers.{few-composite, few-terms, few-starts, few-periods, few-filters}
 use Rattle.agg_cost.proofs.width.most_keys.Goals as goal
 
 pub returns-in-Terms : goal.returns-in-Terms
@@ -23,6 +23,15 @@ returns-in-Histogram c =
     let most : max values.result 1 ≡ c.max-in-Histogram.result = sym (c.max-in-Histogram.ensures ∙ ap (λ (n : ℕ). max n 1) c.from-in-Histogram.ensures) in
     subst (λ (n : ℕ). HasKeysAtMost n c.args.kind.now rows) most (subst (λ (kind : Kind). HasKeysAtMost (max values.result 1) kind rows) (sym k.is)
     (few-starts rows k.field k.interval k.offset k.min_doc_count k.extended k.hard k.keyed k.order k.missing values.result (λ i low. values.ensures.each i)))
+
+pub returns-in-DateHistogram : goal.returns-in-DateHistogram
+returns-in-DateHistogram c =
+    let rows = c.args.shard.now.rows in
+    let k = c.in-DateHistogram in
+    let values = c.most_values-in-DateHistogram in
+    let most : max values.result 1 ≡ c.max-in-DateHistogram.result = sym (c.max-in-DateHistogram.ensures ∙ ap (λ (n : ℕ). max n 1) c.from-in-DateHistogram.ensures) in
+    subst (λ (n : ℕ). HasKeysAtMost n c.args.kind.now rows) most (subst (λ (kind : Kind). HasKeysAtMost (max values.result 1) kind rows) (sym k.is)
+    (few-periods rows k.field k.period k.zone k.min_doc_count k.extended k.hard k.keyed k.order k.missing values.result (λ i low. values.ensures.each i)))
 
 pub returns-in-Filters : goal.returns-in-Filters
 returns-in-Filters c =

@@ -1,21 +1,24 @@
 -- The answers to aggregations are the trees of their definition: a loop's body puts what the definition puts next.
-use Rattle.std.proofs.Common.{arith, ◌≡◌, [], ◌∷◌, ◌++◌, ◌+◌, ◌∙◌, ap, sym, subst, IfOk, List, drop, map, refl}
-use Rattle.std.specs.Prelude.{flat_map, zip, option_to_list, option_copied, codes}
-use Rattle.serde_json.specs.Data.{object}
+use Rattle.std.proofs.Common.{arith, ◌≡◌, [], ◌∷◌, ◌++◌, ◌+◌, ◌∙◌, ap, sym, subst, true, false, IfOk, List, drop, map, refl, rules}
+use Rattle.std.specs.Prelude.{ℤ, Bool, Option, None, Some, flat_map, zip, option_to_list, option_copied, codes}
+use Rattle.serde_json.specs.Data.{Data, object}
 use Rattle.serde_json.specs.View.{view, members_view}
 use Rattle.agg_model.specs.declared.answer.BucketAnswer.{BucketAnswer, out-BucketAnswer, size-BucketAnswer}
 use denote.Param.Weighed.{most}
-use Rattle.agg_model.specs.declared.answer.NodeAnswer.{out-NodeAnswer}
+use mir.Syntax.{w64}
+use mir.Val.{SFits}
+use Rattle.std.proofs.lemmas.Int.{to_z-of_z}
+use Rattle.agg_model.specs.declared.answer.NodeAnswer.{NodeAnswer, out-NodeAnswer}
 use Rattle.agg_model.specs.declared.aggregation.Agg.{Agg, out-Agg}
 use Rattle.agg_model.specs.declared.aggregation.Kind.{Kind}
 use Rattle.agg_model.specs.declared.aggregation.Kind.TheVariants as kind
 use Rattle.agg_model.specs.declared.mapping.Mapping.{Mapping}
 use Rattle.agg_model.specs.declared.text.Text.{Text}
-use Rattle.agg_spec.specs.AnswerTree.{printer, named_answers, bucket_members, key_number, after_key, value_of}
+use Rattle.agg_spec.specs.AnswerTree.{printer, tree_at, named_answers, bucket_members, key_name, after_key, value_of}
 use Rattle.agg_spec.specs.Average.{average}
 use Rattle.agg_spec.specs.Json.{Member, with_members, object_of, array_of, count, whole_number}
 use Rattle.agg_spec.specs.RangeCheck.{checker, check_bucket, sum_in_range}
-use Rattle.agg_response.specs.Buckets.{bucket_tree, own_members}
+use Rattle.agg_response.specs.Buckets.{bucket_tree, histogram_buckets, own_members}
 use Rattle.agg_response.proofs.Levels.{printer-kind}
 use Rattle.agg_response.proofs.InRange.{bucket_here, buckets_later, sum_of_answer, buckets_of_answer, answer_here, answers_later, children_of_bucket, keys_of_buckets}
 use Rattle.agg_response.proofs.Places.{drop_here, drop_found, drop_missing, pairs_put, pairs_put-here, pairs_put-no_first, pairs_put-no_second}
@@ -25,8 +28,8 @@ use Rattle.agg_response.proofs.PutLaws.{bucket_made, mapped_here, flat_here, lis
 use Rattle.agg_response.proofs.answers.+answers.Goals as goal
 
 -- what a bucket prints under the text of its key, and under its name
-abbrev keyed : Mapping → Kind → List Agg → BucketAnswer → Member
-keyed m kind children b = (key_number (out-BucketAnswer b).key, bucket_tree m kind (map (printer m) children) b)
+abbrev keyed : Mapping → Option ℤ → Kind → List Agg → BucketAnswer → Member
+keyed m zone kind children b = (key_name zone (out-BucketAnswer b).key, bucket_tree m kind (map (printer m) children) b)
 
 abbrev named : Mapping → Kind → List Agg → Text × BucketAnswer → Member
 named m kind children b = (b.0, bucket_tree m kind (map (printer m) children) b.1)
@@ -50,7 +53,7 @@ pub keyed_buckets-loop-bucket-preserved : goal.keyed_buckets-loop-bucket-preserv
 keyed_buckets-loop-bucket-preserved t c = record {
   in_range = buckets_later (check_bucket (map checker c.args.children.now)) c.bucket-item.result (drop c.loop-bucket.bucket-index c.as_slice-bucket-items.result.now) (drop (c.loop-bucket.bucket-index + 1) c.as_slice-bucket-items.result.now) (drop_here c.as_slice-bucket-items.result.now c.loop-bucket.bucket-index c.bucket-item.result c.loop-bucket-test.true c.bucket-item.is) c.loop-bucket.invariant.in_range;
   all =
-      mapped_here (keyed c.args.mapping.now c.args.kind.now c.args.children.now) c.as_slice-bucket-items.result.now c.loop-bucket.bucket-index c.bucket-item.result c.as_str.result.now (view c.in_ok-bucket_value.field-0.value) (members_view c.loop-bucket.object.members.entries) (members_view c.in_ok-object.object.members.entries)
+      mapped_here (keyed c.args.mapping.now c.args.zone c.args.kind.now c.args.children.now) c.as_slice-bucket-items.result.now c.loop-bucket.bucket-index c.bucket-item.result c.as_str.result.now (view c.in_ok-bucket_value.field-0.value) (members_view c.loop-bucket.object.members.entries) (members_view c.in_ok-object.object.members.entries)
       (drop_here c.as_slice-bucket-items.result.now c.loop-bucket.bucket-index c.bucket-item.result c.loop-bucket-test.true c.bucket-item.is) (c.as_str.ensures.value ∙ c.in_ok-name.ensures) c.in_ok-bucket_value.ensures c.in_ok-object.ensures
       ∙ c.loop-bucket.invariant.all;
 }
@@ -116,14 +119,14 @@ single_bucket-loop-bucket-preserved t c = record {
 pub answer_value-bucket_list-requires : goal.answer_value-bucket_list-requires
 answer_value-bucket_list-requires t c = (omega (arith, c.decreases, buckets_less c.args.node.now), buckets_of_answer c.args.agg.now c.args.node.now c.requires)
 
-pub answer_value-keyed_buckets-requires : goal.answer_value-keyed_buckets-requires
-answer_value-keyed_buckets-requires t c = (omega (arith, c.decreases, buckets_less c.args.node.now), buckets_of_answer c.args.agg.now c.args.node.now c.requires)
-
 pub answer_value-named_buckets-requires : goal.answer_value-named_buckets-requires
 answer_value-named_buckets-requires t c = (omega (arith, c.decreases, buckets_less c.args.node.now), buckets_of_answer c.args.agg.now c.args.node.now c.requires)
 
-pub answer_value-bucket_list-requires-in-Histogram : goal.answer_value-bucket_list-requires-in-Histogram
-answer_value-bucket_list-requires-in-Histogram t c = (omega (arith, c.decreases, buckets_less c.args.node.now), buckets_of_answer c.args.agg.now c.args.node.now c.requires)
+pub answer_value-histogram_value-requires : goal.answer_value-histogram_value-requires
+answer_value-histogram_value-requires t c = (omega (arith, c.decreases, buckets_less c.args.node.now), buckets_of_answer c.args.agg.now c.args.node.now c.requires)
+
+pub answer_value-histogram_value-requires-in-DateHistogram : goal.answer_value-histogram_value-requires-in-DateHistogram
+answer_value-histogram_value-requires-in-DateHistogram t c = (omega (arith, c.decreases, buckets_less c.args.node.now), buckets_of_answer c.args.agg.now c.args.node.now c.requires)
 
 pub answer_value-bucket_list-requires-in_default : goal.answer_value-bucket_list-requires-in_default
 answer_value-bucket_list-requires-in_default t c = (omega (arith, c.decreases, buckets_less c.args.node.now), buckets_of_answer c.args.agg.now c.args.node.now c.requires)
@@ -158,14 +161,50 @@ answer_value-average_object-requires t c = sym (ap (λ k. sum_in_range k (out-No
 pub answer_value-returns-in_ok-buckets-in-Terms : goal.answer_value-returns-in_ok-buckets-in-Terms
 answer_value-returns-in_ok-buckets-in-Terms t c = subst (λ d. IfOk c.terms_object.result (λ j. view j.value ≡ d)) (ap (λ b. object_of ((codes "buckets", b) ∷ (codes "doc_count_error_upper_bound", whole_number (out-NodeAnswer c.args.node.now).error) ∷ (codes "sum_other_doc_count", count (out-NodeAnswer c.args.node.now).other) ∷ [])) c.in_ok-buckets-in-Terms.ensures ∙ printer-kind c.args.mapping.now c.args.agg.now c.args.node.now _ (λ k. object_of ((codes "buckets", array_of (map (bucket_tree c.args.mapping.now k (map (printer c.args.mapping.now) (out-Agg c.args.agg.now).children)) (out-NodeAnswer c.args.node.now).buckets)) ∷ (codes "doc_count_error_upper_bound", whole_number (out-NodeAnswer c.args.node.now).error) ∷ (codes "sum_other_doc_count", count (out-NodeAnswer c.args.node.now).other) ∷ [])) c.in-Terms.is refl) c.terms_object.ensures
 
-pub answer_value-returns-then-keyed : goal.answer_value-returns-then-keyed
-answer_value-returns-then-keyed t c = subst (λ d. IfOk c.only.result (λ j. view j.value ≡ d)) (ap (λ b. object_of ((codes "buckets", b) ∷ [])) c.in_ok-named-in-Histogram.ensures ∙ printer-kind c.args.mapping.now c.args.agg.now c.args.node.now _ (λ k. object_of ((codes "buckets", object_of (map (keyed c.args.mapping.now k (out-Agg c.args.agg.now).children) (out-NodeAnswer c.args.node.now).buckets)) ∷ [])) (c.in-Histogram.is ∙ ap (λ b. kind.Histogram c.in-Histogram.field c.in-Histogram.interval c.in-Histogram.offset c.in-Histogram.min_doc_count c.in-Histogram.extended c.in-Histogram.hard b c.in-Histogram.order c.in-Histogram.missing) c.if-keyed.true) refl) c.only.ensures
+pub histogram_value-returns-then-keyed : goal.histogram_value-returns-then-keyed
+histogram_value-returns-then-keyed t c =
+    let children = map (printer c.args.mapping.now) c.args.children.now in
+    subst (λ d. IfOk c.only.result (λ j. view j.value ≡ object_of ((codes "buckets", d) ∷ [])))
+    (c.in_ok-named.ensures ∙ ap (λ (b : Bool). histogram_buckets c.args.mapping.now c.args.kind.now children c.args.zone b c.args.buckets.now) (sym c.if-keyed.true)) c.only.ensures
 
-pub answer_value-returns-in_ok-listed-in-Histogram : goal.answer_value-returns-in_ok-listed-in-Histogram
-answer_value-returns-in_ok-listed-in-Histogram t c = subst (λ d. IfOk c.only-in-Histogram.result (λ j. view j.value ≡ d)) (ap (λ b. object_of ((codes "buckets", b) ∷ [])) c.in_ok-listed-in-Histogram.ensures ∙ printer-kind c.args.mapping.now c.args.agg.now c.args.node.now _ (λ k. object_of ((codes "buckets", array_of (map (bucket_tree c.args.mapping.now k (map (printer c.args.mapping.now) (out-Agg c.args.agg.now).children)) (out-NodeAnswer c.args.node.now).buckets)) ∷ [])) (c.in-Histogram.is ∙ ap (λ b. kind.Histogram c.in-Histogram.field c.in-Histogram.interval c.in-Histogram.offset c.in-Histogram.min_doc_count c.in-Histogram.extended c.in-Histogram.hard b c.in-Histogram.order c.in-Histogram.missing) c.if-keyed.false) refl) c.only-in-Histogram.ensures
+-- a histogram's buckets, by a tree that depends on its kind
+abbrev spaced_tree : Mapping → List Agg → Option ℤ → Bool → List BucketAnswer → Kind → Data
+spaced_tree m children zone keyed buckets k = object_of ((codes "buckets", histogram_buckets m k (map (printer m) children) zone keyed buckets) ∷ [])
+
+by_keyed : (m : Mapping) (a : Agg) (n : NodeAnswer) (k : Bool → Kind) (zone : Option ℤ) (keyed : Bool)
+    → ((b : Bool) → spaced_tree m (out-Agg a).children zone b (out-NodeAnswer n).buckets (k b) ≡ tree_at m (map (printer m) (out-Agg a).children) (k b) (out-NodeAnswer n)) → (out-Agg a).kind ≡ k keyed
+    → spaced_tree m (out-Agg a).children zone keyed (out-NodeAnswer n).buckets (out-Agg a).kind ≡ printer m a n
+by_keyed m a n k zone keyed same is = printer-kind m a n (k keyed) (spaced_tree m (out-Agg a).children zone keyed (out-NodeAnswer n).buckets) is (same keyed)
+
+each_way : (b : Bool) (P : Bool → Type 0) → P true → P false → P b
+each_way true P first second = first
+each_way false P first second = second
+
+pub answer_value-returns-in-Histogram : goal.answer_value-returns-in-Histogram
+answer_value-returns-in-Histogram t c =
+    let m = c.args.mapping.now in
+    let a = c.args.agg.now in
+    let n = c.args.node.now in
+    let h = c.in-Histogram in
+    let k = λ (b : Bool). kind.Histogram h.field h.interval h.offset h.min_doc_count h.extended h.hard b h.order h.missing in
+    let same = λ (b : Bool). spaced_tree m (out-Agg a).children None b (out-NodeAnswer n).buckets (k b) ≡ tree_at m (map (printer m) (out-Agg a).children) (k b) (out-NodeAnswer n) in
+    subst (λ d. IfOk c.histogram_value.result (λ j. view j.value ≡ d)) (by_keyed m a n k None h.keyed (λ b. each_way b same refl refl) h.is) c.histogram_value.ensures
+
+pub answer_value-returns-in-DateHistogram : goal.answer_value-returns-in-DateHistogram
+answer_value-returns-in-DateHistogram t c =
+    let m = c.args.mapping.now in
+    let a = c.args.agg.now in
+    let n = c.args.node.now in
+    let h = c.in-DateHistogram in
+    let k = λ (b : Bool). kind.DateHistogram h.field h.period h.zone h.min_doc_count h.extended h.hard b h.order h.missing in
+    let same = λ (b : Bool). spaced_tree m (out-Agg a).children (Some h.zone) b (out-NodeAnswer n).buckets (k b) ≡ tree_at m (map (printer m) (out-Agg a).children) (k b) (out-NodeAnswer n) in
+    let fits : SFits w64 h.zone = search rules in
+    let tree = λ (z : ℤ). spaced_tree m (out-Agg a).children (Some z) h.keyed (out-NodeAnswer n).buckets (out-Agg a).kind in
+    subst (λ d. IfOk c.histogram_value-in-DateHistogram.result (λ j. view j.value ≡ d)) (ap tree (to_z-of_z w64 h.zone fits) ∙ by_keyed m a n k (Some h.zone) h.keyed (λ b. each_way b same refl refl) h.is)
+    c.histogram_value-in-DateHistogram.ensures
 
 pub answer_value-returns-in_default : goal.answer_value-returns-in_default
-answer_value-returns-in_default t c = subst (λ d. IfOk c.only-in_default.result (λ j. view j.value ≡ d)) (ap (λ b. object_of ((codes "buckets", b) ∷ [])) c.in_ok-anonymous-in-Filters.ensures ∙ printer-kind c.args.mapping.now c.args.agg.now c.args.node.now _ (λ k. object_of ((codes "buckets", array_of (map (bucket_tree c.args.mapping.now k (map (printer c.args.mapping.now) (out-Agg c.args.agg.now).children)) (out-NodeAnswer c.args.node.now).buckets)) ∷ [])) (c.in-Filters.is ∙ ap (λ ns. kind.Filters ns c.in-Filters.filters c.in-Filters.other) c.in_default.is) refl) c.only-in_default.ensures
+answer_value-returns-in_default t c = subst (λ d. IfOk c.only.result (λ j. view j.value ≡ d)) (ap (λ b. object_of ((codes "buckets", b) ∷ [])) c.in_ok-anonymous-in-Filters.ensures ∙ printer-kind c.args.mapping.now c.args.agg.now c.args.node.now _ (λ k. object_of ((codes "buckets", array_of (map (bucket_tree c.args.mapping.now k (map (printer c.args.mapping.now) (out-Agg c.args.agg.now).children)) (out-NodeAnswer c.args.node.now).buckets)) ∷ [])) (c.in-Filters.is ∙ ap (λ ns. kind.Filters ns c.in-Filters.filters c.in-Filters.other) c.in_default.is) refl) c.only.ensures
 
 pub answer_value-returns-in_ok-filtered-in-Filters : goal.answer_value-returns-in_ok-filtered-in-Filters
 answer_value-returns-in_ok-filtered-in-Filters t c = subst (λ d. IfOk c.only-in-Filters.result (λ j. view j.value ≡ d)) (ap (λ b. object_of ((codes "buckets", b) ∷ [])) c.in_ok-filtered-in-Filters.ensures ∙ printer-kind c.args.mapping.now c.args.agg.now c.args.node.now _ (λ k. object_of ((codes "buckets", object_of (map (named c.args.mapping.now k (out-Agg c.args.agg.now).children) (zip (c.in-Some.names ++ option_to_list c.in-Filters.other) (out-NodeAnswer c.args.node.now).buckets))) ∷ [])) (c.in-Filters.is ∙ ap (λ ns. kind.Filters ns c.in-Filters.filters c.in-Filters.other) c.in-Some.is) refl) c.only-in-Filters.ensures

@@ -2,7 +2,7 @@ use Rattle.std.proofs.Common.{◌≡◌, ◌+◌, ◌*◌, [], ◌++◌, map, dr
 use Rattle.std.specs.Prelude.{zip, flat_map, option_to_list}
 use Rattle.serde_json.specs.View.{view, members_view}
 use Rattle.agg_model.specs.declared.answer.BucketAnswer.{BucketAnswer, out-BucketAnswer}
-use Rattle.agg_spec.specs.AnswerTree.{printer, key_number, bucket_members}
+use Rattle.agg_spec.specs.AnswerTree.{printer, key_name, bucket_members}
 use Rattle.agg_spec.specs.Json.{with_members}
 use Rattle.agg_spec.specs.RangeCheck.{checker, check_bucket}
 use Rattle.agg_response.specs.Buckets.{bucket_tree, own_members}
@@ -13,27 +13,30 @@ use Rattle.agg_model.specs.declared.answer.NodeAnswer.{size-NodeAnswer}
 use denote.Param.Weighed.{most}
 use Rattle.agg_response.proofs.answers.+answers.Given as goal
 
--- the depth of what is printed, twice; a list's is that of its deepest item, and one more
+-- the depth of what is printed, three times; a list's is that of its deepest item, and one more; and a histogram's two more
 abbrev pub decreases-answer_value : goal.decreases-answer_value
-decreases-answer_value l = 2 * size-NodeAnswer l.node.now
+decreases-answer_value l = 3 * size-NodeAnswer l.node.now
 
 abbrev pub decreases-bucket_value : goal.decreases-bucket_value
-decreases-bucket_value l = 2 * size-BucketAnswer l.bucket.now
+decreases-bucket_value l = 3 * size-BucketAnswer l.bucket.now
 
 abbrev pub decreases-with_answers : goal.decreases-with_answers
-decreases-with_answers l = 2 * most size-NodeAnswer l.nodes.now + 1
+decreases-with_answers l = 3 * most size-NodeAnswer l.nodes.now + 1
 
 abbrev pub decreases-bucket_list : goal.decreases-bucket_list
-decreases-bucket_list l = 2 * most size-BucketAnswer l.buckets.now + 1
+decreases-bucket_list l = 3 * most size-BucketAnswer l.buckets.now + 1
 
 abbrev pub decreases-keyed_buckets : goal.decreases-keyed_buckets
-decreases-keyed_buckets l = 2 * most size-BucketAnswer l.buckets.now + 1
+decreases-keyed_buckets l = 3 * most size-BucketAnswer l.buckets.now + 1
+
+abbrev pub decreases-histogram_value : goal.decreases-histogram_value
+decreases-histogram_value l = 3 * most size-BucketAnswer l.buckets.now + 2
 
 abbrev pub decreases-named_buckets : goal.decreases-named_buckets
-decreases-named_buckets l = 2 * most size-BucketAnswer l.buckets.now + 1
+decreases-named_buckets l = 3 * most size-BucketAnswer l.buckets.now + 1
 
 abbrev pub decreases-single_bucket : goal.decreases-single_bucket
-decreases-single_bucket l = 2 * most size-BucketAnswer l.buckets.now + 1
+decreases-single_bucket l = 3 * most size-BucketAnswer l.buckets.now + 1
 
 abbrev pub invariant-with_answers-loop-place : goal.invariant-with_answers-loop-place
 invariant-with_answers-loop-place l = record {
@@ -52,9 +55,9 @@ invariant-bucket_list-loop-bucket l = record {
 abbrev pub invariant-keyed_buckets-loop-bucket : goal.invariant-keyed_buckets-loop-bucket
 invariant-keyed_buckets-loop-bucket l = record {
   in_range : flat_map (check_bucket (map checker l.children)) (drop l.bucket-index l.bucket-items) ≡ [];
-  all : with_members (map (λ (b : BucketAnswer). (key_number (out-BucketAnswer b).key, bucket_tree l.mapping l.kind (map (printer l.mapping) l.children) b)) (drop l.bucket-index l.bucket-items))
+  all : with_members (map (λ (b : BucketAnswer). (key_name l.zone (out-BucketAnswer b).key, bucket_tree l.mapping l.kind (map (printer l.mapping) l.children) b)) (drop l.bucket-index l.bucket-items))
       (members_view l.object.members.entries)
-      ≡ with_members (map (λ (b : BucketAnswer). (key_number (out-BucketAnswer b).key, bucket_tree l.mapping l.kind (map (printer l.mapping) l.children) b)) l.bucket-items)
+      ≡ with_members (map (λ (b : BucketAnswer). (key_name l.zone (out-BucketAnswer b).key, bucket_tree l.mapping l.kind (map (printer l.mapping) l.children) b)) l.bucket-items)
       (members_view l.initial.object.members.entries);
 }
 

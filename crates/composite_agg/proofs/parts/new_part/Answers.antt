@@ -2,7 +2,7 @@ use Rattle.std.proofs.Common.{◌-◌, ◌++◌, ◌∙◌, sym, ap, arith}
 use Rattle.agg_evaluation.specs.Keys.{distinct_keys}
 use Rattle.agg_evaluation.specs.Rows.{values_of, row_of}
 use Rattle.composite_agg.specs.Parts.{key_of_part}
-use Rattle.composite_agg.proofs.RowValues.{values_ascend}
+use Rattle.histogram_agg.proofs.Rows.{values_ascend}
 use Rattle.composite_agg.proofs.ValueParts.{there, as_list, as_option, same_at, other_at, first_at, before}
 use Rattle.std.proofs.lemmas.Bool.{false≢true}
 use Rattle.composite_agg.proofs.parts.new_part.Goals as goal

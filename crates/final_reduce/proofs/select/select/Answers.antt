@@ -1,25 +1,24 @@
-use Rattle.std.proofs.Common.{◌≡◌, ◌∙◌, ap, sym, map, arith, List, None, true, []}
-use Rattle.std.specs.Prelude.{◌&&◌, Bool}
+use Rattle.std.proofs.Common.{◌≡◌, ◌∙◌, ap, sym, subst, map, arith, rules, List, true, []}
+use Rattle.std.specs.Prelude.{◌&&◌, Bool, ℤ}
 use Rattle.std.specs.List.{list_all}
 use Rattle.std.proofs.lemmas.Result.{IfOk-weaker}
 use Rattle.std.proofs.lemmas.Bool.{and_parts, ltb-true}
+use Rattle.std.proofs.lemmas.Int.{to_z-of_z}
+use mir.Syntax.{w64}
+use mir.Val.{SFits}
 use Rattle.agg_model.specs.declared.aggregation.Agg.{Agg, out-Agg}
 use Rattle.agg_model.specs.declared.aggregation.Kind.{Kind}
 use Rattle.agg_model.specs.declared.partial.Bucket.{Bucket}
 use Rattle.agg_model.specs.declared.partial.Node.{Node}
-use Rattle.list_laws.specs.Sorting.{sorted}
-use Rattle.bucket_order.specs.Kinds.{child_kinds}
-use Rattle.bucket_order.proofs.SameOrder.{list_all-sorted}
-use Rattle.agg_evaluation.specs.Orders.{bucket_key, bucket_cmp}
-use Rattle.agg_evaluation.specs.Trees.{have_children, is_ascending, pass_each}
+use Rattle.agg_model.specs.declared.aggregation.Spacing.TheVariants.{Numbers, Dates}
+use Rattle.agg_evaluation.specs.Orders.{bucket_key}
+use Rattle.agg_evaluation.specs.Trees.{have_children, is_ascending}
 use Rattle.agg_evaluation.specs.Whole.{Parts, parts}
 use Rattle.agg_evaluation.specs.Finishable.{is_histogram_key}
-use Rattle.agg_evaluation.specs.Conditions.{has_interval}
-use Rattle.agg_spec.specs.Final.{finisher, finish_bucket, buckets_answer, metric_answer, empty_bucket}
-use Rattle.final_reduce.specs.Standing.{builder, built_at, form_of, is_standing, plain_answer, stands_at, terms_built, with_gaps}
-use Rattle.final_reduce.proofs.CutAgrees.{nothing-standing, empty-standing}
-use Rattle.final_reduce.proofs.FilledPasses.{gaps-pass}
-use Rattle.final_reduce.proofs.FinishableLaws.{builder-level, intervals-at, kinds_of_builders, metric_is, plain_is, standing-opened}
+use Rattle.agg_evaluation.specs.Conditions.{has_interval, is_spaced}
+use Rattle.agg_spec.specs.Final.{metric_answer}
+use Rattle.final_reduce.specs.Standing.{builder, built_at, form_of, is_standing, plain_answer, spaced_built, stands_at, terms_built}
+use Rattle.final_reduce.proofs.FinishableLaws.{builder-level, intervals-at, metric_is, plain_is, standing-opened}
 use Rattle.final_reduce.proofs.select.select.Goals as goal
 
 abbrev tests_of : Agg → List (Node → Bool)
@@ -33,16 +32,16 @@ select_terms-requires-clause-error c =
     let fit = ltb-true _ _ (sym (ap (λ k. stands_at (form_of k) (parts c.args.node)) c.in-Terms.is) ∙ (standing-opened c.args.agg.now c.args.node c.requires.node).1) in
     omega (arith, fit, c.into_parts-parts.ensures.error)
 
-pub select_buckets-requires-in-Composite : goal.select_buckets-requires-in-Composite
-select_buckets-requires-in-Composite c = record { children = ap (have_children (tests_of c.args.agg.now)) c.into_parts-parts.ensures.buckets ∙ (standing-opened c.args.agg.now c.args.node c.requires.node).0 }
+pub select_buckets-requires : goal.select_buckets-requires
+select_buckets-requires c = record { children = ap (have_children (tests_of c.args.agg.now)) c.into_parts-parts.ensures.buckets ∙ (standing-opened c.args.agg.now c.args.node c.requires.node).0 }
 
 pub returns-in-Composite-clause-answer : goal.returns-in-Composite-clause-answer
 returns-in-Composite-clause-answer c =
     let a = out-Agg c.args.agg.now in
     let builders = map builder a.children in
-    IfOk-weaker c.select_buckets-in-Composite.result _ _ (λ s is.
+    IfOk-weaker c.select_buckets.result _ _ (λ s is.
     is a.name ∙ ap (plain_answer a.name builders) c.into_parts-parts.ensures.buckets
-    ∙ sym (plain_is a.name builders (parts c.args.node) a.kind c.in-Composite.is) ∙ sym (builder-level c.args.agg.now c.args.node)) c.select_buckets-in-Composite.ensures.answer
+    ∙ sym (plain_is a.name builders (parts c.args.node) a.kind c.in-Composite.is) ∙ sym (builder-level c.args.agg.now c.args.node)) c.select_buckets.ensures.answer
 
 pub returns-in-Sum-clause-answer : goal.returns-in-Sum-clause-answer
 returns-in-Sum-clause-answer c =
@@ -61,38 +60,54 @@ returns-in-Terms-clause-answer c =
     is a.name ∙ ap (λ (q : Parts). terms_built a.name builders c.in-Terms.order q) same
     ∙ sym (ap (λ (k : Kind). built_at a.name builders (form_of k) p) c.in-Terms.is) ∙ sym (builder-level c.args.agg.now c.args.node)) c.select_terms.ensures.answer
 
-pub histogram_buckets-requires : goal.histogram_buckets-requires
-histogram_buckets-requires c =
+pub select_filled-requires : goal.select_filled-requires
+select_filled-requires c =
     let h = c.in-Histogram in
     let p = parts c.args.node in
-    let made = λ (b : Bucket). is_histogram_key h.interval h.offset h.hard (bucket_key b) in
-    let stand : (list_all made p.buckets && is_ascending (map bucket_key p.buckets)) ≡ true = sym (ap (λ k. stands_at (form_of k) p) h.is) ∙ (standing-opened c.args.agg.now c.args.node c.requires.node).1 in
+    let made = λ (b : Bucket). is_histogram_key (Numbers h.interval h.offset) h.hard (bucket_key b) in
+    let opened = standing-opened c.args.agg.now c.args.node c.requires.node in
+    let stand : (list_all made p.buckets && is_ascending (map bucket_key p.buckets)) ≡ true = sym (ap (λ k. stands_at (form_of k) p) h.is) ∙ opened.1 in
     let both = and_parts (list_all made p.buckets) (is_ascending (map bucket_key p.buckets)) stand in
     record {
-      positive = ltb-true 0 h.interval (sym (ap has_interval h.is) ∙ (intervals-at c.args.agg.now c.requires.intervals).0);
+      spaced = sym (ap has_interval h.is) ∙ (intervals-at c.args.agg.now c.requires.intervals).0;
       keys = ap (list_all made) c.into_parts-parts.ensures.buckets ∙ both.0;
       ascending = ap (λ bs. is_ascending (map bucket_key bs)) c.into_parts-parts.ensures.buckets ∙ both.1;
+      children = ap (have_children (tests_of c.args.agg.now)) c.into_parts-parts.ensures.buckets ∙ opened.0;
     }
 
-pub select_buckets-requires : goal.select_buckets-requires
-select_buckets-requires c =
-    let a = out-Agg c.args.agg.now in
-    let h = c.in-Histogram in
-    let passes = λ (b : Bucket). pass_each (tests_of c.args.agg.now) b.children in
-    let finishers = map finisher a.children in
+pub select_filled-requires-in-DateHistogram : goal.select_filled-requires-in-DateHistogram
+select_filled-requires-in-DateHistogram c =
+    let h = c.in-DateHistogram in
+    let p = parts c.args.node in
+    let made = λ (z : ℤ) (b : Bucket). is_histogram_key (Dates h.period z) h.hard (bucket_key b) in
+    let opened = standing-opened c.args.agg.now c.args.node c.requires.node in
+    let stand : (list_all (made h.zone) p.buckets && is_ascending (map bucket_key p.buckets)) ≡ true = sym (ap (λ k. stands_at (form_of k) p) h.is) ∙ opened.1 in
+    let both = and_parts (list_all (made h.zone) p.buckets) (is_ascending (map bucket_key p.buckets)) stand in
+    let fits : SFits w64 h.zone = search rules in
+    let zone = sym (to_z-of_z w64 h.zone fits) in
     record {
-      children = ap (list_all passes) c.in_ok-buckets-in-Histogram.ensures
-          ∙ list_all-sorted passes (bucket_cmp (child_kinds a.children) h.order) _ (gaps-pass passes (empty_bucket finishers) (λ key. nothing-standing a.children) h.interval h.offset h.min_doc_count h.extended h.hard c.into_parts-parts.result.buckets
-          (ap (have_children (tests_of c.args.agg.now)) c.into_parts-parts.ensures.buckets ∙ (standing-opened c.args.agg.now c.args.node c.requires.node).0));
+      spaced = subst (λ (z : ℤ). is_spaced (Dates h.period z) h.extended h.hard ≡ true) zone (sym (ap has_interval h.is) ∙ (intervals-at c.args.agg.now c.requires.intervals).0);
+      keys = subst (λ (z : ℤ). list_all (made z) c.into_parts-parts.result.buckets ≡ true) zone (ap (list_all (made h.zone)) c.into_parts-parts.ensures.buckets ∙ both.0);
+      ascending = ap (λ bs. is_ascending (map bucket_key bs)) c.into_parts-parts.ensures.buckets ∙ both.1;
+      children = ap (have_children (tests_of c.args.agg.now)) c.into_parts-parts.ensures.buckets ∙ opened.0;
     }
 
-pub returns-in_ok-buckets-in-Histogram-clause-answer : goal.returns-in_ok-buckets-in-Histogram-clause-answer
-returns-in_ok-buckets-in-Histogram-clause-answer c =
+pub returns-in-Histogram-clause-answer : goal.returns-in-Histogram-clause-answer
+returns-in-Histogram-clause-answer c =
     let a = out-Agg c.args.agg.now in
     let h = c.in-Histogram in
     let builders = map builder a.children in
-    let p = parts c.args.node in
-    IfOk-weaker c.select_buckets.result _ _ (λ s is.
-    is a.name ∙ ap (λ bs. buckets_answer a.name (map (finish_bucket builders None) bs)) (c.in_ok-buckets-in-Histogram.ensures
-    ∙ (λ i. sorted (bucket_cmp (sym (kinds_of_builders a.children) i) h.order) (with_gaps (λ key. sym (empty-standing a.children key) i) h.interval h.offset h.min_doc_count h.extended h.hard (c.into_parts-parts.ensures.buckets i))))
-    ∙ sym (ap (λ (k : Kind). built_at a.name builders (form_of k) p) h.is) ∙ sym (builder-level c.args.agg.now c.args.node)) c.select_buckets.ensures.answer
+    IfOk-weaker c.select_filled.result _ _ (λ s is.
+    is a.name ∙ ap (spaced_built a.name builders (Numbers h.interval h.offset) h.min_doc_count h.extended h.hard h.order) c.into_parts-parts.ensures.buckets
+    ∙ sym (ap (λ (k : Kind). built_at a.name builders (form_of k) (parts c.args.node)) h.is) ∙ sym (builder-level c.args.agg.now c.args.node)) c.select_filled.ensures.answer
+
+pub returns-in-DateHistogram-clause-answer : goal.returns-in-DateHistogram-clause-answer
+returns-in-DateHistogram-clause-answer c =
+    let a = out-Agg c.args.agg.now in
+    let h = c.in-DateHistogram in
+    let builders = map builder a.children in
+    let fits : SFits w64 h.zone = search rules in
+    IfOk-weaker c.select_filled-in-DateHistogram.result _ _ (λ s is.
+    is a.name ∙ ap (λ (z : ℤ). spaced_built a.name builders (Dates h.period z) h.min_doc_count h.extended h.hard h.order c.into_parts-parts.result.buckets) (to_z-of_z w64 h.zone fits)
+    ∙ ap (spaced_built a.name builders (Dates h.period h.zone) h.min_doc_count h.extended h.hard h.order) c.into_parts-parts.ensures.buckets
+    ∙ sym (ap (λ (k : Kind). built_at a.name builders (form_of k) (parts c.args.node)) h.is) ∙ sym (builder-level c.args.agg.now c.args.node)) c.select_filled-in-DateHistogram.ensures.answer

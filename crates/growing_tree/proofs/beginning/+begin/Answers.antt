@@ -56,7 +56,7 @@ begin_buckets-loop-alloc-preserved t c = record {
 pub begin-returns-in_ok-level-in-Terms : goal.begin-returns-in_ok-level-in-Terms
 begin-returns-in_ok-level-in-Terms t c shard =
     ap (decoded shard c.args.ready.now) c.in_ok-level-in-Terms.ensures.node ∙ decoded-out shard c.args.ready.now _ _ (out-Keyed [] 0 0 0)
-    ∙ sym (⊎_elim (λ h. empty-level c.args.agg.now _ h.9) (⊎_elim (λ h. empty-level c.args.agg.now _ h.9) (λ h. empty-level c.args.agg.now _ h.3)) c.in-Terms.is)
+    ∙ sym (⊎_elim (λ h. empty-level c.args.agg.now _ h.9) (⊎_elim (λ h. empty-level c.args.agg.now _ h.9) (⊎_elim (λ h. empty-level c.args.agg.now _ h.9) (λ h. empty-level c.args.agg.now _ h.3))) c.in-Terms.is)
 
 pub begin-returns-in-Sum : goal.begin-returns-in-Sum
 begin-returns-in-Sum t c shard =

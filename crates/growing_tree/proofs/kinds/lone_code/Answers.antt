@@ -18,3 +18,6 @@ returns-in-Terms c =
     both-some c.lone_code.result _ _ _
     (λ code keys codes. ap (λ r. map (code_key shard r) (option_to_list code)) c.in-Terms.is ∙ where-codes shard c.in-Terms.terms (option_to_list code) (codes kind ready) ∙ keys kind ready)
     c.lone_code.ensures.keys c.lone_code.ensures.codes
+
+pub lone_code-requires-in-DateHistogram-clause-dates : goal.lone_code-requires-in-DateHistogram-clause-dates
+lone_code-requires-in-DateHistogram-clause-dates c = (subst (IsKindReady c.args.shard.now c.args.kind.now) c.in-DateHistogram.is c.requires.ready).1

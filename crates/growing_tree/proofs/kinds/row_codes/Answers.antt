@@ -25,3 +25,6 @@ returns-in_ok-codes-in-Filters c =
     ∙ ap (map (code_key shard (Filters filters))) c.in_ok-codes-in-Filters.ensures.numbers
     ∙ filter-codes shard filters (numbers_of_row shard.rows filters (row_of shard.rows c.args.row))
     ∙ ready.same c.args.row
+
+pub codes-requires-in-DateHistogram-clause-dates : goal.codes-requires-in-DateHistogram-clause-dates
+codes-requires-in-DateHistogram-clause-dates c = (subst (IsKindReady c.args.shard.now c.args.kind.now) c.in-DateHistogram.is c.requires.ready).1

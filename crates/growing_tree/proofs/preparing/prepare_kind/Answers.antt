@@ -1,6 +1,7 @@
 use Rattle.std.proofs.Common.{⊎_elim, sym, subst}
 use Rattle.filters_agg.specs.Filtering.{IsFiltering}
-use Rattle.growing_tree.proofs.ReadyLaws.{terms-made, histogram-made, filters-made}
+use Rattle.date_agg.proofs.Made.{ready-dates}
+use Rattle.growing_tree.proofs.ReadyLaws.{terms-made, histogram-made, dates-made, filters-made}
 use Rattle.growing_tree.proofs.preparing.prepare_kind.Goals as goal
 
 pub prepare-requires : goal.prepare-requires
@@ -23,19 +24,20 @@ prepare-requires c =
 pub prepare-requires-in-Histogram : goal.prepare-requires-in-Histogram
 prepare-requires-in-Histogram c =
     let h = c.in-Histogram in
-    histogram-made c.args.shard.now c.args.kind.now
-    (record {
-      field = h.field;
-      interval = h.interval;
-      offset = h.offset;
-      min_doc_count = h.min_doc_count;
-      extended = h.extended;
-      hard = h.hard;
-      keyed = h.keyed;
-      order = h.order;
-      missing = h.missing;
-    })
-    h.is c.requires
+    histogram-made c.args.shard.now c.args.kind.now h.field h.interval h.offset h.min_doc_count h.extended h.hard h.keyed h.order h.missing h.is c.requires
+
+pub prepare-requires-in-DateHistogram : goal.prepare-requires-in-DateHistogram
+prepare-requires-in-DateHistogram c =
+    let h = c.in-DateHistogram in
+    (dates-made c.args.shard.now c.args.kind.now h.field h.period h.zone h.min_doc_count h.extended h.hard h.keyed h.order h.missing h.is c.requires).0
+
+pub returns-in-DateHistogram : goal.returns-in-DateHistogram
+returns-in-DateHistogram c =
+    let shard = c.args.shard.now in
+    let h = c.in-DateHistogram in
+    let over = (dates-made shard c.args.kind.now h.field h.period h.zone h.min_doc_count h.extended h.hard h.keyed h.order h.missing h.is c.requires).1 in
+    let ready = c.prepare-in-DateHistogram.ensures in
+    (ready, ready-dates shard c.args.kind.now c.prepare-in-DateHistogram.result ready over)
 
 pub prepare-requires-in-Filters-clause-filtering : goal.prepare-requires-in-Filters-clause-filtering
 prepare-requires-in-Filters-clause-filtering c =

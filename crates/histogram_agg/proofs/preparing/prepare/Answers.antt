@@ -1,4 +1,5 @@
 use Rattle.std.proofs.Common.{refl}
+use Rattle.agg_model.specs.declared.aggregation.Spacing.TheVariants.{Numbers}
 use Rattle.agg_model.specs.Options.{HistogramOptions}
 use Rattle.histogram_agg.proofs.preparing.prepare.Goals as goal
 
@@ -6,8 +7,7 @@ pub returns : goal.returns
 returns c =
     let options : HistogramOptions = record {
       field = c.in-Histogram.field;
-      interval = c.in-Histogram.interval;
-      offset = c.in-Histogram.offset;
+      spacing = Numbers c.in-Histogram.interval c.in-Histogram.offset;
       min_doc_count = c.in-Histogram.min_doc_count;
       extended = c.in-Histogram.extended;
       hard = c.in-Histogram.hard;
@@ -19,8 +19,7 @@ returns c =
       options = options;
       kind_is = c.in-Histogram.is;
       field_is = refl;
-      interval_is = refl;
-      offset_is = refl;
+      spacing_is = refl;
       hard_is = refl;
       missing = c.code_of_missing-missing.ensures;
     }

@@ -31,7 +31,7 @@ empty_node_of-returns-in_ok-empty_buckets-in-Filter t c =
 pub empty_node_of-returns-in-Terms : goal.empty_node_of-returns-in-Terms
 empty_node_of-returns-in-Terms t c =
     let shape : shape_of (out-Agg c.args.agg.now).kind ≡ by_key =
-    ⊎_elim (λ h. ap shape_of h.9) (⊎_elim (λ h. ap shape_of h.9) (λ h. ap shape_of h.3)) c.in-Terms.is in
+    ⊎_elim (λ h. ap shape_of h.9) (⊎_elim (λ h. ap shape_of h.9) (⊎_elim (λ h. ap shape_of h.9) (λ h. ap shape_of h.3))) c.in-Terms.is in
     ap (λ buckets. Keyed buckets 0 0 0) c.new.ensures ∙ sym (empty_at c.args.agg.now by_key shape)
 
 pub empty_buckets-loop-place-preserved : goal.empty_buckets-loop-place-preserved

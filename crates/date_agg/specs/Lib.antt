@@ -1,0 +1,3 @@
+-- Codes for the keys of date histograms.
+pub mod Codes
+pub mod Dates
