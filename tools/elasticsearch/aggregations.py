@@ -18,7 +18,6 @@ ADVICE = {
     'percentiles': 'there are no estimates: a histogram has the exact counts',
     'percentile_ranks': 'there are no estimates: a histogram has the exact counts',
     'median_absolute_deviation': 'there are no estimates',
-    'date_histogram': 'dates have no histogram: --dates millis makes them numbers of milliseconds, and what has one length is written as a histogram',
     'auto_date_histogram': 'the interval is chosen by the answer: name one',
     'variable_width_histogram': 'the intervals are chosen by the answer: name one',
     'date_range': 'write filters with a range in each',
@@ -36,6 +35,19 @@ ADVICE = {
     'scripted_metric': 'there are no scripts',
     'weighted_avg': 'products of fields are not summed here',
 }
+
+
+# Why dates are not divided in some places, and what may take the place of it.
+DIVIDED_DATES = 'write a date_histogram with a fixed_interval, which divides dates'
+NO_SUCH_SOURCE = ('a composite has no source of intervals of dates: --dates millis makes them numbers of milliseconds, and what has one length is '
+                  'written as a histogram')
+# The members of a date_histogram that are read.
+OF_DATE_HISTOGRAMS = ('field', 'fixed_interval', 'calendar_interval', 'interval', 'time_zone', 'offset', 'min_doc_count', 'order', 'missing',
+                      'extended_bounds', 'hard_bounds', 'format', 'keyed')
+# Names of UTC itself that the program takes, or that stand for no zone.
+ZERO = ('UTC', 'Z')
+# Formats whose texts are those of the program.
+PRINTED = ('strict_date_optional_time', 'date_optional_time', 'strict_date_time', 'date_time')
 
 
 class Aggregations:
@@ -181,7 +193,7 @@ class Aggregations:
     def _histogram(self, form, at):
         field = self._field(form, at)
         if field.kind == 'date':
-            raise Refused(ADVICE['date_histogram'], at)
+            raise Refused(DIVIDED_DATES, at)
         out = self._without(form, at, {'format': (None, 'the answer has no text of keys'), 'offset': ((0, exact.Number('0.0'), '0'), 'it is 0')})
         out['field'] = field.path
         for name in ('interval', 'offset'):
@@ -222,26 +234,132 @@ class Aggregations:
 
     def _date_histogram(self, form, at):
         field = self._field(form, at)
-        if field.read != 'date' or field.kind == 'date':
-            raise Refused(ADVICE['date_histogram'], at)
+        if field.read != 'date':
+            raise Refused(f'{field.path} has no dates', f'{at}/field')
         for name in form:
-            if name not in ('field', 'fixed_interval', 'calendar_interval', 'interval', 'time_zone', 'offset', 'min_doc_count', 'order', 'missing',
-                            'extended_bounds', 'format', 'keyed'):
+            if name not in OF_DATE_HISTOGRAMS:
                 raise Refused(f'{name} has no equal', f'{at}/{name}')
+        if field.kind == 'date':
+            return 'date_histogram', self._dated(field, form, at)
+        return 'histogram', self._in_millis(field, form, at)
+
+    def _dated(self, field, form, at):
+        """A date_histogram over dates that stay dates."""
+        ahead = self._ahead(form, at)
+        out = {'field': field.path, **self._period(form, at), **self._zone(form, ahead, at)}
+        self._no_offset(form, at)
+        self._no_format(field, form, at)
+        if 'keyed' in form:
+            out['keyed'] = form['keyed']
+        for name in ('extended_bounds', 'hard_bounds'):
+            if name in form:
+                out[name] = self._bounds(field, form, form[name], f'{at}/{name}', ahead)
+        if isinstance(out.get('hard_bounds'), dict) and 'max' in out['hard_bounds']:
+            self.search.change(f'{at}/hard_bounds', 'a bucket whose key is the upper bound itself is there too')
+        self._put_counts(field, form, out, at, ahead)
+        return out
+
+    def _zone(self, form, ahead, at):
+        given = form.get('time_zone')
+        if given is None:
+            return {}
+        written = given if given in ZERO else dates.offset(ahead)
+        if written != given:
+            self.search.change(f'{at}/time_zone', f'{given} is written as {written}')
+        return {'time_zone': written}
+
+    def _put_counts(self, field, form, out, at, ahead):
+        """`min_doc_count`, `missing` and `order` of a date_histogram."""
+        if 'min_doc_count' in form:
+            out['min_doc_count'] = form['min_doc_count']
+            self._wholes(out, at, ('min_doc_count',))
+        if form.get('missing') is not None:
+            out['missing'] = self._moment(field, form, form['missing'], f'{at}/missing', ahead)
+        if 'order' in form:
+            out['order'] = self._order(form['order'], f'{at}/order')
+
+    def _ahead(self, form, at):
+        """By how many milliseconds the zone of a date_histogram is ahead of UTC."""
+        text = form.get('time_zone')
+        ahead = dates.zone(text)
+        if ahead is None:
+            raise Refused(f'the clock of {exact.write(text)} may be changed, so it is no offset: ask in UTC, or at the offset of the time that '
+                          'is meant, as +01:00', f'{at}/time_zone')
+        if dates.offset(ahead) is None:
+            raise Refused('an offset is at most 18 hours', f'{at}/time_zone')
+        return ahead
+
+    def _period(self, form, at):
+        """The interval of a date_histogram, which an older body has as `interval`: of the calendar, or of one length."""
+        named = [it for it in ('calendar_interval', 'fixed_interval', 'interval') if form.get(it) is not None]
+        if len(named) != 1:
+            raise Refused('it has one interval, calendar_interval or fixed_interval', at)
+        name, given = named[0], form[named[0]]
+        if name != 'fixed_interval' and given in dates.PERIODS:
+            made = {'calendar_interval': given}
+        elif name != 'fixed_interval' and given in ('second', '1s'):
+            made = {'fixed_interval': '1s'}
+        else:
+            length = None if name == 'calendar_interval' else dates.fixed(given)
+            if length is None:
+                raise Refused(f'an interval of {exact.write(given)} is not known', f'{at}/{name}')
+            made = {'fixed_interval': length}
+        if made != {name: given}:
+            self.search.change(f'{at}/{name}', f'{exact.write(given)} is written as {exact.write(made)}')
+        return made
+
+    def _no_offset(self, form, at):
+        """An offset that moves nothing is left out."""
+        given = form.get('offset')
+        if given is None:
+            return
+        if (given if isinstance(given, int) else dates.span(given)) != 0:
+            raise Refused('intervals begin where the calendar or 1970 has them: there is no offset', f'{at}/offset')
+        self.search.change(f'{at}/offset', 'left out: it is 0')
+
+    def _no_format(self, field, form, at):
+        """The format of keys is left out; the names of keyed buckets are texts of the program's own."""
+        given = form.get('format')
+        if given is not None and not isinstance(given, str):
+            raise Refused('a format is a text', f'{at}/format')
+        if given is not None and form.get('keyed') and given.split('||')[0] not in PRINTED:
+            raise Refused('the names of its buckets are texts of one form, as 2024-03-01T00:00:00.000Z', f'{at}/format')
+        if given is not None:
+            self.search.change(f'{at}/format', 'left out: key_as_string has one form, as 2024-03-01T00:00:00.000Z')
+        elif form.get('keyed') and (field.form or PRINTED[0]).split('||')[0] not in PRINTED:
+            self.search.change(f'{at}/keyed', 'the names of its buckets are texts of one form, as 2024-03-01T00:00:00.000Z')
+
+    def _bounds(self, field, form, bounds, at, ahead):
+        """Bounds of a date_histogram: a number is one of milliseconds, whatever its format."""
+        if not isinstance(bounds, dict):
+            return bounds
+        out = {name: self._moment(field, form, bound, f'{at}/{name}', ahead) if isinstance(bound, str) else bound
+               for name, bound in bounds.items() if bound is not None}
+        self._wholes(out, at, out)
+        return out
+
+    def _moment(self, field, form, given, at, ahead):
+        """A time that a date_histogram names: a text is read by its format, and in its zone."""
+        found = self._value(field, given, at, form=form.get('format'), ahead=ahead)
+        taken = dates.millis(given) if isinstance(given, str) and field.kind == 'date' and form.get('format') is None else None
+        if taken not in (None, found):
+            self.search.other.append((at, f'{given} is a time in the zone of the aggregation, and is taken for one in UTC'))
+        return found
+
+    def _in_millis(self, field, form, at):
+        """A date_histogram over dates that are numbers of milliseconds, as a histogram."""
+        if 'hard_bounds' in form:
+            raise Refused('hard_bounds has no equal', f'{at}/hard_bounds')
         if form.get('keyed'):
             raise Refused('its names are texts of dates', f'{at}/keyed')
         length, begin = self._steps(form, at)
+        ahead = dates.zone(form.get('time_zone'))
         out = {'field': field.path, 'interval': length, **({'offset': begin} if begin else {})}
-        out.update({it: form[it] for it in ('min_doc_count', 'missing') if it in form})
-        self._wholes(out, at, ('min_doc_count',))
-        self._put_missing(field, out, at)
-        if 'order' in form:
-            out['order'] = self._order(form['order'], f'{at}/order')
-        if isinstance(form.get('extended_bounds'), dict):
-            out['extended_bounds'] = {it: self._value(field, bound, f'{at}/extended_bounds/{it}', form=form.get('format'))
-                                      for it, bound in form['extended_bounds'].items() if bound is not None}
+        self._put_counts(field, form, out, at, ahead)
+        if 'extended_bounds' in form:
+            out['extended_bounds'] = self._bounds(field, form, form['extended_bounds'], f'{at}/extended_bounds', ahead)
         self.search.change(at, f'written as a histogram of {length} milliseconds: the same buckets, without key_as_string')
-        return 'histogram', out
+        return out
 
     def _range(self, form, at):
         """Ranges are filters: the same documents in each, in the same order."""
@@ -339,10 +457,10 @@ class Aggregations:
         if isinstance(out.get('order'), str):
             out['order'] = out['order'].lower()
         if kind != 'terms' and field.kind == 'date':
-            raise Refused(ADVICE['date_histogram'], here)
+            raise Refused(NO_SUCH_SOURCE, here)
         if kind == 'date_histogram':
             if field.read != 'date':
-                raise Refused(ADVICE['date_histogram'], here)
+                raise Refused(f'{field.path} has no dates', f'{here}/field')
             if out.get('format') is not None:
                 raise Refused('its keys are texts of dates', f'{here}/format')
             length, begin = self._steps(out, here)

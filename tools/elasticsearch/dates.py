@@ -12,6 +12,10 @@ UNITS = {'ms': 1, 's': 1_000, 'm': 60_000, 'h': 3_600_000, 'd': DAY}
 CALENDAR = {'minute': 60_000, '1m': 60_000, 'hour': 3_600_000, '1h': 3_600_000, 'day': DAY, '1d': DAY, 'week': 7 * DAY, '1w': 7 * DAY}
 # The Monday that weeks are counted from.
 MONDAY = 4 * DAY
+# The intervals of the calendar that a date_histogram of a script takes.
+PERIODS = ('minute', '1m', 'hour', '1h', 'day', '1d', 'week', '1w', 'month', '1M', 'quarter', '1q', 'year', '1y')
+# The most of a unit, and the farthest offset, that it takes.
+MOST_AMOUNT, MOST_OFFSET = 2_147_483_647, 18 * 3_600_000
 ZONES = {'UTC': 0, 'Z': 0, 'z': 0, 'GMT': 0, 'Etc/UTC': 0, 'Etc/GMT': 0, 'Zulu': 0, 'UCT': 0}
 # The formats whose texts are read as ISO 8601.
 ISO = re.compile(r'^(strict_)?date_optional_time(_nanos)?$|^iso8601$|^(strict_)?(date|date_time|date_time_no_millis|date_hour_minute_second'
@@ -27,9 +31,9 @@ def zone(text):
     """The milliseconds by which a zone is ahead of UTC; none for one whose clock may be changed."""
     if text is None:
         return 0
-    if text in ZONES:
+    if isinstance(text, str) and text in ZONES:
         return ZONES[text]
-    found = re.match(r'^(?:UTC|GMT)?([+-])(\d\d?)(?::?(\d\d))?$', text)
+    found = re.match(r'^(?:UTC|GMT)?([+-])(\d\d?)(?::?([0-5]\d))?$', text) if isinstance(text, str) else None
     if not found:
         return None
     sign, hours, minutes = found.groups()
@@ -41,6 +45,26 @@ def span(text):
     """The milliseconds of a text such as `3h`; none for others, and for units that have no one length."""
     found = re.match(r'^([+-]?\d+)(ms|s|m|h|d)$', text) if isinstance(text, str) else None
     return int(found.group(1)) * UNITS[found.group(2)] if found else None
+
+
+def offset(ahead):
+    """The offset of a zone as a date_histogram takes it, as `+05:30`; none where it is too far from UTC or no whole number of minutes."""
+    minutes, rest = divmod(abs(ahead), 60_000)
+    if rest or abs(ahead) > MOST_OFFSET:
+        return None
+    return f'{"-" if ahead < 0 else "+"}{minutes // 60:02}:{minutes % 60:02}' if ahead else 'UTC'
+
+
+def fixed(given):
+    """An interval of one length as a date_histogram takes it, as `36h`; none for others. A number is one of milliseconds."""
+    length = span(f'{given}ms' if isinstance(given, int) and not isinstance(given, bool) else given)
+    if not length or length < 0:
+        return None
+    unit = re.search(r'[a-z]+$', f'{given}ms' if isinstance(given, int) else given).group()
+    for it in (unit, *(it for it in UNITS if UNITS[it] > UNITS[unit])):
+        if length % UNITS[it] == 0 and length // UNITS[it] <= MOST_AMOUNT:
+            return f'{length // UNITS[it]}{it}'
+    return None
 
 
 def _millis(parts, ahead, is_up):
