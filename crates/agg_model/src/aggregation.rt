@@ -4,6 +4,7 @@ ghost use Rattle.std.specs.Prelude.{◌≡◌, IfOk};
 use crate::copying::Copying;
 use crate::key::Key;
 use crate::list::List;
+use crate::pipeline::Pipe;
 use crate::query::{Probe, Query};
 use crate::row::Scalar;
 use crate::text::Text;
@@ -165,6 +166,8 @@ pub struct Search {
     pub body_bytes: u64,
     /// `allow_partial_search_results`: a shard whose task a breaker refuses is left out.
     pub partial: bool,
+    /// Its pipelines, in the order in which the body names them; they are no members of `aggs`.
+    pub pipes: List<Pipe>,
 }
 
 impl Copying for OrderBy {
@@ -341,6 +344,7 @@ impl Copying for Search {
             aggs: self.aggs.copy(alloc)?,
             body_bytes: self.body_bytes,
             partial: self.partial,
+            pipes: self.pipes.copy(alloc)?,
         })
     }
 }

@@ -32,7 +32,7 @@ pub const NO_SUCH_FIELD: u16 = 108;
 /// The mapping has no nested path of this name in the place that is asked for, or there is none to leave.
 pub const NO_SUCH_PATH: u16 = 109;
 
-/// A metric has children, or a kind that is for the top alone stands beneath another.
+/// A metric or a pipeline has children, or a kind that is for the top alone stands beneath another.
 pub const MISPLACED_AGGREGATION: u16 = 110;
 
 /// There are more aggregations, queries, levels, filters, sources or list values than the limits allow.
@@ -43,3 +43,9 @@ pub const INVALID_NAME: u16 = 112;
 
 /// An order names no child that it can compare.
 pub const NO_SUCH_CHILD: u16 = 113;
+
+/// A path of a pipeline names no value of the buckets that it is about.
+pub const NO_SUCH_PIPE_PATH: u16 = 114;
+
+/// A pipeline stands where its kind may not, or is the second `bucket_sort` of one aggregation.
+pub const MISPLACED_PIPELINE: u16 = 115;

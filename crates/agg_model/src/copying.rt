@@ -13,6 +13,12 @@ pub trait Copying: Drop {
         ensures { IfOk result (λ c. c ≡ self.now) };
 }
 
+impl Copying for u32 {
+    fn copy(&self, _alloc: Global) -> Result<Self, AllocError> {
+        Ok(*self)
+    }
+}
+
 impl Copying for Text {
     fn copy(&self, alloc: Global) -> Result<Self, AllocError> {
         Text::of(alloc, self.as_str())

@@ -72,13 +72,14 @@ pub const MAX_NAME: usize = 512;
 /// Filters of one `filters` aggregation; a limit of this engine.
 pub const MAX_FILTERS: usize = 256;
 
-/// Orders of one aggregation; a limit of this engine.
+/// Orders of one aggregation or `bucket_sort`; a limit of this engine.
 pub const MAX_ORDERS: usize = 4;
 
 /// Sources of one `composite` aggregation; a limit of this engine.
 pub const MAX_SOURCES: usize = 16;
 
-/// What `size` and `shard_size` of a `terms` aggregation may name, the greatest number of signed 32 bits.
+/// What `size` and `shard_size` of a `terms` aggregation, and `from` and `size` of a `bucket_sort`, may name: the
+/// greatest number of signed 32 bits.
 pub const MAX_SIZE: u32 = 2_147_483_647;
 
 /// What `size` of a `composite` aggregation may name; a limit of this engine.

@@ -51,6 +51,12 @@ unfolding
     Rattle.agg_reading.specs.Orders.order_at Rattle.agg_reading.specs.Orders.orders_from Rattle.agg_reading.specs.Orders.item_count
     Rattle.agg_reading.specs.Orders.orders_at Rattle.agg_reading.specs.Orders.child_from Rattle.agg_reading.specs.Orders.child_named
     Rattle.agg_reading.specs.Orders.compared_by Rattle.agg_reading.specs.Orders.resolved Rattle.agg_reading.specs.Orders.with_order
+    Rattle.agg_reading.specs.Pipelines.pipe_name Rattle.agg_reading.specs.Pipelines.path_at Rattle.agg_reading.specs.Pipelines.sort_order_at
+    Rattle.agg_reading.specs.Pipelines.sort_orders_from Rattle.agg_reading.specs.Pipelines.sort_orders_at Rattle.agg_reading.specs.Pipelines.bucket_sort_at
+    Rattle.agg_reading.specs.Pipelines.pipe_kind_at Rattle.agg_reading.specs.PipePaths.value_path Rattle.agg_reading.specs.PipePaths.begins_with
+    Rattle.agg_reading.specs.PipePaths.sibling_from Rattle.agg_reading.specs.PipePaths.sibling_path Rattle.agg_reading.specs.PipePaths.sort_paths
+    Rattle.agg_reading.specs.PipePaths.resolved_kind Rattle.agg_reading.specs.PipePaths.resolved_pipes
+    Rattle.agg_reading.specs.PipePaths.placed_pipes Rattle.agg_reading.specs.PipePaths.fitted_pipes
     Rattle.agg_reading.specs.Terms.missing_at Rattle.agg_reading.specs.Terms.term_lists_in Rattle.agg_reading.specs.Terms.term_counts_in
     Rattle.agg_reading.specs.Terms.term_sizes_in Rattle.agg_reading.specs.Terms.terms_in Rattle.agg_reading.specs.Terms.terms_at
     Rattle.agg_reading.specs.Histogram.whole_field_in Rattle.agg_reading.specs.Histogram.bounds_at Rattle.agg_reading.specs.Histogram.histogram_ranges_in
@@ -75,6 +81,7 @@ unfolding
     Rattle.agg_reading.specs.Aggregations.kind_name Rattle.agg_reading.specs.Aggregations.kind_at Rattle.agg_reading.specs.Aggregations.is_aggregation_name
     Rattle.agg_reading.specs.Aggregations.kind_member Rattle.agg_reading.specs.Request.aggregations_from Rattle.agg_reading.specs.Request.aggregations_at
     Rattle.agg_reading.specs.Request.children_in Rattle.agg_reading.specs.Request.placed Rattle.agg_reading.specs.Request.assembled
+    Rattle.agg_reading.specs.Request.assembled_pipe Rattle.agg_reading.specs.Request.kind_of Rattle.agg_reading.specs.Request.pipe_of Rattle.agg_reading.specs.Request.item_of
     Rattle.agg_reading.specs.Request.aggregation_of Rattle.agg_reading.specs.Request.aggregation_at Rattle.agg_reading.specs.Request.search_in
     Rattle.agg_reading.specs.Request.search_value_at Rattle.agg_reading.specs.Request.search_of
     Rattle.agg_model.specs.declared.row.Children.TheViews.roll-Row Rattle.agg_model.specs.declared.row.Children.TheViews.roll-Children

@@ -8,6 +8,8 @@ use Rattle.agg_model.specs.declared.row.Scalar.TheVariants as scalar
 use Rattle.agg_model.specs.declared.aggregation.Agg.{roll-Agg}
 use Rattle.agg_model.specs.declared.aggregation.Kind.TheVariants as kind
 use Rattle.agg_model.specs.declared.aggregation.OrderBy.TheVariants as by
+use Rattle.agg_model.specs.declared.pipeline.PipeKind.TheVariants as pipe
+use Rattle.agg_model.specs.declared.pipeline.PipePath.TheVariants as path
 use Rattle.agg_reading.specs.Reading.{refuse}
 use Rattle.agg_reading.specs.DateHistogram.{calendar_period, fixed_period, zone_of}
 use Rattle.agg_reading.specs.Request.{search_of}
@@ -29,6 +31,7 @@ months_with_defaults : search_of fields (codes "{\"aggs\":{\"a\":{\"date_histogr
       aggs = roll-Agg (record { name = codes "a"; kind = kind.DateHistogram 0 Month (pos 0) 0 (record { min = None; max = None }) (record { min = None; max = None }) false (record { by = by.Key; descending = false } ∷ []) None; children = [] }) ∷ [];
       body_bytes = 75;
       partial = false;
+      pipes = [];
     })
 unfolding computing
 months_with_defaults = refl
@@ -44,9 +47,26 @@ twelve_hours_with_all_members : search_of fields (codes "{\"aggs\":{\"a\":{\"dat
       }) ∷ [];
       body_bytes = 270;
       partial = false;
+      pipes = [];
     })
 unfolding computing
 twelve_hours_with_all_members = refl
+
+-- a running sum and a cut below months, and the greatest month beside them
+pipelines_below_and_beside_months :
+    search_of fields (codes "{\"aggs\":{\"m\":{\"date_histogram\":{\"field\":\"d\",\"calendar_interval\":\"month\"},\"aggs\":{\"c\":{\"cumulative_sum\":{\"buckets_path\":\"_count\"}},\"z\":{\"bucket_sort\":{\"size\":3}}}},\"x\":{\"max_bucket\":{\"buckets_path\":\"m>_count\"}}}}")
+    ≡ Ok (record {
+      query = query.All;
+      aggs = roll-Agg (record { name = codes "m"; kind = kind.DateHistogram 0 Month (pos 0) 0 (record { min = None; max = None }) (record { min = None; max = None }) false (record { by = by.Key; descending = false } ∷ []) None; children = [] }) ∷ [];
+      body_bytes = 211;
+      partial = false;
+      pipes =
+          record { at = 0 ∷ []; name = codes "c"; kind = pipe.CumulativeSum path.Count }
+          ∷ record { at = 0 ∷ []; name = codes "z"; kind = pipe.BucketSort [] 0 (Some 3) }
+          ∷ record { at = []; name = codes "x"; kind = pipe.MaxBucket 0 path.Count } ∷ [];
+    })
+unfolding computing
+pipelines_below_and_beside_months = refl
 
 calendar_intervals :
     map calendar_period (codes "minute" ∷ codes "1m" ∷ codes "1h" ∷ codes "day" ∷ codes "1w" ∷ codes "1M" ∷ codes "1q" ∷ codes "year" ∷ codes "2d" ∷ codes "Month" ∷ [])

@@ -73,7 +73,7 @@ unfolding computing
 a_missing_text = refl
 
 a_bound_beyond_the_range_is_taken : search_of dated (codes "{\"query\":{\"range\":{\"d\":{\"gte\":\"2024\",\"lt\":253402214400000}}}}")
-    ≡ Ok (record { query = query.Range 0 (record { op = op.Gte; value = probe.Whole (pos 1704067200000) } ∷ record { op = op.Lt; value = probe.Whole (pos 253402214400000) } ∷ []); aggs = []; body_bytes = 61; partial = false })
+    ≡ Ok (record { query = query.Range 0 (record { op = op.Gte; value = probe.Whole (pos 1704067200000) } ∷ record { op = op.Lt; value = probe.Whole (pos 253402214400000) } ∷ []); aggs = []; body_bytes = 61; partial = false; pipes = [] })
 unfolding computing
 a_bound_beyond_the_range_is_taken = refl
 

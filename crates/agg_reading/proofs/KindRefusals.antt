@@ -52,7 +52,7 @@ a_missing kind at d = then _ _ (a_value kind at d) (λ p. found 104 at _ refl)
 
 -- orders
 
-a_direction : (at : List ℕ) (d : Data) → Refusing body_refusals (direction_at at d)
+pub a_direction : (at : List ℕ) (d : Data) → Refusing body_refusals (direction_at at d)
 unfolding direction_at
 a_direction at d = then _ _ (a_choice _ at d) (λ s. value _)
 

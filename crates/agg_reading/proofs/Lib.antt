@@ -14,6 +14,7 @@ mod Hashes
 mod Scripts
 mod Limits
 mod Edges
+mod PipelineBodies
 pub mod Steps
 pub mod PathOrder
 pub mod MappingLaws
@@ -23,6 +24,7 @@ pub mod ShardWeights
 pub mod Refusing
 pub mod QueryRefusals
 pub mod KindRefusals
+pub mod PipeRefusals
 pub mod BodyRefusals
 pub mod LineRefusals
 pub mod DocumentRefusals

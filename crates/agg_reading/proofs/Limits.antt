@@ -75,7 +75,7 @@ documents_that_weigh_2_to_the_32_are_28 what store heavy =
 
 -- Queries and aggregations.
 
-queries_nest_32_deep : search_of plain (codes "{\"query\":{\"bool\":{\"must\":{\"bool\":{\"must\":{\"bool\":{\"must\":{\"bool\":{\"must\":{\"bool\":{\"must\":{\"bool\":{\"must\":{\"bool\":{\"must\":{\"bool\":{\"must\":{\"bool\":{\"must\":{\"bool\":{\"must\":{\"bool\":{\"must\":{\"bool\":{\"must\":{\"bool\":{\"must\":{\"bool\":{\"must\":{\"bool\":{\"must\":{\"bool\":{\"must\":{\"bool\":{\"must\":{\"bool\":{\"must\":{\"bool\":{\"must\":{\"bool\":{\"must\":{\"bool\":{\"must\":{\"bool\":{\"must\":{\"bool\":{\"must\":{\"bool\":{\"must\":{\"bool\":{\"must\":{\"bool\":{\"must\":{\"bool\":{\"must\":{\"bool\":{\"must\":{\"bool\":{\"must\":{\"bool\":{\"must\":{\"bool\":{\"must\":{\"match_all\":{}}}}}}}}}}}}}}}}}}}}}}}}}}}}}}}}}}}}}}}}}}}}}}}}}}}}}}}}}}}}}}}}}") ≡ Ok (record { query = query.Bool ((query.Bool ((query.Bool ((query.Bool ((query.Bool ((query.Bool ((query.Bool ((query.Bool ((query.Bool ((query.Bool ((query.Bool ((query.Bool ((query.Bool ((query.Bool ((query.Bool ((query.Bool ((query.Bool ((query.Bool ((query.Bool ((query.Bool ((query.Bool ((query.Bool ((query.Bool ((query.Bool ((query.Bool ((query.Bool ((query.Bool ((query.Bool ((query.Bool ((query.Bool ((query.Bool (query.All ∷ []) [] [] 0) ∷ []) [] [] 0) ∷ []) [] [] 0) ∷ []) [] [] 0) ∷ []) [] [] 0) ∷ []) [] [] 0) ∷ []) [] [] 0) ∷ []) [] [] 0) ∷ []) [] [] 0) ∷ []) [] [] 0) ∷ []) [] [] 0) ∷ []) [] [] 0) ∷ []) [] [] 0) ∷ []) [] [] 0) ∷ []) [] [] 0) ∷ []) [] [] 0) ∷ []) [] [] 0) ∷ []) [] [] 0) ∷ []) [] [] 0) ∷ []) [] [] 0) ∷ []) [] [] 0) ∷ []) [] [] 0) ∷ []) [] [] 0) ∷ []) [] [] 0) ∷ []) [] [] 0) ∷ []) [] [] 0) ∷ []) [] [] 0) ∷ []) [] [] 0) ∷ []) [] [] 0) ∷ []) [] [] 0) ∷ []) [] [] 0; aggs = []; body_bytes = 584; partial = false })
+queries_nest_32_deep : search_of plain (codes "{\"query\":{\"bool\":{\"must\":{\"bool\":{\"must\":{\"bool\":{\"must\":{\"bool\":{\"must\":{\"bool\":{\"must\":{\"bool\":{\"must\":{\"bool\":{\"must\":{\"bool\":{\"must\":{\"bool\":{\"must\":{\"bool\":{\"must\":{\"bool\":{\"must\":{\"bool\":{\"must\":{\"bool\":{\"must\":{\"bool\":{\"must\":{\"bool\":{\"must\":{\"bool\":{\"must\":{\"bool\":{\"must\":{\"bool\":{\"must\":{\"bool\":{\"must\":{\"bool\":{\"must\":{\"bool\":{\"must\":{\"bool\":{\"must\":{\"bool\":{\"must\":{\"bool\":{\"must\":{\"bool\":{\"must\":{\"bool\":{\"must\":{\"bool\":{\"must\":{\"bool\":{\"must\":{\"bool\":{\"must\":{\"bool\":{\"must\":{\"bool\":{\"must\":{\"match_all\":{}}}}}}}}}}}}}}}}}}}}}}}}}}}}}}}}}}}}}}}}}}}}}}}}}}}}}}}}}}}}}}}}}") ≡ Ok (record { query = query.Bool ((query.Bool ((query.Bool ((query.Bool ((query.Bool ((query.Bool ((query.Bool ((query.Bool ((query.Bool ((query.Bool ((query.Bool ((query.Bool ((query.Bool ((query.Bool ((query.Bool ((query.Bool ((query.Bool ((query.Bool ((query.Bool ((query.Bool ((query.Bool ((query.Bool ((query.Bool ((query.Bool ((query.Bool ((query.Bool ((query.Bool ((query.Bool ((query.Bool ((query.Bool ((query.Bool (query.All ∷ []) [] [] 0) ∷ []) [] [] 0) ∷ []) [] [] 0) ∷ []) [] [] 0) ∷ []) [] [] 0) ∷ []) [] [] 0) ∷ []) [] [] 0) ∷ []) [] [] 0) ∷ []) [] [] 0) ∷ []) [] [] 0) ∷ []) [] [] 0) ∷ []) [] [] 0) ∷ []) [] [] 0) ∷ []) [] [] 0) ∷ []) [] [] 0) ∷ []) [] [] 0) ∷ []) [] [] 0) ∷ []) [] [] 0) ∷ []) [] [] 0) ∷ []) [] [] 0) ∷ []) [] [] 0) ∷ []) [] [] 0) ∷ []) [] [] 0) ∷ []) [] [] 0) ∷ []) [] [] 0) ∷ []) [] [] 0) ∷ []) [] [] 0) ∷ []) [] [] 0) ∷ []) [] [] 0) ∷ []) [] [] 0) ∷ []) [] [] 0; aggs = []; body_bytes = 584; partial = false; pipes = [] })
 unfolding computing
 queries_nest_32_deep = refl
 

@@ -28,4 +28,6 @@ pub mod Composite
 pub mod After
 pub mod Metrics
 pub mod Aggregations
+pub mod Pipelines
+pub mod PipePaths
 pub mod Request

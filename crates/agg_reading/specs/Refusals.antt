@@ -1,7 +1,7 @@
 -- The refusals that a reading may answer, by their numbers (Elasticsearch Reference 8, 'API conventions': errors).
 use Rattle.std.specs.Prelude.{ℕ, List, [], ◌∷◌, Bool, false, IfErr, IsTrue, ◌==◌}
 use Rattle.std.specs.List.{list_any}
-use Rattle.agg_model.specs.declared.body_refusal.TheConstants.{BODY_NOT_OBJECT, INVALID_NAME, LIMIT_EXCEEDED, MISPLACED_AGGREGATION, MISSING_MEMBER, NOT_ONE_MEMBER, NO_SUCH_CHILD, NO_SUCH_FIELD, NO_SUCH_PATH, OUT_OF_RANGE, UNKNOWN_KIND, UNKNOWN_MEMBER, UNKNOWN_QUERY, WRONG_TYPE}
+use Rattle.agg_model.specs.declared.body_refusal.TheConstants.{BODY_NOT_OBJECT, INVALID_NAME, LIMIT_EXCEEDED, MISPLACED_AGGREGATION, MISPLACED_PIPELINE, MISSING_MEMBER, NOT_ONE_MEMBER, NO_SUCH_CHILD, NO_SUCH_FIELD, NO_SUCH_PATH, NO_SUCH_PIPE_PATH, OUT_OF_RANGE, UNKNOWN_KIND, UNKNOWN_MEMBER, UNKNOWN_QUERY, WRONG_TYPE}
 use Rattle.agg_model.specs.declared.item_refusal.TheConstants.{INDEX_FULL, KEYWORD_TOO_LONG, NUMBER_OUT_OF_RANGE, SOURCE_NOT_OBJECT, STRICT_MAPPING, TOO_MANY_FIELD_VALUES, TOO_MANY_NESTED_OBJECTS, VERSION_CONFLICT, WRONG_FIELD_TYPE}
 use Rattle.agg_model.specs.declared.script_refusal.TheConstants.{BAD_INDEX_LINE, INPUT_TOO_LONG, LINE_TOO_LONG, MALFORMED_ACTION, MISSING_SECTION, MISSING_SOURCE, TOO_MANY_DOCUMENTS, UPDATE_NOT_SUPPORTED}
 use Rattle.agg_reading.specs.declared.fault.RequestFault.{RequestFault}
@@ -37,7 +37,8 @@ item_refusals = VERSION_CONFLICT ∷ INDEX_FULL ∷ document_refusals
 abbrev pub body_refusals : List ℕ
 body_refusals =
     BODY_NOT_OBJECT ∷ UNKNOWN_MEMBER ∷ MISSING_MEMBER ∷ WRONG_TYPE ∷ OUT_OF_RANGE ∷ UNKNOWN_QUERY ∷ UNKNOWN_KIND ∷ NOT_ONE_MEMBER
-    ∷ NO_SUCH_FIELD ∷ NO_SUCH_PATH ∷ MISPLACED_AGGREGATION ∷ LIMIT_EXCEEDED ∷ INVALID_NAME ∷ NO_SUCH_CHILD ∷ []
+    ∷ NO_SUCH_FIELD ∷ NO_SUCH_PATH ∷ MISPLACED_AGGREGATION ∷ LIMIT_EXCEEDED ∷ INVALID_NAME ∷ NO_SUCH_CHILD
+    ∷ NO_SUCH_PIPE_PATH ∷ MISPLACED_PIPELINE ∷ []
 
 -- of the first two sections of a script
 abbrev pub loading_refusals : List ℕ

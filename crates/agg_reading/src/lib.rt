@@ -6,9 +6,11 @@ mod fault;
 pub mod laws;
 mod names;
 mod parts;
+mod pipes;
 
 pub use fault::RequestFault;
-pub use names::{FieldType, KindName, QueryName, SourceName};
+pub use names::{FieldType, KindName, PipeName, QueryName, SourceName};
 pub use parts::{
     Counts, Draft, Found, FoundField, FoundPath, Heading, IndexLine, NamedOrder, ReadKind, Role,
 };
+pub use pipes::{FoundPipe, NamedPath, ReadItem, ReadPipe, ReadPipeKind, Siblings};

@@ -34,6 +34,17 @@ pub enum KindName {
     ValueCount,
 }
 
+/// The kinds of pipelines ('Pipeline aggregations').
+#[derive(Clone, Copy, Debug, PartialEq, Eq)]
+pub enum PipeName {
+    BucketSort,
+    CumulativeSum,
+    Derivative,
+    MaxBucket,
+    MinBucket,
+    SumBucket,
+}
+
 /// The kinds of sources ('Composite aggregation').
 #[derive(Clone, Copy, Debug, PartialEq, Eq)]
 pub enum SourceName {

@@ -1,1 +1,3 @@
+mod Assembled
+mod Items
 mod Levels

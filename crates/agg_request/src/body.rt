@@ -16,6 +16,7 @@ use agg_model::{Mapping, Query, Search};
 use agg_query::counted_query_at;
 use agg_reading::RequestFault;
 use json_walk::{At, check_names, json, member, object, truth_in};
+use request_pipes::{Around, fitted_pipes};
 use serde_json::{Map, Value};
 use std::alloc::Global;
 
@@ -50,7 +51,7 @@ fn search_in(
 ) -> Result<Search, RequestFault>
     ensures { Gives (λ s. s) result (search_in mapping.now body_bytes (members_view members.now.entries)) }
 {
-    let (aggs, counts) = aggregations_in(alloc, mapping, &At::Start(""), members)?;
+    let (found, counts) = aggregations_in(alloc, mapping, &At::Start(""), members)?;
     let partial = truth_in(
         alloc,
         "allow_partial_search_results",
@@ -58,11 +59,13 @@ fn search_in(
         members,
     )?;
     let query = query_or_all(alloc, mapping, counts.queries, members)?;
+    let pipes = fitted_pipes(alloc, Around::Other, found.aggs.as_slice(), &found.pipes)?;
     Ok(Search {
         query,
-        aggs,
+        aggs: found.aggs,
         body_bytes,
         partial: partial.unwrap_or(false),
+        pipes,
     })
 }
 
@@ -109,9 +112,9 @@ fn search_value(
     search_in(alloc, mapping, body_bytes, members)
 }
 
-/// The search that the bytes of a body are: `aggs` or `aggregations`, `allow_partial_search_results`, and `query`. Bytes that `serde_json` does not read
-/// are `NotJson`. Else the first thing in the walk that breaks a rule is refused with its number in
-/// `agg_model::body_refusal` and its pointer.
+/// The search that the bytes of a body are: `aggs` or `aggregations`, `allow_partial_search_results`, and `query`. Bytes
+/// that `serde_json` does not read are `NotJson`. Else the first thing in the walk that breaks a rule is refused with its
+/// number in `agg_model::body_refusal` and its pointer.
 #[tactic(auto, unfolding(agg_reading::specs::Request::search_of))]
 pub fn search_of(alloc: Global, body: &[u8], mapping: &Mapping) -> Result<Search, RequestFault>
     requires { IsOrdered mapping.now }

@@ -39,8 +39,10 @@ pub by_count : {name : List ℕ} {n m : ℕ} {a b : Written} → n ≡ m → Add
 by_count {name} e = as_tokens (ap (λ n. key name ∷ number (decimal n) ∷ []) e)
 
 path_or_none : (b : Bool) (n : ℕ) (path type : List ℕ)
-    → begin_object ∷ key (codes "number") ∷ number (decimal n) ∷ (member_tokens (if b then [] else (codes "path", value.string path) ∷ []) ++ key (codes "type") ∷ string type ∷ end_object ∷ [])
-    ≡ value_tokens (object_of ((codes "number", count n) ∷ ((if b then [] else (codes "path", value.string path) ∷ []) ++ (codes "type", value.string type) ∷ [])))
+    → begin_object ∷ key (codes "number") ∷ number (decimal n) ∷
+    (member_tokens (if b then [] else (codes "path", value.string path) ∷ []) ++ key (codes "type") ∷ string type ∷ end_object ∷ [])
+    ≡ value_tokens (object_of ((codes "number", count n) ∷
+    ((if b then [] else (codes "path", value.string path) ∷ []) ++ (codes "type", value.string type) ∷ [])))
 unfolding serde_json_on_literals
 path_or_none true n path type = refl
 path_or_none false n path type = refl
@@ -50,12 +52,14 @@ abbrev pub error_of : ItemRefusal → Data
 error_of r = object_of ((codes "number", count r.number) ∷ (refusal_path r ++ (codes "type", value.string (refusal_type r.number)) ∷ []))
 
 pub error_tokens : (r : ItemRefusal)
-    → begin_object ∷ key (codes "number") ∷ number (decimal r.number) ∷ (member_tokens (refusal_path r) ++ key (codes "type") ∷ string (refusal_type r.number) ∷ end_object ∷ []) ≡ value_tokens (error_of r)
+    → begin_object ∷ key (codes "number") ∷ number (decimal r.number) ∷
+    (member_tokens (refusal_path r) ++ key (codes "type") ∷ string (refusal_type r.number) ∷ end_object ∷ []) ≡ value_tokens (error_of r)
 error_tokens r = path_or_none _ r.number r.path (refusal_type r.number)
 
 -- an item
 pub item_tokens : (name id index : List ℕ) (e : ItemEnd)
-    → begin_object ∷ key name ∷ begin_object ∷ key (codes "_id") ∷ string id ∷ key (codes "_index") ∷ string index ∷ (member_tokens (end_members e) ++ end_object ∷ end_object ∷ [])
+    → begin_object ∷ key name ∷ begin_object ∷ key (codes "_id") ∷ string id ∷ key (codes "_index") ∷ string index ∷
+    (member_tokens (end_members e) ++ end_object ∷ end_object ∷ [])
     ≡ value_tokens (object_of ((name, object_of ((codes "_id", value.string id) ∷ (codes "_index", value.string index) ∷ end_members e)) ∷ []))
 unfolding serde_json_on_literals
 item_tokens name id index (end.Applied a) = refl
@@ -63,10 +67,12 @@ item_tokens name id index (end.Refused r) =
     let error = value_tokens (error_of r) in
     let status = number (decimal (refusal_status r.number)) in
     ap (λ ts. begin_object ∷ key name ∷ begin_object ∷ key (codes "_id") ∷ string id ∷ key (codes "_index") ∷ string index ∷ key (codes "error") ∷ ts)
-    (append_assoc error (key (codes "status") ∷ status ∷ []) (end_object ∷ end_object ∷ []) ∙ sym (append_assoc error (key (codes "status") ∷ status ∷ end_object ∷ []) (end_object ∷ [])))
+    (append_assoc error (key (codes "status") ∷ status ∷ []) (end_object ∷ end_object ∷ [])
+    ∙ sym (append_assoc error (key (codes "status") ∷ status ∷ end_object ∷ []) (end_object ∷ [])))
 
 pub line_tokens : (b : Bool) (ds : List Data)
-    → begin_object ∷ key (codes "errors") ∷ boolean b ∷ key (codes "items") ∷ begin_array ∷ (values_tokens ds ++ key (codes "took") ∷ number (decimal 0) ∷ end_object ∷ [])
+    → begin_object ∷ key (codes "errors") ∷ boolean b ∷ key (codes "items") ∷ begin_array ∷
+    (values_tokens ds ++ key (codes "took") ∷ number (decimal 0) ∷ end_object ∷ [])
     ≡ value_tokens (object_of ((codes "errors", value.boolean b) ∷ (codes "items", array_of ds) ∷ (codes "took", count 0) ∷ []))
 unfolding serde_json_on_literals
 line_tokens b ds = refl
@@ -77,9 +83,12 @@ none {a} = record { before = refl; tokens = sym (append-nil a.tokens) }
 
 -- the line with all the items
 abbrev pub listing : List ℕ → List Item → Data
-listing index items = object_of ((codes "errors", value.boolean (list_any (λ i. is_refusal i.end) items)) ∷ (codes "items", items_value index items false) ∷ (codes "took", count 0) ∷ [])
+listing index items = object_of ((codes "errors", value.boolean (list_any (λ i. is_refusal i.end) items)) ∷ (codes "items", items_value index items false) ∷
+    (codes "took", count 0) ∷ [])
 
 -- what a writer that stands at the beginning gives once it has written that
-pub listed_text : (index : List ℕ) (items : List Item) (a b : Written) → a.before ≡ [] → a.tokens ≡ [] → Adds a b (value_tokens (listing index items)) → b.before ++ print b.tokens ≡ bulk_line index items false
+pub listed_text : (index : List ℕ) (items : List Item) (a b : Written) → a.before ≡ [] → a.tokens ≡ [] → Adds a b (value_tokens (listing index items))
+    → b.before ++ print b.tokens ≡ bulk_line index items false
 listed_text index items a b none_before no_tokens w =
-    (λ i. (w.before ∙ none_before) i ++ print ((w.tokens ∙ ap (λ ts. ts ++ value_tokens (listing index items)) no_tokens) i)) ∙ print-outline (listing index items)
+    (λ i. (w.before ∙ none_before) i ++ print ((w.tokens ∙ ap (λ ts. ts ++ value_tokens (listing index items)) no_tokens) i))
+    ∙ print-outline (listing index items)

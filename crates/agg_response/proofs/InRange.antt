@@ -39,7 +39,8 @@ module _ (check : BucketAnswer → List (List ℕ)) where
   buckets_later b left rest e h = no_second (check b) (flat_map check rest) (sym (ap (flat_map check) e) ∙ h)
 
 module _ (a : Agg) (n : NodeAnswer) (h : checker a n ≡ []) where
-  inside : unless (sum_in_range (out-Agg a).kind (out-NodeAnswer n).metric.sum) [] ++ flat_map (check_bucket (map checker (out-Agg a).children)) (out-NodeAnswer n).buckets ≡ []
+  inside : unless (sum_in_range (out-Agg a).kind (out-NodeAnswer n).metric.sum) [] ++ flat_map (check_bucket (map checker (out-Agg a).children))
+      (out-NodeAnswer n).buckets ≡ []
   inside = no_mapped _ _ (sym (checker-level a n) ∙ h)
 
   pub sum_of_answer : sum_in_range (out-Agg a).kind (out-NodeAnswer n).metric.sum ≡ true
@@ -52,7 +53,8 @@ module _ (a : Agg) (n : NodeAnswer) (h : checker a n ≡ []) where
 abbrev pub pairs_check : List Agg → List NodeAnswer → List (List ℕ)
 pairs_check aggs nodes = check_each (map checker aggs) nodes
 
-module _ (a : Agg) (n : NodeAnswer) (aggs more_aggs : List Agg) (nodes more_nodes : List NodeAnswer) (p : aggs ≡ a ∷ more_aggs) (q : nodes ≡ n ∷ more_nodes) (h : pairs_check aggs nodes ≡ []) where
+module _ (a : Agg) (n : NodeAnswer) (aggs more_aggs : List Agg) (nodes more_nodes : List NodeAnswer) (p : aggs ≡ a ∷ more_aggs) (q : nodes ≡ n ∷ more_nodes)
+    (h : pairs_check aggs nodes ≡ []) where
   both : checker a n ++ pairs_check more_aggs more_nodes ≡ []
   both = sym (ap (λ xs. pairs_check xs nodes) p ∙ ap (λ ns. pairs_check (a ∷ more_aggs) ns) q) ∙ h
 
@@ -63,8 +65,10 @@ module _ (a : Agg) (n : NodeAnswer) (aggs more_aggs : List Agg) (nodes more_node
   answers_later = no_second (checker a n) (pairs_check more_aggs more_nodes) both
 
 -- each bucket's key is in range
-pub keys_of_buckets : (cs : List Checker) (bs : List BucketAnswer) → flat_map (check_bucket cs) bs ≡ [] → list_all (λ b. key_in_range (out-BucketAnswer b).key) bs ≡ true
+pub keys_of_buckets : (cs : List Checker) (bs : List BucketAnswer) → flat_map (check_bucket cs) bs ≡ []
+    → list_all (λ b. key_in_range (out-BucketAnswer b).key) bs ≡ true
 keys_of_buckets cs [] h = refl
 keys_of_buckets cs (b ∷ bs) h =
     let here : key_in_range (out-BucketAnswer b).key ≡ true = key_of_bucket cs b (no_first (check_bucket cs b) (flat_map (check_bucket cs) bs) h) in
-    ap (λ r. r && list_all (λ b. key_in_range (out-BucketAnswer b).key) bs) here ∙ keys_of_buckets cs bs (no_second (check_bucket cs b) (flat_map (check_bucket cs) bs) h)
+    ap (λ r. r && list_all (λ b. key_in_range (out-BucketAnswer b).key) bs) here
+    ∙ keys_of_buckets cs bs (no_second (check_bucket cs b) (flat_map (check_bucket cs) bs) h)

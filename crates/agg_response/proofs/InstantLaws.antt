@@ -32,19 +32,22 @@ abbrev hours_of : ℤ → List ℕ
 hours_of zone = hours_text (unsigned_abs zone / 60_000)
 
 pub behind_utc : (zone : ℤ) → zone <ℤ pos 0 → codes "-" ++ hours_of zone ≡ offset_text zone
-behind_utc zone h = ap (λ b. cond b (codes "-" ++ hours_of zone) (cond (int_lt (pos 0) zone) (codes "+" ++ hours_of zone) (codes "Z"))) (sym (lt-is zone (pos 0) h))
+behind_utc zone h = ap (λ b. cond b (codes "-" ++ hours_of zone) (cond (int_lt (pos 0) zone) (codes "+" ++ hours_of zone) (codes "Z")))
+    (sym (lt-is zone (pos 0) h))
 
 pub ahead_of_utc : (zone : ℤ) → pos 0 <ℤ zone → codes "+" ++ hours_of zone ≡ offset_text zone
 ahead_of_utc zone h =
     (λ i. cond (sym (lt-is (pos 0) zone h) i) (codes "+" ++ hours_of zone) (codes "Z"))
-    ∙ ap (λ b. cond b (codes "-" ++ hours_of zone) (cond (int_lt (pos 0) zone) (codes "+" ++ hours_of zone) (codes "Z"))) (sym (lt-not zone (pos 0) (not_below zone h)))
+    ∙ ap (λ b. cond b (codes "-" ++ hours_of zone) (cond (int_lt (pos 0) zone) (codes "+" ++ hours_of zone) (codes "Z")))
+    (sym (lt-not zone (pos 0) (not_below zone h)))
 
 -- what a clock of a zone shows, where it lies in the range of dates
 pub shown-in_range : (zone n : ℤ) → (LEAST_INSTANT -ℤ zone) ≤ℤ n → n ≤ℤ (GREATEST_INSTANT -ℤ zone) → is_in_range (n +ℤ zone) ≡ true
 shown-in_range zone n low high =
     let least : LEAST_INSTANT ≤ℤ (n +ℤ zone) = omega (arith, ints, low) in
     let greatest : (n +ℤ zone) ≤ℤ GREATEST_INSTANT = omega (arith, ints, high) in
-    and_from (int_le LEAST_INSTANT (n +ℤ zone)) (int_le (n +ℤ zone) GREATEST_INSTANT) (le-is LEAST_INSTANT (n +ℤ zone) least) (le-is (n +ℤ zone) GREATEST_INSTANT greatest)
+    and_from (int_le LEAST_INSTANT (n +ℤ zone)) (int_le (n +ℤ zone) GREATEST_INSTANT) (le-is LEAST_INSTANT (n +ℤ zone) least)
+    (le-is (n +ℤ zone) GREATEST_INSTANT greatest)
 
 pub shown : (zone n : ℤ) → is_in_range (n +ℤ zone) ≡ true → printed_with (offset_text zone) (n +ℤ zone) ≡ instant_text zone n
 shown zone n h = ap (λ b. cond b (printed_with (offset_text zone) (n +ℤ zone)) (signed_decimal n)) (sym h)
@@ -53,11 +56,13 @@ shown zone n h = ap (λ b. cond b (printed_with (offset_text zone) (n +ℤ zone)
 pub before_range : (zone n : ℤ) → n <ℤ (LEAST_INSTANT -ℤ zone) → signed_decimal n ≡ instant_text zone n
 before_range zone n h =
     let below : (n +ℤ zone) <ℤ LEAST_INSTANT = omega (arith, ints, h) in
-    ap (λ b. cond (b && int_le (n +ℤ zone) GREATEST_INSTANT) (printed_with (offset_text zone) (n +ℤ zone)) (signed_decimal n)) (sym (le-not LEAST_INSTANT (n +ℤ zone) below))
+    ap (λ b. cond (b && int_le (n +ℤ zone) GREATEST_INSTANT) (printed_with (offset_text zone) (n +ℤ zone)) (signed_decimal n))
+    (sym (le-not LEAST_INSTANT (n +ℤ zone) below))
 
 pub behind_range : (zone n : ℤ) → (LEAST_INSTANT -ℤ zone) ≤ℤ n → (GREATEST_INSTANT -ℤ zone) <ℤ n → signed_decimal n ≡ instant_text zone n
 behind_range zone n low h =
     let least : LEAST_INSTANT ≤ℤ (n +ℤ zone) = omega (arith, ints, low) in
     let above : GREATEST_INSTANT <ℤ (n +ℤ zone) = omega (arith, ints, h) in
     (λ i. cond (sym (le-not (n +ℤ zone) GREATEST_INSTANT above) i) (printed_with (offset_text zone) (n +ℤ zone)) (signed_decimal n))
-    ∙ ap (λ b. cond (b && int_le (n +ℤ zone) GREATEST_INSTANT) (printed_with (offset_text zone) (n +ℤ zone)) (signed_decimal n)) (sym (le-is LEAST_INSTANT (n +ℤ zone) least))
+    ∙ ap (λ b. cond (b && int_le (n +ℤ zone) GREATEST_INSTANT) (printed_with (offset_text zone) (n +ℤ zone)) (signed_decimal n))
+    (sym (le-is LEAST_INSTANT (n +ℤ zone) least))

@@ -8,4 +8,6 @@ pub mod PutLaws
 pub mod SixDigits
 pub mod LastItem
 pub mod Sizes
+pub mod NotedLaws
+pub mod PartLaws
 pub mod InstantLaws

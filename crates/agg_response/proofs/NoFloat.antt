@@ -21,15 +21,18 @@ second true true p = p
 second true false p = refl
 second false b p = p
 
-pub members_have_float-put : (k : List ℕ) (d : Data) (ms : Members) → has_float d ≡ false → members_have_float ms ≡ false → members_have_float (with_member k d ms) ≡ false
+pub members_have_float-put : (k : List ℕ) (d : Data) (ms : Members) → has_float d ≡ false → members_have_float ms ≡ false
+    → members_have_float (with_member k d ms) ≡ false
 members_have_float-put k d no_members p q = either _ _ p refl
 members_have_float-put k d (member l e ms) p q =
-    elim (slice_cmp nat_cmp k l) as (λ r. members_have_float (match_ordering r (member k d (member l e ms)) (member l d ms) (member l e (with_member k d ms))) ≡ false) [
+    elim (slice_cmp nat_cmp k l) as (λ r. members_have_float (match_ordering r (member k d (member l e ms)) (member l d ms) (member l e (with_member k d ms)))
+    ≡ false) [
       | Less ↦ either _ _ p q
       | Equal ↦ either _ _ p (second _ _ q)
       | Greater ↦ either _ _ (first _ _ q) (members_have_float-put k d ms p (second _ _ q))
     ]
 
-pub items_have_float-append : (ds : List Data) (d : Data) → items_have_float (items_of ds) ≡ false → has_float d ≡ false → items_have_float (items_of (ds ++ d ∷ [])) ≡ false
+pub items_have_float-append : (ds : List Data) (d : Data) → items_have_float (items_of ds) ≡ false → has_float d ≡ false
+    → items_have_float (items_of (ds ++ d ∷ [])) ≡ false
 items_have_float-append [] d p q = either _ _ q refl
 items_have_float-append (e ∷ ds) d p q = either _ _ (first _ _ p) (items_have_float-append ds d (second (has_float e) _ p) q)

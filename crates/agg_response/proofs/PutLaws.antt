@@ -3,11 +3,11 @@ use Rattle.std.specs.Prelude.{◌≡◌, refl, ℕ, ◌+◌, ◌-◌, List, [], 
 use Rattle.std.proofs.Common.{◌∙◌, ap, sym, drop, append_assoc}
 use Rattle.serde_json.specs.Data.{Data, Members, object, no_members}
 use Rattle.serde_json.specs.Data.{put as with_member}
-use Rattle.agg_model.specs.declared.answer.BucketAnswer.{BucketAnswer, out-BucketAnswer}
+use Rattle.agg_model.specs.declared.answer.BucketAnswer.{out-BucketAnswer}
 use Rattle.agg_model.specs.declared.answer.NodeAnswer.{NodeAnswer, out-NodeAnswer}
 use Rattle.agg_model.specs.declared.aggregation.Agg.{Agg}
 use Rattle.agg_model.specs.declared.mapping.Mapping.{Mapping}
-use Rattle.agg_spec.specs.AnswerTree.{Printer, printer, named_answers, bucket_members}
+use Rattle.agg_spec.specs.AnswerTree.{NotedBucket, ZonedNote, Printer, printer, named_answers, notes_within, object_members, bucket_members}
 use Rattle.agg_model.specs.declared.outcome.Failure.{Failure}
 use Rattle.agg_spec.specs.ErrorLines.{failures_member}
 use Rattle.agg_spec.specs.Response.{shards_member}
@@ -30,15 +30,19 @@ shards_told failures shards total failed counted told skipped answered all shown
     (k ∙ ap (with_member (codes "skipped") (count 0)) (t ∙ ap (with_members (failures_member failures)) c))) in
     o ∙ ap object (made
     ∙ ap (λ n. with_members (behind n total) (with_members (failures_member failures) (with_member (codes "failed") (count n) no_members))) f
-    ∙ ap (λ m. with_members (behind (length failures) m) (with_members (failures_member failures) (with_member (codes "failed") (count (length failures)) no_members))) s
-    ∙ sym (with_members-append (failures_member failures) (behind (length failures) shards) (with_member (codes "failed") (count (length failures)) no_members)))
+    ∙ ap (λ m. with_members (behind (length failures) m)
+    (with_members (failures_member failures) (with_member (codes "failed") (count (length failures)) no_members))) s
+    ∙ sym (with_members-append (failures_member failures) (behind (length failures) shards)
+    (with_member (codes "failed") (count (length failures)) no_members)))
 
 -- a bucket's own members and then the answers below it are all its members
-pub bucket_made : (children : List Printer) (own : List Member) (b : BucketAnswer) (ms : Members)
-    → with_members (named_answers children (out-BucketAnswer b).children) (with_members ((codes "doc_count", count (out-BucketAnswer b).count) ∷ own) ms)
+pub bucket_made : (children : List Printer) (own : List Member) (b : NotedBucket) (ms : Members)
+    → with_members (object_members children b.notes (out-BucketAnswer b.bucket).children)
+    (with_members ((codes "doc_count", count (out-BucketAnswer b.bucket).count) ∷ own) ms)
     ≡ with_members (bucket_members children own b) ms
 bucket_made children own b ms =
-    sym (with_members-append own (named_answers children (out-BucketAnswer b).children) (with_member (codes "doc_count") (count (out-BucketAnswer b).count) ms))
+    sym (with_members-append own (object_members children b.notes (out-BucketAnswer b.bucket).children)
+    (with_member (codes "doc_count") (count (out-BucketAnswer b.bucket).count) ms))
 
 put_as : (name name' : List ℕ) (d d' : Data) (old new : Members) → name ≡ name' → d ≡ d' → new ≡ with_member name d old → new ≡ with_member name' d' old
 put_as name name' d d' old new n v put = put ∙ ap (λ m. with_member m d old) n ∙ ap (λ e. with_member name' e old) v
@@ -64,15 +68,19 @@ module _ {X : Type 0} (f : X → Data) where
       ap (λ zs. zs ++ map f (drop (i + 1) xs)) push ∙ append_assoc old (d ∷ []) (map f (drop (i + 1) xs))
       ∙ ap (λ e. old ++ e ∷ map f (drop (i + 1) xs)) v ∙ sym (ap (λ zs. old ++ map f zs) p)
 
-abbrev pub answers_put : Mapping → List Agg → List NodeAnswer → Members → Members
-answers_put m aggs nodes ms = with_members (named_answers (map (printer m) aggs) nodes) ms
+-- the answers from a place on
+abbrev pub answers_put : Mapping → ℕ → List ZonedNote → List Agg → List NodeAnswer → Members → Members
+answers_put m i notes aggs nodes ms = with_members (named_answers i (map (printer m) aggs) notes nodes) ms
 
-pub answers_here : (m : Mapping) (aggs : List Agg) (nodes : List NodeAnswer) (i : ℕ) (a : Agg) (n : NodeAnswer) (name : List ℕ) (d : Data) (old new : Members)
-    → drop i aggs ≡ a ∷ drop (i + 1) aggs → drop i nodes ≡ n ∷ drop (i + 1) nodes → name ≡ (out-NodeAnswer n).name → d ≡ printer m a n → new ≡ with_member name d old
-    → answers_put m (drop (i + 1) aggs) (drop (i + 1) nodes) new ≡ answers_put m (drop i aggs) (drop i nodes) old
-answers_here m aggs nodes i a n name d old new p q named v put =
-    ap (answers_put m (drop (i + 1) aggs) (drop (i + 1) nodes)) (put_as name _ d _ old new named v put)
-    ∙ sym (ap (λ zs. answers_put m zs (drop i nodes) old) p ∙ ap (λ zs. answers_put m (a ∷ drop (i + 1) aggs) zs old) q)
+pub answers_here : (m : Mapping) (notes : List ZonedNote) (aggs : List Agg) (nodes : List NodeAnswer) (i : ℕ) (a : Agg) (n : NodeAnswer) (name : List ℕ)
+    (d : Data) (old new : Members)
+    → drop i aggs ≡ a ∷ drop (i + 1) aggs → drop i nodes ≡ n ∷ drop (i + 1) nodes → name ≡ (out-NodeAnswer n).name → d ≡ printer m a (notes_within i notes) n
+    → new ≡ with_member name d old
+    → answers_put m (i + 1) notes (drop (i + 1) aggs) (drop (i + 1) nodes) new ≡ answers_put m i notes (drop i aggs) (drop i nodes) old
+answers_here m notes aggs nodes i a n name d old new p q named v put =
+    ap (answers_put m (i + 1) notes (drop (i + 1) aggs) (drop (i + 1) nodes)) (put_as name _ d _ old new named v put)
+    ∙ sym (ap (λ zs. answers_put m i notes zs (drop i nodes) old) p ∙ ap (λ zs. answers_put m i notes (a ∷ drop (i + 1) aggs) zs old) q)
 
-pub answers_end : (m : Mapping) (a : Agg) (aggs more : List Agg) (nodes : List NodeAnswer) (ms : Members) → aggs ≡ a ∷ more → nodes ≡ [] → answers_put m aggs nodes ms ≡ ms
-answers_end m a aggs more nodes ms p q = ap (λ zs. answers_put m zs nodes ms) p ∙ ap (λ zs. answers_put m (a ∷ more) zs ms) q
+pub answers_end : (m : Mapping) (i : ℕ) (notes : List ZonedNote) (a : Agg) (aggs more : List Agg) (nodes : List NodeAnswer) (ms : Members) → aggs ≡ a ∷ more
+    → nodes ≡ [] → answers_put m i notes aggs nodes ms ≡ ms
+answers_end m i notes a aggs more nodes ms p q = ap (λ zs. answers_put m i notes zs nodes ms) p ∙ ap (λ zs. answers_put m i notes (a ∷ more) zs ms) q

@@ -1,2 +1,4 @@
 pub mod Buckets
 pub mod Tokens
+pub mod Seen
+pub mod NoteZones

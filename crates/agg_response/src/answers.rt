@@ -9,9 +9,11 @@ ghost use Rattle.agg_spec.specs.Average.{average};
 ghost use Rattle.agg_spec.specs.Json.{with_members, object_of, array_of, count, whole_number};
 ghost use Rattle.agg_spec.specs.RangeCheck.{checker, check_each, check_bucket, is_in_range, key_in_range};
 ghost use Rattle.agg_response.specs.Buckets.{bucket_tree, histogram_buckets, own_members};
+ghost use Rattle.agg_response.specs.Seen.{seen_notes};
 
 use crate::buckets::with_bucket;
 use crate::keys::{composite_value, key_name};
+use crate::notes::{Seen, part, with_notes};
 use crate::numbers::{average_value, integer_value, optional_value, wide_value};
 use crate::values::{Array, Json, Object, count_value};
 use agg_model::{
@@ -118,31 +120,36 @@ fn name_at<'a>(names: &'a List<Text>, other: &'a Option<Text>, place: usize) -> 
     }
 }
 
-/// The object with the answers to these aggregations, each under its name; there may be fewer answers than aggregations.
+/// The object with the answers to these aggregations and the notes in it, each under its name; there may be fewer answers
+/// than aggregations.
 #[cycle(answers)]
 pub(crate) fn with_answers(
     alloc: Global,
     mapping: &Mapping,
     nodes: &List<NodeAnswer>,
     aggs: &List<Agg>,
+    seen: &Seen<'_>,
     object: Object,
 ) -> Result<Object, AllocError>
     requires { check_each (map checker aggs.now) nodes.now ≡ [] }
     ensures { IfOk result (λ o. members_view o.members.entries
-        ≡ with_members (tree.named_answers (map (tree.printer mapping.now) aggs.now) nodes.now) (members_view object.members.entries)) }
+        ≡ with_members (tree.object_members (map (tree.printer mapping.now) aggs.now) (seen_notes seen.now) nodes.now) (members_view object.members.entries)) }
 {
+    let none = Seen::none(alloc);
+    let parts = seen.parts(alloc, nodes.len())?;
     let mut object = object;
     for (place, agg) in aggs.as_slice().iter().enumerate() {
         let Some(node) = nodes.get(place) else {
-            return Ok(object);
+            return with_notes(alloc, seen, object);
         };
+        let inner = part(parts.as_slice(), place, &none);
         object = object.with(
             alloc,
             node.name.as_str(),
-            answer_value(alloc, mapping, node, agg)?,
+            answer_value(alloc, mapping, node, agg, inner)?,
         )?;
     }
-    Ok(object)
+    with_notes(alloc, seen, object)
 }
 
 /// A bucket with the answers below it.
@@ -153,12 +160,14 @@ fn bucket_value(
     bucket: &BucketAnswer,
     kind: &Kind,
     children: &List<Agg>,
+    seen: &Seen<'_>,
 ) -> Result<Json, AllocError>
     requires { check_bucket (map checker children.now) bucket.now ≡ [] }
-    ensures { IfOk result (λ j. view j.value ≡ bucket_tree mapping.now kind.now (map (tree.printer mapping.now) children.now) bucket.now) }
+    ensures { IfOk result (λ j. view j.value
+        ≡ bucket_tree mapping.now kind.now (map (tree.printer mapping.now) children.now) (record { bucket = bucket.now; notes = seen_notes seen.now })) }
 {
     let object = with_bucket(alloc, mapping, Object::new(alloc), kind, bucket)?;
-    Ok(with_answers(alloc, mapping, &bucket.children, children, object)?.into_json())
+    Ok(with_answers(alloc, mapping, &bucket.children, children, seen, object)?.into_json())
 }
 
 /// Buckets as a list.
@@ -169,14 +178,19 @@ fn bucket_list(
     buckets: &List<BucketAnswer>,
     kind: &Kind,
     children: &List<Agg>,
+    seen: &Seen<'_>,
 ) -> Result<Json, AllocError>
     requires { flat_map (check_bucket (map checker children.now)) buckets.now ≡ [] }
     ensures { IfOk result (λ j. view j.value
-        ≡ array_of (map (bucket_tree mapping.now kind.now (map (tree.printer mapping.now) children.now)) buckets.now)) }
+        ≡ array_of (map (bucket_tree mapping.now kind.now (map (tree.printer mapping.now) children.now))
+        (tree.noted_buckets (seen_notes seen.now) buckets.now))) }
 {
+    let none = Seen::none(alloc);
+    let parts = seen.parts(alloc, buckets.len())?;
     let mut values = Array::new(alloc);
-    for bucket in buckets.as_slice() {
-        values = values.with(bucket_value(alloc, mapping, bucket, kind, children)?)?;
+    for (place, bucket) in buckets.as_slice().iter().enumerate() {
+        let inner = part(parts.as_slice(), place, &none);
+        values = values.with(bucket_value(alloc, mapping, bucket, kind, children, inner)?)?;
     }
     Ok(values.into_json())
 }
@@ -190,20 +204,24 @@ fn keyed_buckets(
     buckets: &List<BucketAnswer>,
     kind: &Kind,
     children: &List<Agg>,
+    seen: &Seen<'_>,
 ) -> Result<Json, AllocError>
     requires { flat_map (check_bucket (map checker children.now)) buckets.now ≡ [] }
     ensures { IfOk result (λ j. view j.value ≡ object_of (map (λ b. (
-      tree.key_name zone (out-BucketAnswer b).key,
+      tree.key_name zone (out-BucketAnswer b.bucket).key,
       bucket_tree mapping.now kind.now (map (tree.printer mapping.now) children.now) b,
-    )) buckets.now)) }
+    )) (tree.noted_buckets (seen_notes seen.now) buckets.now))) }
 {
+    let none = Seen::none(alloc);
+    let parts = seen.parts(alloc, buckets.len())?;
     let mut object = Object::new(alloc);
-    for bucket in buckets.as_slice() {
+    for (place, bucket) in buckets.as_slice().iter().enumerate() {
+        let inner = part(parts.as_slice(), place, &none);
         let name = key_name(alloc, zone, &bucket.key)?;
         object = object.with(
             alloc,
             name.as_str(),
-            bucket_value(alloc, mapping, bucket, kind, children)?,
+            bucket_value(alloc, mapping, bucket, kind, children, inner)?,
         )?;
     }
     Ok(object.into_json())
@@ -219,18 +237,19 @@ fn histogram_value(
     buckets: &List<BucketAnswer>,
     kind: &Kind,
     children: &List<Agg>,
+    seen: &Seen<'_>,
 ) -> Result<Json, AllocError>
     requires { flat_map (check_bucket (map checker children.now)) buckets.now ≡ [] }
     ensures { IfOk result (λ j. view j.value ≡ object_of ((
       codes "buckets",
-      histogram_buckets mapping.now kind.now (map (tree.printer mapping.now) children.now) zone keyed buckets.now,
+      histogram_buckets mapping.now kind.now (map (tree.printer mapping.now) children.now) zone keyed (tree.noted_buckets (seen_notes seen.now) buckets.now),
     ) ∷ [])) }
 {
     if keyed {
-        let named = keyed_buckets(alloc, mapping, zone, buckets, kind, children)?;
+        let named = keyed_buckets(alloc, mapping, zone, buckets, kind, children, seen)?;
         return only(alloc, "buckets", named);
     }
-    let listed = bucket_list(alloc, mapping, buckets, kind, children)?;
+    let listed = bucket_list(alloc, mapping, buckets, kind, children, seen)?;
     only(alloc, "buckets", listed)
 }
 
@@ -244,22 +263,26 @@ fn named_buckets(
     other: &Option<Text>,
     kind: &Kind,
     children: &List<Agg>,
+    seen: &Seen<'_>,
 ) -> Result<Json, AllocError>
     requires { flat_map (check_bucket (map checker children.now)) buckets.now ≡ [] }
     ensures { IfOk result (λ j. view j.value ≡ object_of (map (λ b. (
       b.0,
       bucket_tree mapping.now kind.now (map (tree.printer mapping.now) children.now) b.1,
-    )) (zip (names.now ++ option_to_list other.now) buckets.now))) }
+    )) (zip (names.now ++ option_to_list other.now) (tree.noted_buckets (seen_notes seen.now) buckets.now)))) }
 {
+    let none = Seen::none(alloc);
+    let parts = seen.parts(alloc, buckets.len())?;
     let mut object = Object::new(alloc);
     for (place, bucket) in buckets.as_slice().iter().enumerate() {
+        let inner = part(parts.as_slice(), place, &none);
         let Some(name) = name_at(names, other, place) else {
             return Ok(object.into_json());
         };
         object = object.with(
             alloc,
             name.as_str(),
-            bucket_value(alloc, mapping, bucket, kind, children)?,
+            bucket_value(alloc, mapping, bucket, kind, children, inner)?,
         )?;
     }
     Ok(object.into_json())
@@ -273,33 +296,46 @@ fn single_bucket(
     buckets: &List<BucketAnswer>,
     kind: &Kind,
     children: &List<Agg>,
+    seen: &Seen<'_>,
 ) -> Result<Json, AllocError>
     requires { flat_map (check_bucket (map checker children.now)) buckets.now ≡ [] }
     ensures { IfOk result (λ j. view j.value ≡ object_of (flat_map (λ b.
-        tree.bucket_members (map (tree.printer mapping.now) children.now) (own_members mapping.now kind.now b) b) buckets.now)) }
+        tree.bucket_members (map (tree.printer mapping.now) children.now) (own_members mapping.now kind.now b.bucket) b)
+        (tree.noted_buckets (seen_notes seen.now) buckets.now))) }
 {
+    let none = Seen::none(alloc);
+    let parts = seen.parts(alloc, buckets.len())?;
     let mut object = Object::new(alloc);
-    for bucket in buckets.as_slice() {
+    for (place, bucket) in buckets.as_slice().iter().enumerate() {
+        let inner = part(parts.as_slice(), place, &none);
         object = with_bucket(alloc, mapping, object, kind, bucket)?;
-        object = with_answers(alloc, mapping, &bucket.children, children, object)?;
+        object = with_answers(alloc, mapping, &bucket.children, children, inner, object)?;
     }
     Ok(object.into_json())
 }
 
-/// The answer to one aggregation.
+/// The answer to one aggregation, with the notes below it.
 #[cycle(answers)]
 fn answer_value(
     alloc: Global,
     mapping: &Mapping,
     node: &NodeAnswer,
     agg: &Agg,
+    seen: &Seen<'_>,
 ) -> Result<Json, AllocError>
     requires { checker agg.now node.now ≡ [] }
-    ensures { IfOk result (λ j. view j.value ≡ tree.printer mapping.now agg.now node.now) }
+    ensures { IfOk result (λ j. view j.value ≡ tree.printer mapping.now agg.now (seen_notes seen.now) node.now) }
 {
     match &agg.kind {
         Kind::Terms { .. } => {
-            let buckets = bucket_list(alloc, mapping, &node.buckets, &agg.kind, &agg.children)?;
+            let buckets = bucket_list(
+                alloc,
+                mapping,
+                &node.buckets,
+                &agg.kind,
+                &agg.children,
+                seen,
+            )?;
             terms_object(alloc, node, buckets)
         }
         Kind::Histogram { keyed, .. } => histogram_value(
@@ -310,6 +346,7 @@ fn answer_value(
             &node.buckets,
             &agg.kind,
             &agg.children,
+            seen,
         ),
         Kind::DateHistogram { zone, keyed, .. } => histogram_value(
             alloc,
@@ -319,6 +356,7 @@ fn answer_value(
             &node.buckets,
             &agg.kind,
             &agg.children,
+            seen,
         ),
         Kind::Filters { names, other, .. } => {
             let Some(names) = names else {
@@ -328,6 +366,7 @@ fn answer_value(
                     &node.buckets,
                     &agg.kind,
                     &agg.children,
+                    seen,
                 )?;
                 return only(alloc, "buckets", anonymous);
             };
@@ -339,11 +378,19 @@ fn answer_value(
                 other,
                 &agg.kind,
                 &agg.children,
+                seen,
             )?;
             only(alloc, "buckets", filtered)
         }
         Kind::Composite { sources, .. } => {
-            let page = bucket_list(alloc, mapping, &node.buckets, &agg.kind, &agg.children)?;
+            let page = bucket_list(
+                alloc,
+                mapping,
+                &node.buckets,
+                &agg.kind,
+                &agg.children,
+                seen,
+            )?;
             composite_object(alloc, sources, &node.buckets, page)
         }
         Kind::Sum { .. } => sum_object(alloc, node.metric),
@@ -351,18 +398,47 @@ fn answer_value(
         Kind::Max { .. } => only(alloc, "value", optional_value(node.metric.greatest)),
         Kind::Avg { .. } => average_object(alloc, node.metric),
         Kind::ValueCount { .. } => only(alloc, "value", count_value(node.metric.count)),
-        Kind::Filter { .. } => {
-            single_bucket(alloc, mapping, &node.buckets, &agg.kind, &agg.children)
-        }
-        Kind::Missing { .. } => {
-            single_bucket(alloc, mapping, &node.buckets, &agg.kind, &agg.children)
-        }
-        Kind::Global => single_bucket(alloc, mapping, &node.buckets, &agg.kind, &agg.children),
-        Kind::Nested { .. } => {
-            single_bucket(alloc, mapping, &node.buckets, &agg.kind, &agg.children)
-        }
+        Kind::Filter { .. } => single_bucket(
+            alloc,
+            mapping,
+            &node.buckets,
+            &agg.kind,
+            &agg.children,
+            seen,
+        ),
+        Kind::Missing { .. } => single_bucket(
+            alloc,
+            mapping,
+            &node.buckets,
+            &agg.kind,
+            &agg.children,
+            seen,
+        ),
+        Kind::Global => single_bucket(
+            alloc,
+            mapping,
+            &node.buckets,
+            &agg.kind,
+            &agg.children,
+            seen,
+        ),
+        Kind::Nested { .. } => single_bucket(
+            alloc,
+            mapping,
+            &node.buckets,
+            &agg.kind,
+            &agg.children,
+            seen,
+        ),
         Kind::ReverseNested { .. } => {
-            single_bucket(alloc, mapping, &node.buckets, &agg.kind, &agg.children)
+            single_bucket(
+                alloc,
+                mapping,
+                &node.buckets,
+                &agg.kind,
+                &agg.children,
+                seen,
+            )
         }
     }
 }

@@ -99,6 +99,18 @@ pub(crate) fn key_name(alloc: Global, zone: Option<i64>, key: &Key) -> Result<St
     }
 }
 
+/// The text of a key, of a number its decimal text or where there is a zone that of an instant; empty for a key that is no value.
+pub(crate) fn key_text(alloc: Global, zone: Option<i64>, key: &Key) -> Result<String, AllocError>
+    ensures { IfOk result (λ s. string_bytes s ≡ tree.key_text zone key.now) }
+{
+    match key {
+        Key::Whole(n) => number_name(alloc, zone, *n),
+        Key::Flag(flag) => String::from_str(alloc, flag_text(*flag)),
+        Key::Word(word) => String::from_str(alloc, word.as_str()),
+        Key::Null | Key::Fixed(_) | Key::Many(_) => Ok(String::new(alloc)),
+    }
+}
+
 /// One part of a composite key.
 fn part_value(alloc: Global, key: &Key) -> Result<Json, AllocError>
     requires { IsTrue (key_in_range key.now) }

@@ -9,6 +9,8 @@ mod bulk;
 mod errors;
 mod instants;
 mod keys;
+mod note_zones;
+mod notes;
 mod numbers;
 mod search_line;
 mod settings;

@@ -4,14 +4,16 @@ ghost use Rattle.serde_json.specs.Data.{object, boolean};
 ghost use Rattle.serde_json.specs.View.{view, members_view};
 ghost use Rattle.serde_json.specs.Written.{compact_text};
 ghost use Rattle.agg_spec.specs.Json.{with_members, count};
+ghost use Rattle.agg_spec.specs.NoteZones.{zoned_notes};
 ghost use Rattle.agg_spec.specs.RangeCheck.{out_of_range};
 ghost use Rattle.agg_spec.specs.Response as definition;
 
 use crate::answers::with_answers;
 use crate::errors::with_failures;
+use crate::notes::Seen;
 use crate::numbers::null_value;
 use crate::values::{Array, Json, Object, flag_value, text_value};
-use agg_model::{Answer, Failure, List, Mapping, Search, Text};
+use agg_model::{Failure, List, Mapping, Piped, Search, Text};
 use std::alloc::{AllocError, Global};
 
 /// How many shards there are, and how many answered; the others failed.
@@ -47,23 +49,32 @@ fn hits_value(alloc: Global, hits: u64) -> Result<Json, AllocError>
     )
 }
 
-/// The object with the answers to the aggregations, where the search has one.
+/// The object with the answers to the aggregations and what the pipelines say, where the search has an aggregation.
 fn with_aggregations(
     alloc: Global,
     object: Object,
     search: &Search,
     mapping: &Mapping,
-    answer: &Answer,
+    piped: &Piped,
 ) -> Result<Object, AllocError>
-    requires { out_of_range search.now answer.now ≡ None }
+    requires { out_of_range search.now piped.now.answer ≡ None }
     ensures { IfOk result (λ o. members_view o.members.entries
-        ≡ with_members (definition.aggregations mapping.now search.now.aggs answer.now.nodes) (members_view object.members.entries)) }
+        ≡ with_members
+        (definition.aggregations mapping.now search.now.aggs (zoned_notes search.now mapping.now piped.now.notes) piped.now.answer.nodes)
+        (members_view object.members.entries)) }
 {
     if search.aggs.is_empty() {
         return Ok(object);
     }
-    let empty = Object::new(alloc);
-    let answers = with_answers(alloc, mapping, &answer.nodes, &search.aggs, empty)?;
+    let seen = Seen::all(alloc, search, mapping, &piped.notes)?;
+    let answers = with_answers(
+        alloc,
+        mapping,
+        &piped.answer.nodes,
+        &search.aggs,
+        &seen,
+        Object::new(alloc),
+    )?;
     object.with(alloc, "aggregations", answers.into_json())
 }
 
@@ -82,23 +93,23 @@ fn finished(alloc: Global, members: Object, hits: Json) -> Result<Text, AllocErr
         .text(alloc)
 }
 
-/// The line of the final answer to a search of an index with this mapping and so many shards, of which some failed. Only
-/// numbers of 64 bits can be printed, so an answer with a wider sum or key is refused before.
+/// The line of the final answer to a search, with what its pipelines say, of an index with this mapping and so many shards, of
+/// which some failed. Only numbers of 64 bits can be printed, so an answer with a wider sum or key is refused before.
 pub fn response(
     alloc: Global,
     search: &Search,
     mapping: &Mapping,
-    answer: &Answer,
+    piped: &Piped,
     shards: u32,
     failures: &List<Failure>,
 ) -> Result<Text, AllocError>
-    requires in_range { out_of_range search.now answer.now ≡ None }
+    requires in_range { out_of_range search.now piped.now.answer ≡ None }
     requires few { length failures.now ≤ shards }
-    ensures { IfOk result (λ t. t ≡ definition.response_line search.now mapping.now answer.now shards failures.now) }
+    ensures { IfOk result (λ t. t ≡ definition.response_line search.now mapping.now piped.now shards failures.now) }
 {
     let told = shards_value(alloc, shards, failures)?;
     let opened = Object::new(alloc).with(alloc, "_shards", told)?;
-    let answered = with_aggregations(alloc, opened, search, mapping, answer)?;
-    let hits = hits_value(alloc, answer.hits)?;
+    let answered = with_aggregations(alloc, opened, search, mapping, piped)?;
+    let hits = hits_value(alloc, piped.answer.hits)?;
     finished(alloc, answered, hits)
 }

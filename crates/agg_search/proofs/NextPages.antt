@@ -14,7 +14,7 @@ use Rattle.agg_spec.specs.Pages.{is_paged, last_key, next_page, next_search, req
 use Rattle.fitting_laws.proofs.NextPages.{next_fits}
 use Rattle.shard_columns.specs.declared.index.Index.{Index as ShardIndex}
 use Rattle.fitting_laws.specs.Indexes.{index_of}
-use Rattle.agg_search.specs.Paging.{IsBehind, page_of, search_behind}
+use Rattle.agg_search.specs.Paging.{IsBehind, next_of, page_of, search_behind}
 use Rattle.agg_search.specs.Telling.{next_as, told_as}
 use Rattle.agg_search.specs.declared.paging.Found.{Found}
 use Rattle.agg_search.specs.declared.stop.Stop.{Stop}
@@ -49,6 +49,14 @@ module _ (index : ShardIndex) (request : Request) (failures : List Failure) wher
     page = none ∙ sym (ap (option_map (page_of request.bytes)) found);
     made = subst AreMade (sym found) tt;
   }
+
+  -- behind what an answer comes to
+  pub answered-behind : (search : Search) (answer : Answer) (o : Outcome) (next : Option Search) → request.search ≡ Ok search → IsTrue (search_fits index.mapping search)
+      → answer ≡ answer_of (index_of index) search left → next ≡ next_of search answer o → IsBehind index request o failures next
+  answered-behind search answer (ended.Response line) next is made same found = response-behind search line answer next is made same found
+  answered-behind search answer (ended.Refused r) next is made same found = nothing-behind (ended.Refused r) next refl found
+  answered-behind search answer (ended.Tripped t) next is made same found = nothing-behind (ended.Tripped t) next refl found
+  answered-behind search answer ended.Memory next is made same found = nothing-behind ended.Memory next refl found
 
   -- behind the end of a search
   pub told-behind : (end : Result Found Stop) → IfOk end (λ (found : Found). IsBehind index request found.outcome failures found.next) → IsBehind index request (told_as end) failures (next_as end)

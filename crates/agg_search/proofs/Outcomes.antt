@@ -1,5 +1,6 @@
 -- What the shards that are left come to, and which searches run.
 use Rattle.std.specs.Prelude.{◌≡◌, refl, ℕ, ◌+◌, ◌-◌, ◌≤◌, nat_lt, Bool, true, false, List, [], ◌∷◌, ◌*◌, is_none, length, Option, Some, None, Result, Ok, Err}
+use Rattle.std.specs.Option.{option_or}
 use Rattle.std.proofs.Common.{◌∙◌, sym, ap, subst, arith}
 use Rattle.std.proofs.lemmas.Bool.{le-ltb}
 use Rattle.agg_evaluation.specs.Ceiling.{search_ceiling}
@@ -18,7 +19,8 @@ use Rattle.agg_reading.specs.declared.fault.RequestFault.TheVariants as fault
 use Rattle.agg_spec.specs.BucketCount.{total_buckets}
 use Rattle.agg_spec.specs.Failures.{AreAscending, total_failure, unfailed}
 use Rattle.agg_spec.specs.Index.{Index, field_kinds}
-use Rattle.agg_spec.specs.Outcome.{Request, answer_of, answer_outcome, line_in_range, outcome, outcome_of_shards, request_outcome, running, running_search, whole_of, whole_unless_none}
+use Rattle.agg_spec.specs.Notes.{pipe_out_of_range, piped}
+use Rattle.agg_spec.specs.Outcome.{Request, answer_of, answer_outcome, line_in_range, outcome, outcome_of_shards, request_outcome, running, running_search, whole_of, whole_unless_none, wide_path}
 use Rattle.agg_spec.specs.RangeCheck.{out_of_range}
 use Rattle.agg_spec.specs.Response.{response_line}
 use Rattle.agg_model.specs.declared.breaker.Child.TheVariants as child
@@ -29,6 +31,8 @@ use Rattle.agg_spec.specs.Charges.{Run, charge_of, run}
 use Rattle.agg_spec.specs.Reduction.{Going, after_last, batches, begun, reduced, tasks_of}
 use Rattle.agg_spec.specs.Solo.{body_charged, outcome_with, responded, response_steps, searched}
 use Rattle.breaker_words.specs.declared.view.View.{View}
+use Rattle.fitting_laws.specs.Indexes.{index_of}
+use Rattle.shard_columns.specs.declared.index.Index.{Index as ShardIndex}
 use Rattle.solo_charges.specs.Ends.{IsEnded}
 use Rattle.solo_charges.specs.Standing.{Before, StandsAt}
 use Rattle.agg_search.specs.Answering.{IsOutcome, StopsSearching, StopsSolving}
@@ -38,6 +42,7 @@ use Rattle.agg_search.specs.Stops.{IfRefused}
 use Rattle.agg_search.specs.Telling.{IsTold}
 use Rattle.agg_search.specs.declared.stop.Stop.{Stop}
 use Rattle.agg_search.specs.declared.stop.Stop.TheVariants as stop
+use Rattle.agg_search.proofs.Batching.{rows-count}
 use Rattle.agg_search.proofs.Following.{batches-inert, last-inert}
 
 pub ascending-length : (least shards : ℕ) (failures : List Failure) → AreAscending least shards failures → length failures ≤ shards - least
@@ -53,6 +58,13 @@ no-total index search fs [] w e = absurd (let no : ⊥ = cc in no)
 no-total index search [] (n ∷ ns) w e = refl
 no-total index search (f ∷ fs) (n ∷ ns) w e = refl
 
+-- an answer whose numbers are all in range, and those of its pipelines
+pub line-outcome : (search : Search) (answer : Answer) (line : List ℕ) → out_of_range search answer ≡ None → pipe_out_of_range search answer ≡ None
+    → line_in_range (wide_path search answer) line ≡ ended.Response line
+line-outcome search answer line answers pipes =
+    ap (λ (o : Option (List ℕ)). line_in_range (option_or o (pipe_out_of_range search answer)) line) answers
+    ∙ ap (λ (o : Option (List ℕ)). line_in_range o line) pipes
+
 module _ (index : Index) (max : ℕ) (search : Search) (fs : List Failure) (left : List ℕ) where
   abbrev answer : Answer
   answer = answer_of index search left
@@ -63,15 +75,27 @@ module _ (index : Index) (max : ℕ) (search : Search) (fs : List Failure) (left
   abbrev by_count : Bool → Outcome
   by_count b = elim b [
     | true ↦ ended.Refused (refused.TooManyBuckets (total_buckets search answer) max)
-    | false ↦ line_in_range (out_of_range search answer) (response_line search index.mapping answer (length index.shards) fs)
+    | false ↦ line_in_range (wide_path search answer) (response_line search index.mapping (piped search answer) (length index.shards) fs)
   ]
 
   pub some-outcome : (w : Partial) → Some w ≡ whole_unless_none index search left → outcome_of_shards index max search fs left ≡ answer_outcome index max search fs answer
   some-outcome w e = ap by_total (no-total index search fs left w e)
 
-  pub line-outcome : total_buckets search answer ≤ max → out_of_range search answer ≡ None
-      → answer_outcome index max search fs answer ≡ ended.Response (response_line search index.mapping answer (length index.shards) fs)
-  line-outcome few in_range = ap by_count (le-ltb max (total_buckets search answer) few) ∙ ap (λ o. line_in_range o (response_line search index.mapping answer (length index.shards) fs)) in_range
+  pub few-outcome : total_buckets search answer ≤ max
+      → answer_outcome index max search fs answer ≡ line_in_range (wide_path search answer) (response_line search index.mapping (piped search answer) (length index.shards) fs)
+  few-outcome few = ap by_count (le-ltb max (total_buckets search answer) few)
+
+-- what an answer of a whole comes to, whose buckets are not too many
+pub answered-outcome : (index : ShardIndex) (max : ℕ) (search : Search) (fs : List Failure) (left : List ℕ) (w : Partial) (found : Answer)
+    → Some w ≡ whole_unless_none (index_of index) search left → found ≡ answer_of (index_of index) search left → total_buckets search found ≤ max
+    → line_in_range (wide_path search found) (response_line search index.mapping (piped search found) (length index.shards) fs)
+    ≡ outcome_of_shards (index_of index) max search fs left
+answered-outcome index max search fs left w found given same few =
+    ap (λ (a : Answer). line_in_range (wide_path search a) (response_line search index.mapping (piped search a) (length index.shards) fs)) same
+    ∙ ap (λ (n : ℕ). line_in_range (wide_path search (answer_of (index_of index) search left))
+    (response_line search index.mapping (piped search (answer_of (index_of index) search left)) n fs)) (sym (rows-count index))
+    ∙ sym (some-outcome (index_of index) max search fs left w given
+    ∙ few-outcome (index_of index) max search fs left (subst (λ (a : Answer). total_buckets search a ≤ max) same few))
 
 module _ (index : Index) (max : ℕ) (search : Search) where
   abbrev by_ceiling : List Failure → Option ℕ → Outcome
@@ -94,7 +118,7 @@ module _ (index : Index) (max : ℕ) (search : Search) where
 
   runs-count : (left : List ℕ) (b : Bool) → running (Ok search) (by_count index max search [] left b) ≡ Some search
   runs-count left true = refl
-  runs-count left false = runs-line (out_of_range search (answer_of index search left)) (response_line search index.mapping (answer_of index search left) (length index.shards) [])
+  runs-count left false = runs-line (wide_path search (answer_of index search left)) (response_line search index.mapping (piped search (answer_of index search left)) (length index.shards) [])
 
   pub runs : (request : Request) (n : ℕ) → request.search ≡ Ok search → search_ceiling (field_kinds index) search index.shards ≡ Some n → running_search index max request ≡ Some search
   runs request n e some =

@@ -1,5 +1,5 @@
 -- Results of some shards of an index, which are parts of a merge.
-use Rattle.std.specs.Prelude.{◌≡◌, refl, ℕ, ◌+◌, ◌&&◌, true, List, [], ◌∷◌, ◌++◌, length, map, IsTrue}
+use Rattle.std.specs.Prelude.{◌≡◌, refl, ℕ, ◌&&◌, true, List, [], ◌∷◌, ◌++◌, length, map, IsTrue}
 use Rattle.std.specs.List.{list_all, range_with_len}
 use Rattle.std.proofs.Common.{◌∙◌, sym, ap, subst, append_assoc}
 use Rattle.std.proofs.lemmas.List.{map-append}

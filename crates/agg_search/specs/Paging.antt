@@ -5,13 +5,15 @@ use Rattle.agg_model.specs.declared.aggregation.Search.{Search}
 use Rattle.agg_model.specs.declared.key.Key.{Key}
 use Rattle.agg_model.specs.declared.outcome.Answered.{Answered}
 use Rattle.agg_model.specs.declared.outcome.Failure.{Failure}
+use Rattle.agg_model.specs.declared.answer.Answer.{Answer}
 use Rattle.agg_model.specs.declared.outcome.Outcome.{Outcome}
+use Rattle.agg_model.specs.declared.outcome.Outcome.TheVariants as ended
 use Rattle.agg_model.specs.declared.outcome.Refused.{Refused}
 use Rattle.agg_model.specs.declared.settings.Settings.{Settings}
 use Rattle.agg_spec.specs.Charges.{Run}
 use Rattle.agg_spec.specs.Index.{Index}
 use Rattle.agg_spec.specs.Outcome.{Request}
-use Rattle.agg_spec.specs.Pages.{next_page, search_after}
+use Rattle.agg_spec.specs.Pages.{is_paged, last_key, next_page, search_after}
 use Rattle.agg_spec.specs.Requests.{request_of}
 use Rattle.agg_spec.specs.Solo.{after_request, solo_answer}
 use Rattle.breaker_words.specs.declared.view.View.{View}
@@ -23,6 +25,13 @@ use Rattle.fitting_laws.specs.Indexes.{index_of}
 abbrev pub search_behind : Bool → Search → Option Key → Option Search
 search_behind true search key = option_map (search_after search) key
 search_behind false search key = None
+
+-- the search of the page behind an answer, where it is printed
+abbrev pub next_of : Search → Answer → Outcome → Option Search
+next_of search answer (ended.Response line) = search_behind (is_paged search.aggs) search (last_key answer.nodes)
+next_of search answer (ended.Refused r) = None
+next_of search answer (ended.Tripped t) = None
+next_of search answer ended.Memory = None
 
 -- a search that was read, of a body of so many bytes
 abbrev pub page_of : ℕ → Search → Request

@@ -1,9 +1,10 @@
 //! The page behind a page ('Composite aggregation', pagination).
-ghost use Rattle.std.specs.Prelude.{◌≡◌, None};
+ghost use Rattle.std.specs.Prelude.{◌≡◌, IfOk, None};
 ghost use Rattle.agg_spec.specs.Pages.{is_composite, is_paged, kind_after, last_key};
 ghost use Rattle.agg_search.specs.Paging.{search_behind};
 
-use agg_model::{Answer, Key, Kind, List, Outcome, Search};
+use agg_model::{Answer, Copying, Key, Kind, List, Outcome, Search};
+use std::alloc::{AllocError, Global};
 
 /// What a search comes to, and the search of the page behind it.
 #[derive(Drop)]
@@ -25,16 +26,17 @@ impl Found {
     }
 }
 
-/// The key of the last bucket of the first answer, moved out of it.
-pub(crate) fn last_key(answer: Answer) -> Option<Key>
-    ensures { result ≡ last_key answer.nodes }
+/// The key of the last bucket of the first answer.
+pub(crate) fn last_key(alloc: Global, answer: &Answer) -> Result<Option<Key>, AllocError>
+    ensures { IfOk result (λ key. key ≡ last_key answer.now.nodes) }
 {
-    if answer.nodes.is_empty() {
-        return None;
+    let Some(node) = answer.nodes.get(0) else {
+        return Ok(None);
+    };
+    match node.buckets.as_slice().last() {
+        Some(bucket) => Ok(Some(bucket.key.copy(alloc)?)),
+        None => Ok(None),
     }
-    let node = answer.nodes.into_vec().remove(0);
-    let last = node.buckets.into_vec().pop()?;
-    Some(last.key)
 }
 
 /// Whether the kind is a composite, which then goes on after the key.
@@ -82,5 +84,6 @@ pub(crate) fn search_behind(search: Search, key: Option<Key>) -> Option<Search>
         aggs: List::from_vec(aggs),
         body_bytes: search.body_bytes,
         partial: search.partial,
+        pipes: search.pipes,
     })
 }

@@ -14,7 +14,7 @@ unfolding
     Rattle.agg_model.specs.declared.row.Children.TheBlock.hidden-the_row-Children-1
     Rattle.agg_model.specs.declared.answer.BucketAnswer.TheBlock.hidden-the_row-BucketAnswer-1
     Rattle.agg_model.specs.declared.partial.Node.TheBlock.shown-the_row-Bucket-1
-    Rattle.agg_model.specs.declared.aggregation.Agg.TheBlock.hidden-the_row-Agg-0
+    Rattle.agg_model.specs.declared.aggregation.Agg.TheBlock.hidden-the_row-Agg-0 Rattle.agg_model.specs.declared.aggregation.Agg.TheBlock.shown-the_row-Agg-0
     Rattle.agg_model.specs.declared.key.Key.TheBlock.hidden-the_row-Key-0 Rattle.agg_model.specs.declared.key.Key.TheBlock.shown-the_row-Key-0
     Rattle.agg_model.specs.declared.answer.BucketAnswer.TheViews.out-NodeAnswer Rattle.agg_model.specs.declared.answer.BucketAnswer.TheViews.out-BucketAnswer
     Rattle.agg_model.specs.declared.answer.BucketAnswer.TheBlock.shown-the_row-BucketAnswer-1

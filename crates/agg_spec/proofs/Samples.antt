@@ -24,7 +24,9 @@ use Rattle.agg_evaluation.specs.Rows.{shard_rows}
 use Rattle.agg_spec.specs.Index.{Index, shard_numbers}
 use Rattle.agg_spec.specs.Outcome.{Request, answer_of}
 use Rattle.agg_spec.specs.Json.{object_of}
-use Rattle.agg_spec.specs.AnswerTree.{printer, named_answers}
+use Rattle.agg_spec.specs.AnswerTree.{printer, object_members}
+use Rattle.agg_spec.specs.Notes.{piped}
+use Rattle.agg_spec.specs.NoteZones.{zoned_notes}
 
 abbrev pub flags : List Bool → FieldValues
 flags bs = record { field = 0; values = map scalar.Flag bs }
@@ -94,11 +96,13 @@ abbrev pub leaf : List ℕ → Kind → Agg
 leaf name kind = agg name kind []
 
 abbrev pub search_of : Query → List Agg → Search
-search_of query aggs = record { query = query; aggs = aggs; body_bytes = 0; partial = false }
+search_of query aggs = record { query = query; aggs = aggs; body_bytes = 0; partial = false; pipes = [] }
 
 -- the text of the member `aggregations` of the response
 abbrev pub aggregations_text : Index → Search → List ℕ
-aggregations_text index search = compact_text (object_of (named_answers (map (printer index.mapping) search.aggs) (answer_of index search (shard_numbers index)).nodes))
+aggregations_text index search =
+    let told = piped search (answer_of index search (shard_numbers index)) in
+    compact_text (object_of (object_members (map (printer index.mapping) search.aggs) (zoned_notes search index.mapping told.notes) told.answer.nodes))
 
 abbrev pub default_limits : Limits
 default_limits = record { request = 644245094; fielddata = 429496729; inflight = 1073741824; parent = 751619276 }

@@ -1,6 +1,6 @@
--- The JSON tree of an answer (the response bodies of 'Aggregations').
-use Rattle.std.specs.Prelude.{ℕ, ℤ, pos, Bool, true, false, if◌then◌else◌, List, [], ◌∷◌, ◌++◌, map, flat_map, zip, Option, Some, None, option_to_list, codes}
-use Rattle.std.specs.List.{last_or}
+-- The JSON tree of an answer (the response bodies of 'Aggregations' and 'Pipeline aggregations').
+use Rattle.std.specs.Prelude.{ℕ, ℤ, pos, Bool, true, false, if◌then◌else◌, List, [], ◌∷◌, ◌++◌, ◌+◌, map, filter, filter_map, flat_map, zip, Option, Some, None, option_map, option_to_list, codes}
+use Rattle.std.specs.List.{enumerate_from, last_or}
 use Rattle.std.specs.Option.{option_map_or}
 use Rattle.std.specs.Fmt.{signed_decimal}
 use Rattle.serde_json.specs.Data.{Data, null, boolean, string}
@@ -22,18 +22,33 @@ use Rattle.agg_model.specs.declared.aggregation.CompositeSource.{CompositeSource
 use Rattle.agg_model.specs.declared.aggregation.Agg.{Agg}
 use Rattle.agg_evaluation.specs.Folds.{fold_agg}
 use Rattle.agg_spec.specs.Json.{Member, object_of, array_of, count, whole_number}
+use Rattle.agg_model.specs.declared.pipeline.Note.{Note}
 use Rattle.agg_spec.specs.Average.{average}
 use Rattle.agg_spec.specs.InstantTexts.{instant_text}
+use Rattle.agg_spec.specs.Notes.{places_behind}
+use Rattle.agg_spec.specs.Remarks.{are_no_places}
 
--- the tree of an answer to one aggregation
+-- a note with the zone in which its keys are printed where they are instants
+pub record ZonedNote : Type 0 where
+  pub zone : Option ℤ
+  pub note : Note
+
+-- the tree of an answer to one aggregation, with the notes below it
 abbrev pub Printer : Type 0
-Printer = NodeAnswer → Data
+Printer = List ZonedNote → NodeAnswer → Data
 
--- the answers to the aggregations, each under its name
-abbrev pub named_answers : List Printer → List NodeAnswer → List Member
-named_answers [] nodes = []
-named_answers (p ∷ ps) [] = []
-named_answers (p ∷ ps) (n ∷ ns) = ((out-NodeAnswer n).name, p n) ∷ named_answers ps ns
+abbrev pub note_behind : ZonedNote → List ℕ → ZonedNote
+note_behind n rest = record { zone = n.zone; note = record n.note { at = rest } }
+
+-- the notes beneath this place, as they are seen from there
+abbrev pub notes_within : ℕ → List ZonedNote → List ZonedNote
+notes_within i notes = filter_map (λ n. option_map (note_behind n) (places_behind i n.note.at)) notes
+
+-- the answers to the aggregations, each under its name; places are counted from i
+abbrev pub named_answers : ℕ → List Printer → List ZonedNote → List NodeAnswer → List Member
+named_answers i [] notes nodes = []
+named_answers i (p ∷ ps) notes [] = []
+named_answers i (p ∷ ps) notes (n ∷ ns) = ((out-NodeAnswer n).name, p (notes_within i notes) n) ∷ named_answers (i + 1) ps notes ns
 
 abbrev pub flag_text : Bool → List ℕ
 flag_text b = if b then codes "true" else codes "false"
@@ -84,6 +99,47 @@ key_name dated (key.Word w) = []
 key_name dated (key.Fixed n) = []
 key_name dated (key.Many' n parts) = []
 
+-- the text of a key, of a number its decimal text or where it is an instant its text in some zone
+abbrev pub key_text : Option ℤ → Key → List ℕ
+key_text dated key.Null = []
+key_text dated (key.Whole n) = number_name dated n
+key_text dated (key.Flag b) = flag_text b
+key_text dated (key.Word w) = w
+key_text dated (key.Fixed n) = []
+key_text dated (key.Many' n parts) = []
+
+abbrev pub value_of : Option ℤ → Data
+value_of = λ n. option_map_or whole_number n null
+
+-- A least or greatest value stands beside the keys of the buckets that have it, and it alone may be null. All other pipelines
+-- have a number and no keys.
+abbrev pub keys_members : Option ℤ → Option ℤ → List Key → List Member
+keys_members dated None keys = (codes "keys", array_of (map (λ k. string (key_text dated k)) keys)) ∷ []
+keys_members dated (Some n) [] = []
+keys_members dated (Some n) (k ∷ ks) = (codes "keys", array_of (map (λ j. string (key_text dated j)) (k ∷ ks))) ∷ []
+
+abbrev pub note_tree : ZonedNote → Data
+note_tree n = object_of (keys_members n.zone n.note.value n.note.keys ++ (codes "value", value_of n.note.value) ∷ [])
+
+-- the notes of the object itself, each under its name
+abbrev pub note_members : List ZonedNote → List Member
+note_members notes = map (λ n. (n.note.name, note_tree n)) (filter (λ n. are_no_places n.note.at) notes)
+
+-- all that stands in an object beside what it has itself
+abbrev pub object_members : List Printer → List ZonedNote → List NodeAnswer → List Member
+object_members children notes nodes = named_answers 0 children notes nodes ++ note_members notes
+
+-- a bucket with the notes in its object
+pub record NotedBucket : Type 0 where
+  pub bucket : BucketAnswer
+  pub notes : List ZonedNote
+
+abbrev pub noted_at : List ZonedNote → ℕ × BucketAnswer → NotedBucket
+noted_at notes b = record { bucket = b.1; notes = notes_within b.0 notes }
+
+abbrev pub noted_buckets : List ZonedNote → List BucketAnswer → List NotedBucket
+noted_buckets notes buckets = map (noted_at notes) (enumerate_from 0 buckets)
+
 -- one part of a composite key
 abbrev pub part_value : Key → Data
 part_value key.Null = null
@@ -105,38 +161,38 @@ named_parts sources (Key-F.Many ks) = map (λ p. (p.0.name, part_value p.1)) (zi
 abbrev pub composite_value : List CompositeSource → Key → Data
 composite_value sources k = object_of (named_parts sources (out-Key k))
 
--- the number of documents of a bucket, members of its kind, and the answers below it
-abbrev pub bucket_members : List Printer → List Member → BucketAnswer → List Member
-bucket_members children own b = (codes "doc_count", count (out-BucketAnswer b).count) ∷ (own ++ named_answers children (out-BucketAnswer b).children)
+-- the number of documents of a bucket, members of its kind, and what stands below it
+abbrev pub bucket_members : List Printer → List Member → NotedBucket → List Member
+bucket_members children own b =
+    (codes "doc_count", count (out-BucketAnswer b.bucket).count) ∷ (own ++ object_members children b.notes (out-BucketAnswer b.bucket).children)
 
-abbrev pub term_bucket : List Printer → Option ℤ → Bool → BucketAnswer → Data
+abbrev pub term_bucket : List Printer → Option ℤ → Bool → NotedBucket → Data
 term_bucket children zone show_error b =
-    object_of (bucket_members children (term_members zone (out-BucketAnswer b).key ++ error_members show_error (out-BucketAnswer b).error) b)
+    object_of (bucket_members children (term_members zone (out-BucketAnswer b.bucket).key ++ error_members show_error (out-BucketAnswer b.bucket).error) b)
 
-abbrev pub interval_bucket : List Printer → Option ℤ → BucketAnswer → Data
-interval_bucket children zone b = object_of (bucket_members children (term_members zone (out-BucketAnswer b).key) b)
+abbrev pub interval_bucket : List Printer → Option ℤ → NotedBucket → Data
+interval_bucket children zone b = object_of (bucket_members children (term_members zone (out-BucketAnswer b.bucket).key) b)
 
-abbrev pub plain_bucket : List Printer → BucketAnswer → Data
+abbrev pub plain_bucket : List Printer → NotedBucket → Data
 plain_bucket children b = object_of (bucket_members children [] b)
 
-abbrev pub composite_bucket : List CompositeSource → List Printer → BucketAnswer → Data
-composite_bucket sources children b = object_of (bucket_members children ((codes "key", composite_value sources (out-BucketAnswer b).key) ∷ []) b)
+abbrev pub composite_bucket : List CompositeSource → List Printer → NotedBucket → Data
+composite_bucket sources children b =
+    object_of (bucket_members children ((codes "key", composite_value sources (out-BucketAnswer b.bucket).key) ∷ []) b)
 
 -- the last bucket's key, where there is a bucket
 abbrev pub after_key : List CompositeSource → List BucketAnswer → List Member
 after_key sources buckets = option_map_or (λ b. (codes "after_key", composite_value sources (out-BucketAnswer b).key) ∷ []) (last_or None buckets) []
 
 -- the buckets by name where there are names, else as a list
-abbrev pub filter_buckets : List Printer → Option (List (List ℕ)) → Option (List ℕ) → List BucketAnswer → Data
+abbrev pub filter_buckets : List Printer → Option (List (List ℕ)) → Option (List ℕ) → List NotedBucket → Data
 filter_buckets children (Some names) other buckets = object_of (map (λ b. (b.0, plain_bucket children b.1)) (zip (names ++ option_to_list other) buckets))
 filter_buckets children None other buckets = array_of (map (plain_bucket children) buckets)
 
-abbrev pub histogram_buckets : List Printer → Option ℤ → Bool → List BucketAnswer → Data
-histogram_buckets children zone true buckets = object_of (map (λ b. (key_name zone (out-BucketAnswer b).key, interval_bucket children zone b)) buckets)
+abbrev pub histogram_buckets : List Printer → Option ℤ → Bool → List NotedBucket → Data
+histogram_buckets children zone true buckets =
+    object_of (map (λ b. (key_name zone (out-BucketAnswer b.bucket).key, interval_bucket children zone b)) buckets)
 histogram_buckets children zone false buckets = array_of (map (interval_bucket children zone) buckets)
-
-abbrev pub value_of : Option ℤ → Data
-value_of = λ n. option_map_or whole_number n null
 
 -- what a metric shows
 abbrev pub metric_tree : Measure → Metric → Data
@@ -148,26 +204,28 @@ metric_tree Measure.average m = object_of (
 metric_tree Measure.value_count m = object_of ((codes "value", count m.count) ∷ [])
 
 -- the number of documents of the one bucket, and the answers below it
-abbrev pub single_tree : List Printer → List BucketAnswer → Data
+abbrev pub single_tree : List Printer → List NotedBucket → Data
 single_tree children buckets = object_of (flat_map (bucket_members children []) buckets)
 
-abbrev pub tree_at : Mapping → List Printer → Kind → NodeAnswer-F BucketAnswer NodeAnswer → Data
-tree_at m children k n = elim (options_of k) [
-  | Options.Terms t ↦ object_of (
-      (codes "buckets", array_of (map (term_bucket children (zone_of_terms m t.field) t.show_error) n.buckets))
-      ∷ (codes "doc_count_error_upper_bound", whole_number n.error)
-      ∷ (codes "sum_other_doc_count", count n.other) ∷ [])
-  | Options.Histogram h ↦ object_of ((codes "buckets", histogram_buckets children (zone_of_spacing h.spacing) h.keyed n.buckets) ∷ [])
-  | Options.Filters names filters other ↦ object_of ((codes "buckets", filter_buckets children names other n.buckets) ∷ [])
-  | Options.Filter query ↦ single_tree children n.buckets
-  | Options.Missing field ↦ single_tree children n.buckets
-  | Options.Global ↦ single_tree children n.buckets
-  | Options.Nested context ↦ single_tree children n.buckets
-  | Options.ReverseNested context ↦ single_tree children n.buckets
-  | Options.Composite sources size after ↦
-      object_of (after_key sources n.buckets ++ (codes "buckets", array_of (map (composite_bucket sources children) n.buckets)) ∷ [])
-  | Options.Metric o ↦ metric_tree o.measure n.metric
-]
+abbrev pub tree_at : Mapping → List Printer → Kind → List ZonedNote → NodeAnswer-F BucketAnswer NodeAnswer → Data
+tree_at m children k notes n =
+    let buckets = noted_buckets notes n.buckets in
+    elim (options_of k) [
+      | Options.Terms t ↦ object_of (
+          (codes "buckets", array_of (map (term_bucket children (zone_of_terms m t.field) t.show_error) buckets))
+          ∷ (codes "doc_count_error_upper_bound", whole_number n.error)
+          ∷ (codes "sum_other_doc_count", count n.other) ∷ [])
+      | Options.Histogram h ↦ object_of ((codes "buckets", histogram_buckets children (zone_of_spacing h.spacing) h.keyed buckets) ∷ [])
+      | Options.Filters names filters other ↦ object_of ((codes "buckets", filter_buckets children names other buckets) ∷ [])
+      | Options.Filter query ↦ single_tree children buckets
+      | Options.Missing field ↦ single_tree children buckets
+      | Options.Global ↦ single_tree children buckets
+      | Options.Nested context ↦ single_tree children buckets
+      | Options.ReverseNested context ↦ single_tree children buckets
+      | Options.Composite sources size after ↦
+          object_of (after_key sources n.buckets ++ (codes "buckets", array_of (map (composite_bucket sources children) buckets)) ∷ [])
+      | Options.Metric o ↦ metric_tree o.measure n.metric
+    ]
 
 abbrev pub printer : Mapping → Agg → Printer
-printer m = fold_agg (λ a n. tree_at m a.children a.kind (out-NodeAnswer n))
+printer m = fold_agg (λ a notes n. tree_at m a.children a.kind notes (out-NodeAnswer n))

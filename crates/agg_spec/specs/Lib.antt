@@ -4,12 +4,16 @@ pub mod Final
 pub mod BucketCount
 pub mod GapCount
 pub mod RangeCheck
+pub mod Pipelines
+pub mod Remarks
+pub mod Notes
 pub mod Index
 pub mod Failures
 pub mod Json
 pub mod Average
 pub mod InstantTexts
 pub mod AnswerTree
+pub mod NoteZones
 pub mod Response
 pub mod Outcome
 pub mod Charges

@@ -1,6 +1,7 @@
 -- The outcome of a search by the whole reduction: all shards that did not fail, in order, with no breaker and no memory limit
 -- ('Search API').
 use Rattle.std.specs.Prelude.{ℕ, nat_lt, true, false, List, [], ◌∷◌, map, length, Option, Some, None, Result, Ok, Err}
+use Rattle.std.specs.Option.{option_or}
 use Rattle.agg_model.specs.declared.answer.Answer.{Answer}
 use Rattle.agg_model.specs.declared.partial.Partial.{Partial}
 use Rattle.agg_model.specs.declared.aggregation.Search.{Search}
@@ -17,6 +18,7 @@ use Rattle.agg_spec.specs.Failures.{unfailed, total_failure}
 use Rattle.agg_spec.specs.Final.{final}
 use Rattle.agg_spec.specs.BucketCount.{total_buckets}
 use Rattle.agg_spec.specs.RangeCheck.{out_of_range}
+use Rattle.agg_spec.specs.Notes.{piped, pipe_out_of_range}
 use Rattle.agg_spec.specs.Response.{response_line}
 
 -- a body as it was read: its length in bytes, and the search or why it is none
@@ -45,12 +47,16 @@ abbrev pub line_in_range : Option (List ℕ) → List ℕ → Outcome
 line_in_range None line = ended.Response line
 line_in_range (Some path) line = ended.Refused (refused.SumRange path)
 
--- what an answer prints, unless it has too many buckets
+-- the path of the first number out of range: of the answer itself, or else of a pipeline
+abbrev pub wide_path : Search → Answer → Option (List ℕ)
+wide_path search answer = option_or (out_of_range search answer) (pipe_out_of_range search answer)
+
+-- what an answer prints with what its pipelines say, unless it has too many buckets: those count before any is cut
 abbrev pub answer_outcome : Index → ℕ → Search → List Failure → Answer → Outcome
 answer_outcome index max_buckets search failures answer =
     elim (nat_lt max_buckets (total_buckets search answer)) [
       | true ↦ ended.Refused (refused.TooManyBuckets (total_buckets search answer) max_buckets)
-      | false ↦ line_in_range (out_of_range search answer) (response_line search index.mapping answer (length index.shards) failures)
+      | false ↦ line_in_range (wide_path search answer) (response_line search index.mapping (piped search answer) (length index.shards) failures)
     ]
 
 -- the answer of the shards that are left, or the refusal where all failed

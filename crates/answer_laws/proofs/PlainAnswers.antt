@@ -14,8 +14,8 @@ use Rattle.agg_spec.specs.BucketCount.{total_buckets}
 use Rattle.agg_spec.specs.Complete.{IsPlain}
 use Rattle.agg_spec.specs.Failures.{unfailed}
 use Rattle.agg_spec.specs.Index.{Index, field_kinds}
-use Rattle.agg_spec.specs.Outcome.{Request, request_outcome, search_outcome, outcome_of_shards, answer_outcome, line_in_range, answer_of}
-use Rattle.agg_spec.specs.RangeCheck.{out_of_range}
+use Rattle.agg_spec.specs.Notes.{piped}
+use Rattle.agg_spec.specs.Outcome.{Request, request_outcome, search_outcome, outcome_of_shards, answer_outcome, line_in_range, answer_of, wide_path}
 use Rattle.agg_spec.specs.Response.{response_line}
 use Rattle.agg_spec.specs.Rounds.{Round, plain_answer, is_quiet, all_quiet}
 
@@ -32,11 +32,11 @@ module _ (index : Index) (max_buckets : ℕ) where
   quiet-answer search answer = by_count (nat_lt max_buckets (total_buckets search answer))
     where
       line : Outcome
-      line = line_in_range (out_of_range search answer) (response_line search index.mapping answer (length index.shards) [])
+      line = line_in_range (wide_path search answer) (response_line search index.mapping (piped search answer) (length index.shards) [])
 
       by_count : (b : Bool) → IsQuiet (elim b [ true ↦ ended.Refused (refused.TooManyBuckets (total_buckets search answer) max_buckets) | false ↦ line ])
       by_count true = refl
-      by_count false = quiet-line (out_of_range search answer) (response_line search index.mapping answer (length index.shards) [])
+      by_count false = quiet-line (wide_path search answer) (response_line search index.mapping (piped search answer) (length index.shards) [])
 
   quiet-search : (search : Search) → IsQuiet (search_outcome index max_buckets search [])
   quiet-search search = by_ceiling (search_ceiling (field_kinds index) search index.shards)

@@ -15,8 +15,8 @@ use Rattle.agg_evaluation.specs.Ceiling.{search_ceiling}
 use Rattle.agg_spec.specs.BucketCount.{total_buckets}
 use Rattle.agg_spec.specs.Failures.{total_failure, unfailed}
 use Rattle.agg_spec.specs.Index.{Index, field_kinds}
-use Rattle.agg_spec.specs.Outcome.{Request, answer_of, answer_outcome, line_in_range, outcome, outcome_of_shards, request_outcome, search_outcome}
-use Rattle.agg_spec.specs.RangeCheck.{out_of_range}
+use Rattle.agg_spec.specs.Notes.{piped}
+use Rattle.agg_spec.specs.Outcome.{Request, answer_of, answer_outcome, line_in_range, outcome, outcome_of_shards, request_outcome, search_outcome, wide_path}
 use Rattle.agg_spec.specs.Response.{response_line}
 use Rattle.agg_spec.specs.Rounds.{Round}
 use Rattle.answer_laws.specs.Reduced.{Prints, PrintTheAnswer, Tells, TellsTheWhole}
@@ -27,17 +27,17 @@ in-range (Some path) text line e = absurd (let no : ⊥ = cc in no)
 
 module _ (index : Index) (max_buckets : ℕ) (search : Search) (failures : List Failure) (line : List ℕ) where
   abbrev text_of : Answer → List ℕ
-  text_of answer = response_line search index.mapping answer (length index.shards) failures
+  text_of answer = response_line search index.mapping (piped search answer) (length index.shards) failures
 
   answer-prints : (answer : Answer) → answer_outcome index max_buckets search failures answer ≡ ended.Response line → line ≡ text_of answer
   answer-prints answer e = by (nat_lt max_buckets (total_buckets search answer)) e
     where
       by : (b : Bool) → elim b [
         | true ↦ ended.Refused (refused.TooManyBuckets (total_buckets search answer) max_buckets)
-        | false ↦ line_in_range (out_of_range search answer) (text_of answer)
+        | false ↦ line_in_range (wide_path search answer) (text_of answer)
       ] ≡ ended.Response line → line ≡ text_of answer
       by true e = absurd (let no : ⊥ = cc in no)
-      by false e = in-range (out_of_range search answer) (text_of answer) line e
+      by false e = in-range (wide_path search answer) (text_of answer) line e
 
   abbrev left : List ℕ
   left = unfailed index failures

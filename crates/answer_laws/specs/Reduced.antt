@@ -9,6 +9,7 @@ use Rattle.agg_model.specs.declared.outcome.Refused.{Refused}
 use Rattle.agg_spec.specs.Failures.{unfailed}
 use Rattle.agg_spec.specs.Index.{Index}
 use Rattle.agg_spec.specs.Outcome.{answer_of, outcome}
+use Rattle.agg_spec.specs.Notes.{piped}
 use Rattle.agg_spec.specs.Response.{response_line}
 use Rattle.agg_spec.specs.Rounds.{Round}
 
@@ -23,10 +24,10 @@ abbrev pub TellsTheWhole : Index → Round → Type 0
 TellsTheWhole index round =
     AllByRecursion (λ p. Tells (outcome index round.settings.max_buckets p.0 p.1.failures) p.1.outcome) (zip round.requests round.answers)
 
--- a response prints the final answer of the shards that it does not name as failed, and these failures
+-- a response prints the final answer of the shards that it does not name as failed, what its pipelines say, and these failures
 abbrev pub Prints : Index → Result Search Refused → List Failure → Outcome → Type 0
 Prints index (Ok search) failures (ended.Response line) =
-    line ≡ response_line search index.mapping (answer_of index search (unfailed index failures)) (length index.shards) failures
+    line ≡ response_line search index.mapping (piped search (answer_of index search (unfailed index failures))) (length index.shards) failures
 Prints index (Err r) failures (ended.Response line) = ⊥
 Prints index found failures _ = ⊤
 

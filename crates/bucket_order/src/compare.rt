@@ -23,8 +23,8 @@ pub(crate) fn directed_by(descending: bool, ordering: Ordering) -> Ordering
     }
 }
 
-// Null stands last in both directions.
-fn compare_values(descending: bool, a: Option<i128>, b: Option<i128>) -> Ordering
+/// The order of two values; null stands last in both directions.
+pub fn compare_values(descending: bool, a: Option<i128>, b: Option<i128>) -> Ordering
     ensures { result ≡ value_cmp descending a b }
 {
     match (a, b) {
@@ -35,8 +35,8 @@ fn compare_values(descending: bool, a: Option<i128>, b: Option<i128>) -> Orderin
     }
 }
 
-// The value by which a metric of this kind orders; an average orders nothing.
-fn value_of(kind: &Kind, metric: &Metric) -> Option<i128>
+/// The value by which a metric of this kind orders; an average orders nothing.
+pub fn value_of(kind: &Kind, metric: &Metric) -> Option<i128>
     ensures { result ≡ metric_value kind.now metric.now }
 {
     match kind {

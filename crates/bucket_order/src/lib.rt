@@ -7,7 +7,7 @@ mod composite;
 mod first;
 mod sort;
 
-pub use compare::{compare_buckets, compare_keys};
+pub use compare::{compare_buckets, compare_keys, compare_values, value_of};
 pub use composite::compare_composites;
 pub use first::first_buckets;
 pub use sort::{sort_buckets, sort_by_key, sort_composites};

@@ -1,4 +1,5 @@
 mod Fields
+mod Grid
 mod Instants
 mod Bounds
 mod Standing

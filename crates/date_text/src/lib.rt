@@ -9,5 +9,6 @@ mod reading;
 mod shapes;
 
 pub use date_spec::DateFault;
+pub use offsets::ahead_of;
 pub use printing::print;
 pub use reading::read;

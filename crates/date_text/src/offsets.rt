@@ -41,7 +41,7 @@ fn minutes_of(offset: &[u8]) -> Option<u16>
 }
 
 /// The milliseconds by which a clock with this offset is ahead of UTC; none where it is no offset.
-pub(crate) fn ahead_of(offset: &[u8]) -> Option<i64>
+pub fn ahead_of(offset: &[u8]) -> Option<i64>
     ensures ahead { result ≡ definition.ahead_of offset.now }
     ensures bound { IfSome result IsOffset }
 {

@@ -76,7 +76,7 @@ abbrev pub agg : List ℕ → Kind → List Agg → Agg
 agg name k children = roll-Agg (record { name = name; kind = k; children = children })
 
 abbrev pub search_of : Query → List Agg → Search
-search_of query aggs = record { query = query; aggs = aggs; body_bytes = 0; partial = false }
+search_of query aggs = record { query = query; aggs = aggs; body_bytes = 0; partial = false; pipes = [] }
 
 abbrev pub bucket : Key → ℕ → List Node → Bucket
 bucket key count children = record { key = key; count = count; covered = 0; children = children }

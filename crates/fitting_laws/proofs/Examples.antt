@@ -78,7 +78,7 @@ abbrev agg : Kind → List Agg → Agg
 agg k children = roll-Agg (record { name = codes "a"; kind = k; children = children })
 
 abbrev search_with : Agg → Search
-search_with a = record { query = query.All; aggs = a ∷ []; body_bytes = 2; partial = false }
+search_with a = record { query = query.All; aggs = a ∷ []; body_bytes = 2; partial = false; pipes = [] }
 
 abbrev by_child : ℕ → List Order
 by_child n = record { by = by.Child n; descending = true } ∷ []

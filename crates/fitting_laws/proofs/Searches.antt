@@ -1,5 +1,5 @@
 -- Searches that are read are made for the mapping.
-use Rattle.std.specs.Prelude.{◌≡◌, refl, ℕ, zero, suc, ◌+◌, List, [], ◌∷◌, ◌++◌, map, length, slice_get, Option, Some, None, Ok, Bool, true, false, not, ◌&&◌, ◌||◌, cond, nat_le, IfOk, codes, unwrap_or, is_some}
+use Rattle.std.specs.Prelude.{◌≡◌, refl, ℕ, zero, suc, ◌+◌, List, [], ◌∷◌, ◌++◌, map, length, slice_get, Option, Some, None, Ok, Bool, true, false, not, ◌&&◌, ◌||◌, ⊤, cond, nat_le, IfOk, codes, unwrap_or, is_some}
 use Rattle.std.specs.List.{list_all}
 use Rattle.std.specs.Option.{option_map_or}
 use Rattle.std.proofs.Common.{sym, ◌∙◌, ap, arith, length-append}
@@ -37,7 +37,14 @@ use Rattle.agg_reading.specs.declared.parts.ReadKind.{ReadKind}
 use Rattle.std.specs.Str.{bytes_eq}
 use Rattle.agg_reading.specs.After.{composite_at}
 use Rattle.agg_reading.specs.Aggregations.{kind_name, kind_at, kind_member, is_aggregation_name, has_both, children_name}
-use Rattle.agg_reading.specs.Request.{Aggregated, aggregations_from, aggregations_at, children_of, children_in, is_childless, placed, assembled, counts_after, aggregation_of, aggregation_at, body_members, query_or_all, no_counts, search_in, search_value_at, search_of}
+use Rattle.agg_reading.specs.declared.names.PipeName.{PipeName}
+use Rattle.agg_reading.specs.declared.pipes.ReadItem.{ReadItem}
+use Rattle.agg_reading.specs.declared.pipes.ReadItem.TheVariants as read_item
+use Rattle.agg_reading.specs.declared.pipes.ReadPipeKind.{ReadPipeKind}
+use Rattle.agg_reading.specs.declared.pipes.Siblings.{Siblings}
+use Rattle.agg_reading.specs.Pipelines.{pipe_name, pipe_kind_at}
+use Rattle.agg_reading.specs.PipePaths.{Around, around_of, fitted_pipes}
+use Rattle.agg_reading.specs.Request.{Aggregated, no_siblings, with_item, has_no_item, aggregations_from, aggregations_at, children_of, children_in, is_childless, placed, assembled, assembled_pipe, counts_after, one_more, kind_of, pipe_of, item_of, aggregation_of, aggregation_at, body_members, query_or_all, no_counts, search_in, search_value_at, search_of}
 use Rattle.agg_evaluation.specs.SearchFits.{Made, no_children, made_at, agg_fits, search_fits, by_fits, is_missing, order_fits, is_whole_field, is_around, is_within, kind_fits, is_metric, is_top, handed}
 use Rattle.agg_evaluation.proofs.AggFolds.{fold_agg-roll, fold_agg-level}
 use Rattle.fitting_laws.proofs.CompositeReads.{composite_read}
@@ -169,56 +176,65 @@ module _ (m : Mapping) where
   fits_same context [] = refl
   fits_same context (c ∷ cs) = ap (λ b. agg_fits m false context c && b) (fits_same context cs)
 
-  childless_same : (children : List Agg) → no_children (map made children) ≡ is_childless children
+  childless_same : (children : List Agg) → no_children (map made children) ≡ has_no_item children
   childless_same [] = refl
   childless_same (c ∷ cs) = refl
 
-  roll_fits : (top : Bool) (context : ℕ) (name : List ℕ) (k : Kind) (children : List Agg) → kind_fits m top context (kinds_of children) k ≡ true → (not (is_metric k) || is_childless children) ≡ true
+  roll_fits : (top : Bool) (context : ℕ) (name : List ℕ) (k : Kind) (children : List Agg) → kind_fits m top context (kinds_of children) k ≡ true → (not (is_metric k) || has_no_item children) ≡ true
       → list_all (agg_fits m false (handed context k)) children ≡ true → agg_fits m top context (roll-Agg (record { name = name; kind = k; children = children })) ≡ true
   roll_fits top context name k children a b c =
       ap (λ (x : Made). x.fits top context) (fold_agg-roll (made_at m) name k children)
       ∙ and_from _ _ (ap (λ ks. kind_fits m top context ks k) (kinds_same children) ∙ a) (and_from _ _ (ap (λ t. not (is_metric k) || t) (childless_same children) ∙ b) (fits_same (handed context k) children ∙ c))
 
-  abbrev AggFit : Bool → ℕ → Agg × Counts → Type 0
-  AggFit top context a = agg_fits m top context a.0 ≡ true
+  -- a pipeline fits anywhere
+  abbrev ItemFit : Bool → ℕ → ReadItem → Type 0
+  ItemFit top context (read_item.Aggregation a pipes) = agg_fits m top context a ≡ true
+  ItemFit top context (read_item.Pipeline p) = ⊤
+
+  abbrev AggFit : Bool → ℕ → ReadItem × Counts → Type 0
+  AggFit top context a = ItemFit top context a.0
 
   abbrev AllFit : Bool → ℕ → Aggregated → Type 0
-  AllFit top context r = list_all (agg_fits m top context) r.0 ≡ true
+  AllFit top context r = list_all (agg_fits m top context) r.0.aggs ≡ true
 
-  abbrev ReadsAgg : Bool → (ℕ → List ℕ → List ℕ → Counts → Data → Reading (Agg × Counts)) → Type 0
+  abbrev ReadsAgg : Bool → (ℕ → List ℕ → List ℕ → Counts → Data → Reading (ReadItem × Counts)) → Type 0
   ReadsAgg top read = (context : ℕ) (name at : List ℕ) (counts : Counts) (d : Data) → IfOk (read context name at counts d) (AggFit top context)
 
-  module _ (top : Bool) (read : ℕ → List ℕ → List ℕ → Counts → Data → Reading (Agg × Counts)) (reads : ReadsAgg top read) where
-    aggregations_fit : (context : ℕ) (at : List ℕ) (done : List Agg) (counts : Counts) (ms : Members) → list_all (agg_fits m top context) done ≡ true → IfOk (aggregations_from read context at done counts ms) (AllFit top context)
+  module _ (top : Bool) (read : ℕ → List ℕ → List ℕ → Counts → Data → Reading (ReadItem × Counts)) (reads : ReadsAgg top read) where
+    item_fits : (context : ℕ) (i : ReadItem) (done : Siblings) → list_all (agg_fits m top context) done.aggs ≡ true → ItemFit top context i → list_all (agg_fits m top context) (with_item i done).aggs ≡ true
+    item_fits context (read_item.Aggregation a pipes) done h f = list_all-append (agg_fits m top context) done.aggs (a ∷ []) ∙ and_from _ _ h (and_from _ _ f refl)
+    item_fits context (read_item.Pipeline p) done h f = h
+
+    aggregations_fit : (context : ℕ) (at : List ℕ) (done : Siblings) (counts : Counts) (ms : Members) → list_all (agg_fits m top context) done.aggs ≡ true → IfOk (aggregations_from read context at done counts ms) (AllFit top context)
     unfolding aggregations_from
     aggregations_fit context at done counts no_members h = h
     aggregations_fit context at done counts (member k d ms) h =
         if_ok (AllFit top context) (is_aggregation_name k) _ (refuse 112 (at ++ member_step k)) (λ e.
         next_ok (AggFit top context) (AllFit top context) (read context k (at ++ member_step k) counts d) _ (reads context k _ counts d) (λ a f.
-        aggregations_fit context at (done ++ a.0 ∷ []) a.1 ms (list_all-append (agg_fits m top context) done (a.0 ∷ []) ∙ and_from _ _ h (and_from _ _ f refl)))) (λ e. tt)
+        aggregations_fit context at (with_item a.0 done) a.1 ms (item_fits context a.0 done h f))) (λ e. tt)
 
     children_fit : (context : ℕ) (at : List ℕ) (counts : Counts) (o : Option Data) → IfOk (children_of read context at counts o) (AllFit top context)
     unfolding aggregations_at
     children_fit context at counts None = refl
-    children_fit context at counts (Some d) = then_ok (AllFit top context) (object_at 103 at d) _ (λ ms. aggregations_fit context at [] counts ms refl)
+    children_fit context at counts (Some d) = then_ok (AllFit top context) (object_at 103 at d) _ (λ ms. aggregations_fit context at no_siblings counts ms refl)
 
     children_in-fit : (context : ℕ) (at : List ℕ) (counts : Counts) (ms : Members) → IfOk (children_in read context at counts ms) (AllFit top context)
     unfolding children_in
     children_in-fit context at counts ms = children_fit context _ counts (get_member (children_name ms) ms)
 
-  abbrev Placed : Bool → KindName → List Agg → Type 0
+  abbrev Placed : Bool → KindName → Siblings → Type 0
   Placed top n children = ((aggregations.is_metric n && not (is_childless children)) ≡ false) × ((aggregations.is_top_kind n && not top) ≡ false)
 
-  placed_ok : (top : Bool) (n : KindName) (at : List ℕ) (ms : Members) (children : List Agg) → IfOk (placed top n at ms children) (λ _. Placed top n children)
+  placed_ok : (top : Bool) (n : KindName) (at : List ℕ) (ms : Members) (children : Siblings) → IfOk (placed top n at ms children) (λ _. Placed top n children)
   unfolding placed
   placed_ok top n at ms children =
       if_ok (λ _. Placed top n children) (aggregations.is_metric n && not (is_childless children)) _ _ (λ e. tt) (λ e.
       if_ok (λ _. Placed top n children) (aggregations.is_top_kind n && not top) _ _ (λ f. tt) (λ f. (e, f)))
 
-  leaf_or : (a b : Bool) → (a && not b) ≡ false → (not a || b) ≡ true
-  leaf_or true true e = refl
-  leaf_or true false e = absurd (false≢true (sym e))
-  leaf_or false b e = refl
+  leaf_or : (a b c : Bool) → (a && not (b && c)) ≡ false → (not a || b) ≡ true
+  leaf_or true true c e = refl
+  leaf_or true false c e = absurd (false≢true (sym e))
+  leaf_or false b c e = refl
 
   not_top : (a : Bool) → (a && true) ≡ false → a ≡ false
   not_top true e = e
@@ -233,21 +249,42 @@ module _ (m : Mapping) where
   unfolding assembled
   assembled_fits top context n name at ms found children r c =
       next_ok (λ _. Placed top n children.0) (AggFit top context) (placed top n at ms children.0) _ (placed_ok top n at ms children.0) (λ _ p.
-      next_ok (OrdersOk children.0 (0 + length found.order)) (AggFit top context) (resolved children.0 [] found.order) _ (resolved_ok children.0 [] found.order refl) (λ order o.
-      roll_fits top context name (with_order order found.kind) children.0
-      (at_top top context (kinds_of children.0) (with_order order found.kind) n (r.ready (kinds_of children.0) order (omega (arith, o.0)) o.1) (r.top order) p.1)
-      (leaf_or (is_metric (with_order order found.kind)) (is_childless children.0) (ap (λ b. b && not (is_childless children.0)) (r.metric order) ∙ p.0))
-      (ap (λ (w : ℕ). list_all (agg_fits m false w) children.0) (r.within_is order) ∙ c)))
+      next_ok (OrdersOk children.0.aggs (0 + length found.order)) (AggFit top context) (resolved children.0.aggs [] found.order) _ (resolved_ok children.0.aggs [] found.order refl) (λ order o.
+      then_ok (AggFit top context) (fitted_pipes (around_of n) children.0.aggs children.0.pipes) _ (λ pipes.
+      roll_fits top context name (with_order order found.kind) children.0.aggs
+      (at_top top context (kinds_of children.0.aggs) (with_order order found.kind) n (r.ready (kinds_of children.0.aggs) order (omega (arith, o.0)) o.1) (r.top order) p.1)
+      (leaf_or (is_metric (with_order order found.kind)) (has_no_item children.0.aggs) (has_no_item children.0.pipes) (ap (λ b. b && not (is_childless children.0)) (r.metric order) ∙ p.0))
+      (ap (λ (w : ℕ). list_all (agg_fits m false w) children.0.aggs) (r.within_is order) ∙ c))))
 
-  agg_of-fits : (top : Bool) (read : ℕ → List ℕ → List ℕ → Counts → Data → Reading (Agg × Counts)) → ReadsAgg false read → (context : ℕ) (name at : List ℕ) (counts : Counts) (d : Data) → IfOk (aggregation_of read m top context name at counts d) (AggFit top context)
+  pipe-fits : (top : Bool) (context : ℕ) (name at : List ℕ) (ms : Members) (kind : ReadPipeKind) (children : Aggregated) → IfOk (assembled_pipe name at ms kind children) (AggFit top context)
+  unfolding assembled_pipe
+  pipe-fits top context name at ms kind children = if_ok (AggFit top context) (is_childless children.0) _ _ (λ e. tt) (λ e. tt)
+
+  module _ (read : ℕ → List ℕ → List ℕ → Counts → Data → Reading (ReadItem × Counts)) (reads : ReadsAgg false read) where
+    kind_of-fits : (top : Bool) (context : ℕ) (name at : List ℕ) (counts : Counts) (ms : Members) (said : List ℕ × Data) → IfOk (kind_of read m top context name at counts ms said) (AggFit top context)
+    unfolding kind_of
+    kind_of-fits top context name at counts ms said =
+        then_ok (AggFit top context) (or_refuse 106 (at ++ member_step said.0) (kind_name said.0)) _ (λ n.
+        next_ok (Read m context n) (AggFit top context) (kind_at n m context counts.queries (at ++ member_step said.0) said.1) _ (kind_read m context n counts.queries (at ++ member_step said.0) said.1) (λ found r.
+        next_ok (AllFit false found.within) (AggFit top context) (children_in read found.within at (counts_after found counts) ms) _ (children_in-fit false read reads found.within at (counts_after found counts) ms) (λ children c.
+        assembled_fits top context n name at ms found children r c)))
+
+    pipe_of-fits : (top : Bool) (p : PipeName) (context : ℕ) (name at : List ℕ) (counts : Counts) (ms : Members) (said : List ℕ × Data) → IfOk (pipe_of read p context name at counts ms said) (AggFit top context)
+    unfolding pipe_of
+    pipe_of-fits top p context name at counts ms said =
+        then_ok (AggFit top context) (pipe_kind_at p (at ++ member_step said.0) said.1) _ (λ kind.
+        then_ok (AggFit top context) (children_in read context at (one_more counts) ms) _ (λ children. pipe-fits top context name at ms kind children))
+
+    item_of-fits : (top : Bool) (p : Option PipeName) (context : ℕ) (name at : List ℕ) (counts : Counts) (ms : Members) (said : List ℕ × Data) → IfOk (item_of read p m top context name at counts ms said) (AggFit top context)
+    unfolding item_of
+    item_of-fits top (Some p) context name at counts ms said = pipe_of-fits top p context name at counts ms said
+    item_of-fits top None context name at counts ms said = kind_of-fits top context name at counts ms said
+
+  agg_of-fits : (top : Bool) (read : ℕ → List ℕ → List ℕ → Counts → Data → Reading (ReadItem × Counts)) → ReadsAgg false read → (context : ℕ) (name at : List ℕ) (counts : Counts) (d : Data) → IfOk (aggregation_of read m top context name at counts d) (AggFit top context)
   unfolding aggregation_of
   agg_of-fits top read reads context name at counts d =
       then_ok (AggFit top context) (object_at 103 at d) _ (λ ms.
-      then_ok (AggFit top context) (kind_member at ms) _ (λ said.
-      then_ok (AggFit top context) (or_refuse 106 (at ++ member_step said.0) (kind_name said.0)) _ (λ n.
-      next_ok (Read m context n) (AggFit top context) (kind_at n m context counts.queries (at ++ member_step said.0) said.1) _ (kind_read m context n counts.queries (at ++ member_step said.0) said.1) (λ found r.
-      next_ok (AllFit false found.within) (AggFit top context) (children_in read found.within at (counts_after found counts) ms) _ (children_in-fit false read reads found.within at (counts_after found counts) ms) (λ children c.
-      assembled_fits top context n name at ms found children r c)))))
+      then_ok (AggFit top context) (kind_member at ms) _ (λ said. item_of-fits read reads top (pipe_name said.0) context name at counts ms said))
 
   agg_at-fits : (left : ℕ) (top : Bool) → ReadsAgg top (aggregation_at left m top)
   unfolding aggregation_at
@@ -269,7 +306,8 @@ module _ (m : Mapping) where
   search_in-fits bytes ms =
       next_ok (AllFit true 0) SearchFits (children_in (aggregation_at 16 m true) 0 [] no_counts ms) _ (children_in-fit true (aggregation_at 16 m true) (agg_at-fits 16 true) 0 [] no_counts ms) (λ aggs a.
       then_ok SearchFits (optional truth_at (codes "allow_partial_search_results") [] ms) _ (λ partial.
-      next_ok (λ q. query_fits m 0 q ≡ true) SearchFits (query_or_all m aggs.1.queries (get_member (codes "query") ms)) _ (or_all_fits aggs.1.queries (get_member (codes "query") ms)) (λ q b. and_from _ _ b a)))
+      next_ok (λ q. query_fits m 0 q ≡ true) SearchFits (query_or_all m aggs.1.queries (get_member (codes "query") ms)) _ (or_all_fits aggs.1.queries (get_member (codes "query") ms)) (λ q b.
+      then_ok SearchFits (fitted_pipes Around.other aggs.0.aggs aggs.0.pipes) _ (λ pipes. and_from _ _ b a))))
 
   search_value-fits : (bytes : ℕ) (d : Data) → IfOk (search_value_at m bytes d) SearchFits
   unfolding search_value_at

@@ -46,7 +46,20 @@ fn size_of_composite(kind: &Kind) -> u32
 {
     match kind {
         Kind::Composite { size, .. } => *size,
-        _ => unreachable!(),
+        Kind::Terms { .. }
+        | Kind::Histogram { .. }
+        | Kind::DateHistogram { .. }
+        | Kind::Filters { .. }
+        | Kind::Filter { .. }
+        | Kind::Missing { .. }
+        | Kind::Global
+        | Kind::Nested { .. }
+        | Kind::ReverseNested { .. }
+        | Kind::Sum { .. }
+        | Kind::Min { .. }
+        | Kind::Max { .. }
+        | Kind::Avg { .. }
+        | Kind::ValueCount { .. } => unreachable!(),
     }
 }
 
@@ -67,7 +80,20 @@ fn is_refused_by(kind: &Kind, page: &Page, combinations: &Combinations) -> bool
             let runs = page.runs.as_slice();
             is_outside(sources, *size, after, page.held, runs, combinations)
         }
-        _ => unreachable!(),
+        Kind::Terms { .. }
+        | Kind::Histogram { .. }
+        | Kind::DateHistogram { .. }
+        | Kind::Filters { .. }
+        | Kind::Filter { .. }
+        | Kind::Missing { .. }
+        | Kind::Global
+        | Kind::Nested { .. }
+        | Kind::ReverseNested { .. }
+        | Kind::Sum { .. }
+        | Kind::Min { .. }
+        | Kind::Max { .. }
+        | Kind::Avg { .. }
+        | Kind::ValueCount { .. } => unreachable!(),
     }
 }
 
@@ -90,11 +116,25 @@ fn are_all_refused(
     ensures { IsTrue result → T (list_all (is_refused (empty_page kind.now) (in_runs runs.now))
         (keys_of_row shard.now.rows kind.now (row_of shard.now.rows row))) }
 {
-    match (kind, last_key(runs)) {
-        (Kind::Composite { size, .. }, Some(last)) => {
-            held >= *size as usize && are_behind(shard, row, kind, last, guesses)
-        }
-        _ => false,
+    match kind {
+        Kind::Composite { size, .. } => match last_key(runs) {
+            Some(last) => held >= *size as usize && are_behind(shard, row, kind, last, guesses),
+            None => false,
+        },
+        Kind::Terms { .. }
+        | Kind::Histogram { .. }
+        | Kind::DateHistogram { .. }
+        | Kind::Filters { .. }
+        | Kind::Filter { .. }
+        | Kind::Missing { .. }
+        | Kind::Global
+        | Kind::Nested { .. }
+        | Kind::ReverseNested { .. }
+        | Kind::Sum { .. }
+        | Kind::Min { .. }
+        | Kind::Max { .. }
+        | Kind::Avg { .. }
+        | Kind::ValueCount { .. } => unreachable!(),
     }
 }
 
@@ -113,7 +153,20 @@ fn find(kind: &Kind, page: &Page, combinations: &Combinations, code: Code) -> Re
             let runs = page.runs.as_slice();
             find_spot_by(sources, runs, &page.lasts, combinations, code)
         }
-        _ => unreachable!(),
+        Kind::Terms { .. }
+        | Kind::Histogram { .. }
+        | Kind::DateHistogram { .. }
+        | Kind::Filters { .. }
+        | Kind::Filter { .. }
+        | Kind::Missing { .. }
+        | Kind::Global
+        | Kind::Nested { .. }
+        | Kind::ReverseNested { .. }
+        | Kind::Sum { .. }
+        | Kind::Min { .. }
+        | Kind::Max { .. }
+        | Kind::Avg { .. }
+        | Kind::ValueCount { .. } => unreachable!(),
     }
 }
 

@@ -69,7 +69,20 @@ impl Page {
                 lasts: Lasts::new(alloc),
                 guesses: vec![in alloc; 0; sources.len()]?,
             }),
-            _ => unreachable!(),
+            Kind::Terms { .. }
+            | Kind::Histogram { .. }
+            | Kind::DateHistogram { .. }
+            | Kind::Filters { .. }
+            | Kind::Filter { .. }
+            | Kind::Missing { .. }
+            | Kind::Global
+            | Kind::Nested { .. }
+            | Kind::ReverseNested { .. }
+            | Kind::Sum { .. }
+            | Kind::Min { .. }
+            | Kind::Max { .. }
+            | Kind::Avg { .. }
+            | Kind::ValueCount { .. } => unreachable!(),
         }
     }
 }

@@ -90,12 +90,9 @@ groups-more f rows_of gs key_of groups codes i rows code x old now new same h r 
     ∙ sym (ap (λ ks. put_all rows_of gs ks old) (take-more (map key_of codes) i (key_of code) (slice_get-map key_of codes i ∙ ap (option_map key_of) c))
     ∙ put_all-more rows_of gs (take i (map key_of codes)) (key_of code) old)
 
--- an aggregation that goes by no nesting counts the rows that it is handed
-pub handed-is : (all : List PlacedRow) (k : Kind) (rows : List PlacedRow) → ((context : ℕ) → k ≡ kind.Nested context → ⊥) → ((context : ℕ) → k ≡ kind.ReverseNested context → ⊥) → (k ≡ kind.Global → ⊥) → under all [] k rows ≡ rows
-handed-is all (kind.Nested context) rows nested around whole = absurd (nested context refl)
-handed-is all (kind.ReverseNested context) rows nested around whole = absurd (around context refl)
-handed-is all kind.Global rows nested around whole = absurd (whole refl)
-handed-is all _ rows nested around whole = refl
+-- an aggregation of a kind that goes by no nesting counts the rows that it is handed
+pub handed-as : (all : List PlacedRow) (rows : List PlacedRow) {k j : Kind} → k ≡ j → under all [] j rows ≡ rows → under all [] k rows ≡ rows
+handed-as all rows is same = ap (λ q. under all [] q rows) is ∙ same
 
 -- so does a metric
 pub handed-values : (all : List PlacedRow) (k : Kind) (rows : List PlacedRow) → IsTrue (is_metric k) → under all [] k rows ≡ rows

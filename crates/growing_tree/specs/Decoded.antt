@@ -16,8 +16,12 @@ use Rattle.growing_tree.specs.declared.ready.Ready.TheOpen.{Ready-F}
 
 -- the key of a code; a bucket that exists from the start has its own
 abbrev pub decoded_key_at : (ℤ → Key) → Key → Key-F Key → Key
+decoded_key_at key_of k Key-F.Null = k
 decoded_key_at key_of k (Key-F.Whole code) = key_of code
-decoded_key_at key_of k _ = k
+decoded_key_at key_of k (Key-F.Flag b) = k
+decoded_key_at key_of k (Key-F.Word w) = k
+decoded_key_at key_of k (Key-F.Fixed n) = k
+decoded_key_at key_of k (Key-F.Many parts) = k
 
 abbrev pub decoded_key : (ℤ → Key) → Key → Key
 decoded_key key_of k = decoded_key_at key_of k (out-Key k)

@@ -13,7 +13,8 @@ use Rattle.growing_tree.specs.declared.chosen.Chosen.{Chosen}
 
 abbrev pub is_count : OrderBy → Bool
 is_count by.Count = true
-is_count _ = false
+is_count by.Key = false
+is_count (by.Child place) = false
 
 -- buckets with more rows come before those with fewer
 abbrev pub is_by_count : List Order → Bool

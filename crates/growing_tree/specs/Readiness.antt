@@ -3,7 +3,6 @@ use Rattle.std.specs.Prelude.{◌≡◌, ℕ, Bool, true, false, List, [], ◌�
 use Rattle.agg_model.specs.Options.{Options, options_of}
 use Rattle.agg_model.specs.declared.aggregation.Agg.{Agg, out-Agg}
 use Rattle.agg_model.specs.declared.aggregation.Kind.{Kind}
-use Rattle.agg_model.specs.declared.aggregation.Kind.TheVariants as kind
 use Rattle.agg_evaluation.specs.Cost.{node_cost}
 use Rattle.agg_evaluation.specs.Whole.{empty_node}
 use Rattle.date_agg.specs.Codes.{IsReady as IsReadyDates}
@@ -18,17 +17,46 @@ use Rattle.growing_tree.specs.declared.ready.ReadyKind.TheVariants.{Single, Metr
 
 -- each row that the aggregation counts has its one key
 abbrev pub has_single_key : Kind → Bool
-has_single_key kind.Global = true
-has_single_key (kind.Nested context) = true
-has_single_key (kind.ReverseNested context) = true
-has_single_key _ = false
+has_single_key k = elim (options_of k) [
+  | Options.Terms t ↦ false
+  | Options.Histogram h ↦ false
+  | Options.Filters names filters other ↦ false
+  | Options.Filter query ↦ false
+  | Options.Missing field ↦ false
+  | Options.Global ↦ true
+  | Options.Nested context ↦ true
+  | Options.ReverseNested context ↦ true
+  | Options.Composite sources size after ↦ false
+  | Options.Metric m ↦ false
+]
 
 abbrev pub is_metric : Kind → Bool
-is_metric k = elim (options_of k) [ Options.Metric m ↦ true | _ ↦ false ]
+is_metric k = elim (options_of k) [
+  | Options.Terms t ↦ false
+  | Options.Histogram h ↦ false
+  | Options.Filters names filters other ↦ false
+  | Options.Filter query ↦ false
+  | Options.Missing field ↦ false
+  | Options.Global ↦ false
+  | Options.Nested context ↦ false
+  | Options.ReverseNested context ↦ false
+  | Options.Composite sources size after ↦ false
+  | Options.Metric m ↦ true
+]
 
 abbrev pub is_composite : Kind → Bool
-is_composite (kind.Composite sources size after) = true
-is_composite _ = false
+is_composite k = elim (options_of k) [
+  | Options.Terms t ↦ false
+  | Options.Histogram h ↦ false
+  | Options.Filters names filters other ↦ false
+  | Options.Filter query ↦ false
+  | Options.Missing field ↦ false
+  | Options.Global ↦ false
+  | Options.Nested context ↦ false
+  | Options.ReverseNested context ↦ false
+  | Options.Composite sources size after ↦ true
+  | Options.Metric m ↦ false
+]
 
 -- what is prepared stands for the kind
 abbrev pub IsKindReady : Columns → Kind → ReadyKind → Type 0

@@ -65,13 +65,23 @@ put_all rows_of gs (k ∷ ks) bs = put_all rows_of gs ks (put_rows gs (rows_of k
 
 -- the level has buckets
 abbrev pub HasBuckets : Level → Type 0
+HasBuckets (Keyed k) = Unit {0}
+HasBuckets (Measured m) = Unit {0}
+HasBuckets (Counts ns) = Unit {0}
+HasBuckets (Fixed bs) = Unit {0}
 HasBuckets (Number m) = ⊥
-HasBuckets _ = Unit {0}
 
 -- a metric that takes the values of rows
 abbrev pub TakesRows : Kind → List PlacedRow → Level → Level → Type 0
+TakesRows k rows (Keyed b) new = ⊥
+TakesRows k rows (Measured b) new = ⊥
+TakesRows k rows (Counts b) new = ⊥
+TakesRows k rows (Fixed b) new = ⊥
+TakesRows k rows (Number m) (Keyed b) = ⊥
+TakesRows k rows (Number m) (Measured b) = ⊥
+TakesRows k rows (Number m) (Counts b) = ⊥
+TakesRows k rows (Number m) (Fixed b) = ⊥
 TakesRows k rows (Number m) (Number n) = n ≡ gathered_metric k rows m
-TakesRows k rows _ _ = ⊥
 
 -- a bucket without rows
 pub record IsEmptyBucket (decoders : List (Node → Node)) (children : List Node) (b : Growing) : Type 0 where

@@ -9,7 +9,7 @@ use Rattle.growth_laws.specs.Gathering.{Gatherer}
 use Rattle.growing_tree.specs.Readiness.{is_keyed, is_metric}
 use Rattle.growing_tree.specs.declared.ready.Ready.{Ready, out-Ready}
 use Rattle.growing_tree.specs.declared.ready.ReadyKind.{ReadyKind}
-use Rattle.growing_tree.specs.declared.ready.ReadyKind.TheVariants.{Metric}
+use Rattle.growing_tree.specs.declared.ready.ReadyKind.TheVariants.{Single, Metric, Terms, Filters, Histogram, DateHistogram, Composite}
 
 -- what more rows make of this is the same in two steps as at once
 pub record IsSteady {A : Type 0} (f : List PlacedRow → A → A) (x : A) : Type 0 where
@@ -24,8 +24,13 @@ AreSteady (g ∷ gs) (n ∷ ns) = IsSteady g.gather n × AreSteady gs ns
 
 -- the aggregation is a metric
 abbrev pub is_values : ReadyKind → Bool
+is_values Single = false
 is_values Metric = true
-is_values _ = false
+is_values (Terms p) = false
+is_values (Filters p) = false
+is_values (Histogram p) = false
+is_values (DateHistogram p) = false
+is_values Composite = false
 
 -- a metric, or rows with their own keys above metrics alone
 abbrev pub is_simple : Agg → Ready → Bool

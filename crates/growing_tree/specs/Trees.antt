@@ -65,4 +65,6 @@ pub record IsIndexed {G : Type 0} (codes : List ℤ) (buckets : List G) : Type 0
 abbrev pub IsAligned : Level → Type 0
 IsAligned (Keyed k) = IsIndexed k.places k.buckets.items
 IsAligned (Measured m) = IsIndexed m.places m.counts.items
-IsAligned _ = Unit {0}
+IsAligned (Counts ns) = Unit {0}
+IsAligned (Fixed bs) = Unit {0}
+IsAligned (Number m) = Unit {0}

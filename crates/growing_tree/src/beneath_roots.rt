@@ -19,7 +19,7 @@ ghost use Rattle.growing_tree.specs.Trees.{IsAligned, level_node};
 ghost use Rattle.growing_tree.specs.declared.ready.Ready.{out-Ready};
 
 use crate::in_turn::{put_each_in_tree, take_each};
-use crate::kinds::{are_metrics, is_keyed};
+use crate::kinds::are_metrics;
 use crate::ready::{Ready, ReadyKind};
 use crate::sums::sum;
 use crate::tree::{Growing, Level, Tree};
@@ -37,7 +37,11 @@ fn is_simple(agg: &Agg, ready: &Ready) -> bool
 {
     match &ready.kind {
         ReadyKind::Metric => true,
-        _ => is_keyed(&ready.kind) && are_metrics(&agg.children),
+        ReadyKind::Terms(_)
+        | ReadyKind::Filters(_)
+        | ReadyKind::Histogram(_)
+        | ReadyKind::DateHistogram(_) => are_metrics(&agg.children),
+        ReadyKind::Single | ReadyKind::Composite => false,
     }
 }
 
@@ -100,7 +104,12 @@ fn gather_simple(
             take_each(agg, ready, shard, rows, tree)?;
             Ok(())
         }
-        _ => {
+        ReadyKind::Single
+        | ReadyKind::Terms(_)
+        | ReadyKind::Filters(_)
+        | ReadyKind::Histogram(_)
+        | ReadyKind::DateHistogram(_)
+        | ReadyKind::Composite => {
             put_each_in_tree(alloc, agg, ready, shard, rows, true, spare, tree, added)?;
             Ok(())
         }

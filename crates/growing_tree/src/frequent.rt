@@ -1,6 +1,6 @@
 //! How many rows the terms have at least that are among those that a shard keeps.
 ghost use Rattle.std.specs.Prelude.{◌≡◌, ◌≤◌, ℕ, IfSome, filter, length, nat_le};
-ghost use Rattle.growing_tree.specs.Frequent.{CutsByCount, IsLeast, is_by_count as is_by_count_first};
+ghost use Rattle.growing_tree.specs.Frequent.{CutsByCount, IsLeast, is_by_count as is_by_count_first, is_count as is_by_count_alone};
 
 use agg_model::{Kind, List, Order, OrderBy};
 
@@ -10,12 +10,21 @@ const COUNTS: usize = 1024;
 // Where there are not so many times the buckets that are kept, all are.
 const TIMES: usize = 8;
 
+fn is_count(by: OrderBy) -> bool
+    ensures { result ≡ is_by_count_alone by }
+{
+    match by {
+        OrderBy::Count => true,
+        OrderBy::Key | OrderBy::Child(_) => false,
+    }
+}
+
 // Whether buckets are ordered by descending count first.
 fn is_by_count(orders: &List<Order>) -> bool
     ensures { result ≡ is_by_count_first orders.now }
 {
     match orders.as_slice().first() {
-        Some(order) => order.descending && matches!(order.by, OrderBy::Count),
+        Some(order) => order.descending && is_count(order.by),
         None => false,
     }
 }
@@ -30,7 +39,21 @@ fn kept_by_count(kind: &Kind) -> Option<u32>
             order,
             ..
         } if is_by_count(order) => Some(*shard_size),
-        _ => None,
+        Kind::Terms { .. }
+        | Kind::Histogram { .. }
+        | Kind::DateHistogram { .. }
+        | Kind::Filters { .. }
+        | Kind::Filter { .. }
+        | Kind::Missing { .. }
+        | Kind::Global
+        | Kind::Nested { .. }
+        | Kind::ReverseNested { .. }
+        | Kind::Composite { .. }
+        | Kind::Sum { .. }
+        | Kind::Min { .. }
+        | Kind::Max { .. }
+        | Kind::Avg { .. }
+        | Kind::ValueCount { .. } => None,
     }
 }
 

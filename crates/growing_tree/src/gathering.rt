@@ -77,7 +77,12 @@ fn gather_child(
             gather_values(agg, ready, shard, rows, tree)?;
             Ok(0)
         }
-        _ => {
+        ReadyKind::Single
+        | ReadyKind::Terms(_)
+        | ReadyKind::Filters(_)
+        | ReadyKind::Histogram(_)
+        | ReadyKind::DateHistogram(_)
+        | ReadyKind::Composite => {
             let more = gather(alloc, agg, ready, shard, rows, spare, tree)?;
             Ok(more)
         }
@@ -538,7 +543,18 @@ pub fn gather(
             Ok(more)
         }
         Kind::Global => Ok(0),
-        _ => {
+        Kind::Terms { .. }
+        | Kind::Histogram { .. }
+        | Kind::DateHistogram { .. }
+        | Kind::Filters { .. }
+        | Kind::Filter { .. }
+        | Kind::Missing { .. }
+        | Kind::Composite { .. }
+        | Kind::Sum { .. }
+        | Kind::Min { .. }
+        | Kind::Max { .. }
+        | Kind::Avg { .. }
+        | Kind::ValueCount { .. } => {
             let more = count(alloc, agg, ready, shard, rows, spare, tree)?;
             Ok(more)
         }

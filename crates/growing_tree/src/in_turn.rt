@@ -236,7 +236,12 @@ pub fn gather_each(
             take_each(agg, ready, shard, rows, tree)?;
             Ok(())
         }
-        _ => {
+        ReadyKind::Single
+        | ReadyKind::Terms(_)
+        | ReadyKind::Filters(_)
+        | ReadyKind::Histogram(_)
+        | ReadyKind::DateHistogram(_)
+        | ReadyKind::Composite => {
             if is_keyed(&ready.kind) {
                 let metrics = are_metrics(&agg.children);
                 put_each_in_tree(alloc, agg, ready, shard, rows, metrics, spare, tree, added)?;

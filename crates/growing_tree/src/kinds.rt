@@ -37,7 +37,23 @@ use terms_agg::{
 pub(crate) fn is_terms(kind: &Kind) -> bool
     ensures { result ≡ is_terms_kind kind.now }
 {
-    matches!(kind, Kind::Terms { .. })
+    match kind {
+        Kind::Terms { .. } => true,
+        Kind::Histogram { .. }
+        | Kind::DateHistogram { .. }
+        | Kind::Filters { .. }
+        | Kind::Filter { .. }
+        | Kind::Missing { .. }
+        | Kind::Global
+        | Kind::Nested { .. }
+        | Kind::ReverseNested { .. }
+        | Kind::Composite { .. }
+        | Kind::Sum { .. }
+        | Kind::Min { .. }
+        | Kind::Max { .. }
+        | Kind::Avg { .. }
+        | Kind::ValueCount { .. } => false,
+    }
 }
 
 /// Whether the codes are numbers of buckets that exist from the start.
@@ -224,14 +240,23 @@ pub(crate) fn are_metrics(aggs: &List<Agg>) -> bool
 fn is_metric_kind(kind: &Kind) -> bool
     ensures { result ≡ is_metric kind.now }
 {
-    matches!(
-        kind,
+    match kind {
         Kind::Sum { .. }
-            | Kind::Min { .. }
-            | Kind::Max { .. }
-            | Kind::Avg { .. }
-            | Kind::ValueCount { .. }
-    )
+        | Kind::Min { .. }
+        | Kind::Max { .. }
+        | Kind::Avg { .. }
+        | Kind::ValueCount { .. } => true,
+        Kind::Terms { .. }
+        | Kind::Histogram { .. }
+        | Kind::DateHistogram { .. }
+        | Kind::Filters { .. }
+        | Kind::Filter { .. }
+        | Kind::Missing { .. }
+        | Kind::Global
+        | Kind::Nested { .. }
+        | Kind::ReverseNested { .. }
+        | Kind::Composite { .. } => false,
+    }
 }
 
 /// The values of one more row.
@@ -254,7 +279,16 @@ pub(crate) fn take_row(
             taken.take_row(shard, row, *field, missing)?;
             Ok(())
         }
-        _ => unreachable!(),
+        Kind::Terms { .. }
+        | Kind::Histogram { .. }
+        | Kind::DateHistogram { .. }
+        | Kind::Filters { .. }
+        | Kind::Filter { .. }
+        | Kind::Missing { .. }
+        | Kind::Global
+        | Kind::Nested { .. }
+        | Kind::ReverseNested { .. }
+        | Kind::Composite { .. } => unreachable!(),
     }
 }
 

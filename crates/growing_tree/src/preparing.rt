@@ -29,6 +29,9 @@ const COUNTER_BYTES: u64 = 8;
 // from 0 on, or from the offset on. It takes 16 KiB.
 const OPEN_WIDTH: u32 = 4096;
 
+// The same of dates: the numbers of days up to 2059 lie below it, and those of longer periods.
+const DATES_WIDTH: u32 = 32_768;
+
 // What an aggregation of the kind needs of the shard.
 fn prepare_kind(alloc: Global, shard: &Shard, kind: &Kind) -> Result<ReadyKind, AllocError>
     requires { IsMadeFor shard.now kind.now }
@@ -73,9 +76,10 @@ fn most_buckets(shard: &Shard, kind: &Kind, ready: &ReadyKind) -> u64
 // The table of each tree, where there may be so many trees. They have it from the start where all of them find room for it.
 fn table_of(agg: &Agg, kind: &ReadyKind, codes: u64, trees: u64, room: &mut TableRoom) -> Table {
     let width = match kind {
-        ReadyKind::Terms(_) | ReadyKind::Histogram(_) | ReadyKind::DateHistogram(_) => {
+        ReadyKind::Terms(_) | ReadyKind::Histogram(_) => {
             u32::try_from(codes).unwrap_or(OPEN_WIDTH)
         }
+        ReadyKind::DateHistogram(_) => u32::try_from(codes).unwrap_or(DATES_WIDTH),
         ReadyKind::Filters(_) => u32::try_from(codes).unwrap_or(0),
         ReadyKind::Single | ReadyKind::Metric | ReadyKind::Composite => 0,
     };

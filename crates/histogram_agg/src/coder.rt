@@ -65,8 +65,8 @@ pub fn put_codes<C: Coder>(
 pub fn count_codes<C: Coder>(shard: &Shard, coder: &C, row: u32) -> u64
     requires in_range { row < length shard.now.rows }
     requires can { All (C.can_code coder.now) (wholes_in (values_of (C.field_of coder.now) (row_of shard.now.rows row))) }
-    ensures { result
-        ≡ length (row_codes (C.missing_of coder.now) (C.code_of coder.now) (C.is_kept coder.now) (values_of (C.field_of coder.now) (row_of shard.now.rows row))) }
+    ensures { result ≡ length
+        (row_codes (C.missing_of coder.now) (C.code_of coder.now) (C.is_kept coder.now) (values_of (C.field_of coder.now) (row_of shard.now.rows row))) }
 {
     let numbers = shard.numbers(row, coder.field());
     if numbers.is_empty() && shard.value_count(row, coder.field()) == 0 {

@@ -6,6 +6,7 @@ mod intervals;
 mod prepared;
 mod preparing;
 mod row_codes;
+mod row_keys;
 
 pub use coder::{Coder, count_codes, only_code, put_codes};
 pub use intervals::interval_start;
@@ -14,3 +15,4 @@ pub use preparing::{
     codes_have_keys_of_their_own, key, key_bytes, made_histograms_can_be_prepared, prepare,
 };
 pub use row_codes::{codes, count, lone_code};
+pub use row_keys::{key_count, keys};

@@ -19,7 +19,7 @@ pub record Pool : Type 0 where
   pub ceilings : List ℕ
 
 abbrev pub no_search : Search
-no_search = record { query = All; aggs = []; body_bytes = 0; partial = false }
+no_search = record { query = All; aggs = []; body_bytes = 0; partial = false; pipes = [] }
 
 abbrev pub no_pool : Pool
 no_pool = record {

@@ -7,6 +7,7 @@ use Rattle.agg_model.specs.declared.partial.Node.TheVariants.{Keyed}
 use Rattle.agg_model.specs.declared.query.Query.TheVariants.{All}
 use Rattle.agg_model.specs.declared.aggregation.Agg.{Agg, out-Agg}
 use Rattle.agg_model.specs.declared.aggregation.Kind.{Kind}
+use Rattle.agg_model.specs.declared.pipeline.Pipe.{Pipe}
 use Rattle.agg_evaluation.proofs.Computing.{computing}
 use Rattle.agg_evaluation.specs.Folds.{fold_agg}
 use Rattle.agg_evaluation.specs.Trees.{pass_each}
@@ -20,9 +21,9 @@ use Rattle.agg_evaluation.proofs.AggFolds.{fold_agg-level}
 use Rattle.final_reduce.proofs.FinishableLaws.{is_finishable-level}
 
 -- a search for one aggregation
-pub one_is_made : (aggs : List Agg) (agg : Agg) (body_bytes : ℕ) (partial : Bool) → aggs ≡ agg ∷ [] → agg_fits sample_mapping true 0 agg ≡ true
-    → IsMade (record { query = All; aggs = aggs; body_bytes = body_bytes; partial = partial })
-one_is_made aggs agg body_bytes partial is_agg fits =
+pub one_is_made : (aggs : List Agg) (agg : Agg) (body_bytes : ℕ) (partial : Bool) (pipes : List Pipe) → aggs ≡ agg ∷ [] → agg_fits sample_mapping true 0 agg ≡ true
+    → IsMade (record { query = All; aggs = aggs; body_bytes = body_bytes; partial = partial; pipes = pipes })
+one_is_made aggs agg body_bytes partial pipes is_agg fits =
     ∣ (sample_mapping, and_from (query_fits sample_mapping 0 All) _ refl (ap (list_all (agg_fits sample_mapping true 0)) is_agg ∙ and_from (agg_fits sample_mapping true 0 agg) _ fits refl)) ∣₁
 
 pub one_can_finish : (aggs : List Agg) (nodes : List Node) (agg : Agg) (node : Node) → aggs ≡ agg ∷ [] → nodes ≡ node ∷ [] → is_finishable agg node ≡ true

@@ -2,6 +2,7 @@
 //! want of memory, meets its contract and fails here. What is wanted was computed by another program.
 //!
 //! Each row is made by a function that promises nothing of it, since what a test knows of its texts makes its proof long.
+use crate::pipelines;
 use crate::runs::{Ended, run_words};
 use agg_model::Bytes;
 use std::alloc::Global;
@@ -13,12 +14,12 @@ use worker_gate::{Gate, OpenGate, Point};
 
 /// A script, the words that it is run with, and how the run ends.
 #[derive(Drop)]
-struct Case {
-    name: &'static str,
-    words: &'static str,
-    script: &'static str,
-    output: &'static str,
-    status: u8,
+pub(crate) struct Case {
+    pub name: &'static str,
+    pub words: &'static str,
+    pub script: &'static str,
+    pub output: &'static str,
+    pub status: u8,
 }
 
 /// Settings lines that are accepted and refused, and too many buckets.
@@ -591,6 +592,12 @@ fn each_class_of_answers_is_given(rt: HostRuntime) -> Result<(), Fail> {
         aggregations(),
         queries(),
         wide_sum(),
+        pipelines::below_and_beside(),
+        pipelines::at_the_top(),
+        pipelines::rarest_term(),
+        pipelines::months(),
+        pipelines::wide_total(),
+        pipelines::in_pages(),
     ];
     for case in &cases {
         check(&rt, rt.alloc(), case, 1, &OpenGate)?;

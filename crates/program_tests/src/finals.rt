@@ -44,6 +44,7 @@ pub(crate) fn of_one(alloc: Global, agg: Agg, node: Node) -> Result<Sample, Allo
             aggs: one(alloc, agg)?,
             body_bytes: 0,
             partial: false,
+            pipes: List::new(alloc),
         },
         whole: Partial {
             hits: 9,

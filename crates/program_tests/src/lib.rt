@@ -33,6 +33,8 @@ mod partials;
 #[cfg(test)]
 mod parts;
 #[cfg(test)]
+mod pipelines;
+#[cfg(test)]
 mod pools;
 #[cfg(test)]
 mod refusals;

@@ -30,6 +30,7 @@ fn search(alloc: Global) -> Result<Search, AllocError> {
         aggs,
         body_bytes: 95,
         partial: false,
+        pipes: List::new(alloc),
     })
 }
 

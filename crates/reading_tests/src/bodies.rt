@@ -41,7 +41,12 @@ fn is_refused(found: Result<Search, RequestFault>, wanted: u16, pointer: &str) -
 }
 
 /// Asserts that each body is refused with its number and its pointer.
-fn expect_refused(rt: &impl Abort, alloc: Global, mapping: &Mapping, rows: &[(u16, &str, &str)])
+pub(crate) fn expect_refused(
+    rt: &impl Abort,
+    alloc: Global,
+    mapping: &Mapping,
+    rows: &[(u16, &str, &str)],
+)
     requires { IsOrdered mapping.now }
 {
     for &(code, pointer, body) in rows {
@@ -95,6 +100,12 @@ fn each_refusal_has_its_number_and_its_pointer(rt: HostRuntime) -> Result<(), Fa
             "/aggs/a/terms/order/x~1y",
             "{\"aggs\":{\"a\":{\"terms\":{\"field\":\"t\",\"order\":{\"x/y\":\"asc\"}}}}}",
         ),
+        (
+            114,
+            "/aggs/a/sum_bucket/buckets_path",
+            "{\"aggs\":{\"a\":{\"sum_bucket\":{\"buckets_path\":\"x>_count\"}}}}",
+        ),
+        (115, "/aggs/a", "{\"aggs\":{\"a\":{\"bucket_sort\":{}}}}"),
     ];
     expect_refused(&rt, rt.alloc(), &mapping, rows);
     Ok(())

@@ -1,6 +1,7 @@
 //! Copies of plain types, lent bytes and texts, and the order of keys.
 use agg_model::{
-    Agg, Boxed, Bytes, CompositeSource, Copying, Key, Kind, List, Probe, Query, Search, Text,
+    Agg, Boxed, Bytes, CompositeSource, Copying, Key, Kind, List, Pipe, PipeKind, PipeOrder,
+    PipePath, Probe, Query, Search, Text,
 };
 use std::alloc::{AllocError, Global};
 use std::test::Fail;
@@ -11,7 +12,24 @@ fn one<T: Drop>(alloc: Global, item: T) -> Result<List<T>, AllocError> {
     Ok(items)
 }
 
-/// A composite over one source after a key, under a nested query.
+/// A cut of buckets by the value of a child.
+fn pipe(alloc: Global) -> Result<Pipe, AllocError> {
+    let order = PipeOrder {
+        path: PipePath::Child(1),
+        descending: true,
+    };
+    Ok(Pipe {
+        at: one(alloc, 0)?,
+        name: Text::of(alloc, "p")?,
+        kind: PipeKind::BucketSort {
+            sort: one(alloc, order)?,
+            from: 2,
+            size: Some(3),
+        },
+    })
+}
+
+/// A composite over one source after a key, under a nested query, with a pipeline.
 fn search(alloc: Global) -> Result<Search, AllocError> {
     let value = Probe::Word(Text::of(alloc, "k")?);
     let query = Boxed::new(alloc, Query::Term { field: 1, value })?;
@@ -37,6 +55,7 @@ fn search(alloc: Global) -> Result<Search, AllocError> {
         aggs: one(alloc, agg)?,
         body_bytes: 7,
         partial: false,
+        pipes: one(alloc, pipe(alloc)?)?,
     })
 }
 

@@ -26,6 +26,8 @@ mod mappings;
 #[cfg(test)]
 mod parts;
 #[cfg(test)]
+mod pipelines;
+#[cfg(test)]
 mod queries;
 #[cfg(test)]
 mod routings;

@@ -16,7 +16,6 @@ mod kind;
 mod metrics;
 mod names;
 mod numbers;
-mod offsets;
 mod orders;
 mod periods;
 mod resolving;
@@ -25,4 +24,6 @@ mod terms;
 
 pub use kind::{kind_at, kind_name};
 pub use names::is_name;
-pub use resolving::{resolved, with_order};
+pub use numbers::small_in;
+pub use orders::direction;
+pub use resolving::{child_named, resolved, with_order};

@@ -17,7 +17,7 @@ use std::alloc::{AllocError, Global};
 
 /// Whether a direction, `asc` or `desc`, is descending.
 #[tactic(auto, unfolding(agg_reading::specs::Orders::direction_at))]
-fn direction(alloc: Global, at: &At<'_>, value: &Value) -> Result<bool, RequestFault>
+pub fn direction(alloc: Global, at: &At<'_>, value: &Value) -> Result<bool, RequestFault>
     ensures { Gives (λ x. x) result (direction_at (pointer at.now) (view value.now)) }
 {
     let word = choice(alloc, &["asc", "desc"], at, value)?;

@@ -11,16 +11,19 @@ ghost use Rattle.agg_reading.specs.Reading.{Gives};
 ghost use Rattle.agg_reading.specs.Json.{optional};
 ghost use Rattle.agg_reading.specs.DateHistogram.{calendar_period, unit_millis, is_amount, fixed_of, fixed_period, zone_of, said_at};
 
-use crate::offsets::{OFFSET_LENGTH, ahead_of};
 use agg_model::body_refusal::{OUT_OF_RANGE, WRONG_TYPE};
 use agg_reading::RequestFault;
 use date_spec::Period;
+use date_text::ahead_of;
 use json_walk::{At, member, text};
 use serde_json::{Map, Value};
 use std::alloc::Global;
 
 /// The greatest number of units of a fixed interval.
 const GREATEST_AMOUNT: u64 = 2_147_483_647;
+
+/// How many bytes an offset from UTC has as a zone, as `+01:00`.
+const OFFSET_LENGTH: usize = 6;
 
 /// The period of the calendar that has this name.
 #[tactic(auto, unfolding(agg_reading::specs::DateHistogram::calendar_period))]

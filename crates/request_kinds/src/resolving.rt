@@ -62,7 +62,7 @@ fn child_ended(children: &[Agg], ending: &str, name: &str) -> Option<u32>
 
 /// The place of the child of this name, else of the child whose name with `.value` is this name.
 #[tactic(auto, unfolding(agg_reading::specs::Orders::child_named))]
-fn child_named(children: &[Agg], name: &str) -> Option<u32>
+pub fn child_named(children: &[Agg], name: &str) -> Option<u32>
     requires { length children.now ≤ MAX_AGGREGATIONS }
     ensures { result ≡ child_named name.now children.now }
 {

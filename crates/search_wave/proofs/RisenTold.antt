@@ -17,8 +17,8 @@ use Rattle.agg_spec.specs.BucketCount.{total_buckets}
 use Rattle.agg_spec.specs.Charges.{Amounts, amount_at, amounts_sum, no_amounts, one_at}
 use Rattle.agg_spec.specs.Failures.{unfailed}
 use Rattle.agg_spec.specs.Index.{Index}
-use Rattle.agg_spec.specs.Outcome.{answer_of, answer_outcome, line_in_range, outcome_of_shards}
-use Rattle.agg_spec.specs.RangeCheck.{out_of_range}
+use Rattle.agg_spec.specs.Notes.{piped}
+use Rattle.agg_spec.specs.Outcome.{answer_of, answer_outcome, line_in_range, outcome_of_shards, wide_path}
 use Rattle.agg_spec.specs.Response.{response_line}
 use Rattle.agg_spec.specs.Rises.{exception_trips, sum_of_amounts, told_trips}
 use Rattle.breaker_words.specs.declared.view.View.{View}
@@ -75,10 +75,10 @@ answered-none x s left index max search fs answer = by_count (nat_lt max (total_
     by_count : (b : Bool)
         → amount_at x (exception_trips (s ∷ left) (elim b as (λ z. Outcome) [
           | true ↦ ended.Refused (refused.TooManyBuckets (total_buckets search answer) max)
-          | false ↦ line_in_range (out_of_range search answer) (response_line search index.mapping answer (length index.shards) fs)
+          | false ↦ line_in_range (wide_path search answer) (response_line search index.mapping (piped search answer) (length index.shards) fs)
         ])) ≡ 0
     by_count true = at-none x
-    by_count false = printed-none x s left (out_of_range search answer) (response_line search index.mapping answer (length index.shards) fs)
+    by_count false = printed-none x s left (wide_path search answer) (response_line search index.mapping (piped search answer) (length index.shards) fs)
 
 -- the whole reduction has an exception only where no shard is left
 pub reduced-none : (x : Which) (index : Index) (max : ℕ) (search : Search) (fs : List Failure) (left : List ℕ) → amount_at x (exception_trips left (outcome_of_shards index max search fs left)) ≡ 0

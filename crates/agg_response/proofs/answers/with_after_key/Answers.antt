@@ -17,5 +17,6 @@ returns-in_ok-composite_value-in-Some c =
     let last = last_is c.args.buckets.now c.in-Some.bucket.now (c.in-Some.ensures.value ∙ place) in
     subst (λ ms. IfOk c.with.result (λ o. members_view o.members.entries ≡ ms))
     (ap (λ d. with_member (codes "after_key") d old) c.in_ok-composite_value-in-Some.ensures
-    ∙ sym (ap (λ (o : Option BucketAnswer). with_members (option_map_or (λ b. (codes "after_key", composite_value c.args.sources.now (out-BucketAnswer b).key) ∷ []) o []) old) last))
+    ∙ sym (ap (λ (o : Option BucketAnswer). with_members
+    (option_map_or (λ b. (codes "after_key", composite_value c.args.sources.now (out-BucketAnswer b).key) ∷ []) o []) old) last))
     c.with.ensures

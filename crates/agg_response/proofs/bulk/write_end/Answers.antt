@@ -13,4 +13,5 @@ returns-in_ok-write_count-in-Applied c =
 pub returns-in_ok-write_count-in-Refused : goal.returns-in_ok-write_count-in-Refused
 returns-in_ok-write_count-in-Refused c =
     as_tokens (ap (λ e. member_tokens (end_members (end_of e))) (sym c.in-Refused.is))
-    (next (one c.in_ok-key-in-Refused.ensures) (next c.in_ok-write_error-in-Refused.ensures (by_count c.refusal_status.ensures c.in_ok-write_count-in-Refused.ensures)))
+    (next (one c.in_ok-key-in-Refused.ensures) (next c.in_ok-write_error-in-Refused.ensures
+    (by_count c.refusal_status.ensures c.in_ok-write_count-in-Refused.ensures)))

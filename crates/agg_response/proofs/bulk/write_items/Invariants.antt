@@ -7,5 +7,6 @@ use Rattle.agg_response.proofs.bulk.write_items.Given as goal
 abbrev pub invariant-loop-place : goal.invariant-loop-place
 invariant-loop-place l = record {
   before : l.out.before ≡ l.initial.out.before;
-  rest : l.out.tokens ++ values_tokens (map (item_value l.index) (drop l.place l.items)) ≡ l.initial.out.tokens ++ values_tokens (map (item_value l.index) l.items);
+  rest : l.out.tokens ++ values_tokens (map (item_value l.index) (drop l.place l.items))
+      ≡ l.initial.out.tokens ++ values_tokens (map (item_value l.index) l.items);
 }

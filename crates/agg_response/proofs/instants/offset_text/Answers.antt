@@ -18,7 +18,8 @@ returns-then-zone-lt0 c =
     let text = hours_written (styled_decimal c.laid_out.result (minutes / 60)) (styled_decimal c.laid_out-then-zone-lt0.result (minutes % 60)) minutes
     (ap (λ s. styled_decimal s (minutes / 60)) c.laid_out.ensures ∙ padded-two (minutes / 60))
     (ap (λ s. styled_decimal s (minutes % 60)) c.laid_out-then-zone-lt0.ensures ∙ padded-two (minutes % 60)) in
-    subst (λ bs. IfOk c.format.result (λ s. string_bytes s ≡ bs)) (ap (λ bs. codes "-" ++ bs) (text ∙ ap hours_text all) ∙ behind_utc c.args.zone less) c.format.ensures.ok
+    subst (λ bs. IfOk c.format.result (λ s. string_bytes s ≡ bs))
+    (ap (λ bs. codes "-" ++ bs) (text ∙ ap hours_text all) ∙ behind_utc c.args.zone less) c.format.ensures.ok
 
 pub returns-then-zone-gt0 : goal.returns-then-zone-gt0
 returns-then-zone-gt0 c =
@@ -26,7 +27,9 @@ returns-then-zone-gt0 c =
     let minutes = c.unsigned_abs-minutes.result / 60_000 in
     let all : minutes ≡ unsigned_abs c.args.zone / 60_000 = ap (λ n. n / 60_000) (c.unsigned_abs-minutes.ensures.value ∙ ap unsigned_abs zone) in
     let more : pos 0 <ℤ c.args.zone = omega (arith, ints, zone, c.if-zone-gt0.true) in
-    let text = hours_written (styled_decimal c.laid_out-then-zone-gt0.result (minutes / 60)) (styled_decimal c.laid_out-then-zone-gt0-2.result (minutes % 60)) minutes
+    let text = hours_written (styled_decimal c.laid_out-then-zone-gt0.result (minutes / 60))
+    (styled_decimal c.laid_out-then-zone-gt0-2.result (minutes % 60)) minutes
     (ap (λ s. styled_decimal s (minutes / 60)) c.laid_out-then-zone-gt0.ensures ∙ padded-two (minutes / 60))
     (ap (λ s. styled_decimal s (minutes % 60)) c.laid_out-then-zone-gt0-2.ensures ∙ padded-two (minutes % 60)) in
-    subst (λ bs. IfOk c.format-then-zone-gt0.result (λ s. string_bytes s ≡ bs)) (ap (λ bs. codes "+" ++ bs) (text ∙ ap hours_text all) ∙ ahead_of_utc c.args.zone more) c.format-then-zone-gt0.ensures.ok
+    subst (λ bs. IfOk c.format-then-zone-gt0.result (λ s. string_bytes s ≡ bs))
+    (ap (λ bs. codes "+" ++ bs) (text ∙ ap hours_text all) ∙ ahead_of_utc c.args.zone more) c.format-then-zone-gt0.ensures.ok

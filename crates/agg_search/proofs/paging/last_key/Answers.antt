@@ -1,10 +1,12 @@
-use Rattle.std.proofs.Common.{◌∙◌, ap, sym, rules}
-use Rattle.std.specs.Prelude.{List, slice_index_or}
-use Rattle.agg_model.specs.declared.answer.NodeAnswer.{NodeAnswer}
+use Rattle.std.proofs.Common.{◌∙◌, None, Some, ap, sym}
+use Rattle.std.specs.Prelude.{option_copied}
+use Rattle.std.specs.List.{last_or}
+use Rattle.agg_response.proofs.LastItem.{last_is}
 use Rattle.agg_search.proofs.LastKeys.{last-of}
 use Rattle.agg_search.proofs.paging.last_key.Goals as goal
 
-pub returns : goal.returns
-returns c = last-of c.args.answer.nodes c.remove-node.result c.pop.new.self.items c.in_ok-last.last (λ e. search rules)
-    (c.remove-node.ensures.value ∙ ap (λ (ns : List NodeAnswer). slice_index_or ns 0 c.remove-node.result) c.into_vec.ensures)
-    (sym c.into_vec-2.ensures ∙ c.in_ok-last.ensures.items)
+pub returns-in_ok-copy-in-Some-last : goal.returns-in_ok-copy-in-Some-last
+returns-in_ok-copy-in-Some-last c =
+    ap Some c.in_ok-copy-in-Some-last.ensures
+    ∙ last-of c.args.answer.now.nodes c.in-Some.node.now c.in-Some-last.bucket.now (sym c.get.ensures ∙ ap option_copied c.in-Some.is)
+    (ap (last_or None) (sym c.as_slice.ensures) ∙ last_is c.as_slice.result.now c.in-Some-last.bucket.now (sym (sym c.last.ensures.value ∙ ap option_copied c.in-Some-last.is)))

@@ -14,8 +14,8 @@ pub returns-then-held-size : goal.returns-then-held-size
 returns-then-held-size c says =
     let k = c.args.kind.now in
     let hs = in_runs c.args.runs.now in
-    let is_last = sym c.last_key.ensures ∙ ap option_copied c.in-Composite-Some.is-1 in
-    let most : c.in-Composite-Some.size ≤ length hs = search rules in
-    let many : nat_le c.in-Composite-Some.size (length hs) ≡ true = grind (arith, nat_tests) in
-    let full = ap (λ (j : Kind). nat_le (empty_page j).size (length hs)) c.in-Composite-Some.is-0 ∙ many in
-    all-kept-out (sources_of k) (empty_page k).size (empty_page k).after hs c.in-Composite-Some.last.now c.requires.order is_last full (keys c.args.shard.now.rows k (row_of c.args.shard.now.rows c.args.row)) (c.are_behind.ensures says)
+    let is_last = sym c.last_key.ensures ∙ ap option_copied c.in-Some.is in
+    let most : c.in-Composite.size ≤ length hs = search rules in
+    let many : nat_le c.in-Composite.size (length hs) ≡ true = grind (arith, nat_tests) in
+    let full = ap (λ (j : Kind). nat_le (empty_page j).size (length hs)) c.in-Composite.is ∙ many in
+    all-kept-out (sources_of k) (empty_page k).size (empty_page k).after hs c.in-Some.last.now c.requires.order is_last full (keys c.args.shard.now.rows k (row_of c.args.shard.now.rows c.args.row)) (c.are_behind.ensures says)

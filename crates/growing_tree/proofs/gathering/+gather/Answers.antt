@@ -1,4 +1,4 @@
-use Rattle.std.proofs.Common.{sym, ◌∙◌, ap, subst, arith, rules, ◌≡◌, ◌<◌, ◌≤◌, ◌+◌, ◌-◌, ℕ, ℤ, List, [], length, map, sum_by, get_or, w64, to_z, of_z, pos}
+use Rattle.std.proofs.Common.{⊎_elim, refl, sym, ◌∙◌, ap, subst, arith, rules, ◌≡◌, ◌<◌, ◌≤◌, ◌+◌, ◌-◌, ℕ, ℤ, List, [], length, map, sum_by, get_or, w64, to_z, of_z, pos}
 use Rattle.std.specs.Prelude.{◌==◌, slice_get, flat_map}
 use Rattle.std.specs.List.{IsDistinct}
 use Rattle.std.specs.Ordering.{int_eq}
@@ -22,7 +22,7 @@ use Rattle.growing_tree.proofs.AggSizes.{children_less, item-most}
 use Rattle.growing_tree.proofs.Children.{child-more, child-cost, take-full}
 use Rattle.growing_tree.proofs.Codes.{codes-own}
 use Rattle.growing_tree.proofs.Ascents.{level-up}
-use Rattle.growing_tree.proofs.Counting.{groups-more, handed-is, keyed-counted, keyed-keeps, level-cost, metric-cost, metric-counted, nothing-there, one-item, single-counted}
+use Rattle.growing_tree.proofs.Counting.{groups-more, handed-as, keyed-counted, keyed-keeps, level-cost, metric-cost, metric-counted, nothing-there, one-item, single-counted}
 use Rattle.growing_tree.proofs.Finals.{groups-are, groups-within, many-rows, one-row}
 use Rattle.growing_tree.proofs.Levels.{children-ready, level-ready, counted-none, empties-are, gathered-is}
 use Rattle.growing_tree.proofs.Putting.{number-bytes, put-number}
@@ -338,15 +338,26 @@ count_keyed-returns-clause-buckets t c =
     ∙ many-rows shard.rows k rows key_of own codes groups are distinct (gatherers shard (out-Agg c.args.agg.now).children) (shown_level shard r c.args.level.now)
     (keyed-keeps shard k (out-Ready r).kind ready c.requires.keyed) (level-up ds key_of own c.args.level.now c.requires.aligned)
 
-pub gather-returns-in_ok-more-in_default : goal.gather-returns-in_ok-more-in_default
-gather-returns-in_ok-more-in_default t c =
+pub gather-returns-in_ok-more-in-Terms : goal.gather-returns-in_ok-more-in-Terms
+gather-returns-in_ok-more-in-Terms t c =
     let rows = c.args.shard.now.rows in
     let handed = map (row_of rows) c.args.rows.now in
     (record {
-      tree = c.in_ok-more-in_default.ensures.tree
+      tree = c.in_ok-more-in-Terms.ensures.tree
           ∙ sym (gathered-is rows c.args.agg.now handed handed (decoded c.args.shard.now c.args.ready.now c.args.tree.now)
-          (handed-is rows (out-Agg c.args.agg.now).kind handed c.in_default.not-Nested c.in_default.not-ReverseNested c.in_default.not-Global));
-      cost = c.in_ok-more-in_default.ensures.cost;
+          (⊎_elim (λ h. handed-as rows handed h.9 refl)
+          (⊎_elim (λ h. handed-as rows handed h.9 refl)
+          (⊎_elim (λ h. handed-as rows handed h.9 refl)
+          (⊎_elim (λ h. handed-as rows handed h.3 refl)
+          (⊎_elim (λ h. handed-as rows handed h.1 refl)
+          (⊎_elim (λ h. handed-as rows handed h.1 refl)
+          (⊎_elim (λ h. handed-as rows handed h.3 refl)
+          (⊎_elim (λ h. handed-as rows handed h.2 refl)
+          (⊎_elim (λ h. handed-as rows handed h.2 refl)
+          (⊎_elim (λ h. handed-as rows handed h.2 refl)
+          (⊎_elim (λ h. handed-as rows handed h.2 refl)
+          (λ h. handed-as rows handed h.2 refl))))))))))) c.in-Terms.is));
+      cost = c.in_ok-more-in-Terms.ensures.cost;
     })
 
 pub count-returns-in_ok-more-in-Single-clause-tree : goal.count-returns-in_ok-more-in-Single-clause-tree

@@ -9,6 +9,7 @@ use Rattle.agg_response.proofs.values.Array.with.Goals as goal
 pub invariant_of-result : goal.invariant_of-result
 invariant_of-result c = record {
   no_float =
-      ap (λ vs. items_have_float (items_view vs)) c.in_ok-push.ensures.items ∙ ap (λ ds. items_have_float (items_of ds)) (map-append view c.args.self.items.items (c.args.json.value ∷ []))
+      ap (λ vs. items_have_float (items_view vs)) c.in_ok-push.ensures.items
+      ∙ ap (λ ds. items_have_float (items_of ds)) (map-append view c.args.self.items.items (c.args.json.value ∷ []))
       ∙ items_have_float-append (map view c.args.self.items.items) (view c.args.json.value) c.args.self.no_float c.args.json.no_float;
 }
