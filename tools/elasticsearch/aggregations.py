@@ -3,15 +3,16 @@ import math
 import re
 
 from elasticsearch import dates, exact
+from elasticsearch.pipelines import PIPELINES, Pipelines, kind_of
 from elasticsearch.values import Refused
 
 METRICS = ('sum', 'min', 'max', 'avg', 'value_count')
-PIPELINES = ('avg_bucket', 'bucket_count_ks_test', 'bucket_correlation', 'bucket_script', 'bucket_selector', 'bucket_sort', 'change_point',
-             'cumulative_cardinality', 'cumulative_sum', 'derivative', 'extended_stats_bucket', 'inference', 'max_bucket', 'min_bucket',
-             'moving_avg', 'moving_fn', 'moving_percentiles', 'normalize', 'percentiles_bucket', 'serial_diff', 'stats_bucket', 'sum_bucket')
+OTHER_PIPELINES = ('avg_bucket', 'bucket_count_ks_test', 'bucket_correlation', 'bucket_script', 'bucket_selector', 'change_point',
+                   'cumulative_cardinality', 'extended_stats_bucket', 'inference', 'moving_avg', 'moving_fn', 'moving_percentiles', 'normalize',
+                   'percentiles_bucket', 'serial_diff', 'stats_bucket')
 # Why each kind that has no equal here has none, and what may take its place.
 ADVICE = {
-    **{it: 'there are no pipelines: reckon it from the answer' for it in PIPELINES},
+    **{it: 'there is no such pipeline: reckon it from the answer' for it in OTHER_PIPELINES},
     'cardinality': 'there are no estimates: a composite of the field with --scan has each value once, so its buckets are the exact number',
     'stats': 'write sum, min, max, avg and value_count beside one another',
     'extended_stats': 'squares are not summed here',
@@ -55,14 +56,18 @@ class Aggregations:
 
     def __init__(self, search):
         self.search = search
+        self.pipelines = Pipelines(search)
 
-    def all(self, aggs, at):
+    def all(self, aggs, at, around=None):
+        """The aggregations and pipelines of one object, within the aggregation around it."""
         if not isinstance(aggs, dict):
             return aggs
         out = {}
         for name, it in aggs.items():
+            here = f'{at}/{name}'
             try:
-                out[name] = self.one(it, f'{at}/{name}')
+                is_pipeline = kind_of(it)[0] in PIPELINES
+                out[name] = self.pipelines.one(it, here, name, aggs, around) if is_pipeline else self.one(it, here)
             except Refused as why:
                 self.search.refuse(why.at or f'{at}/{name}', why.reason)
                 out[name] = it
@@ -87,7 +92,7 @@ class Aggregations:
         if below is not None:
             for kind, form in out.items():
                 self._check_order(form, below[1], f'{at}/{kind}/order')
-            out[below[0]] = self.all(below[1], f'{at}/{below[0]}')
+            out[below[0]] = self.all(below[1], f'{at}/{below[0]}', agg)
         while self.search.depth() > depth:
             self.search.leave()
         return out
