@@ -1,0 +1,3 @@
+pub mod CachedLaws
+pub mod NothingKept
+pub mod WholeReduction

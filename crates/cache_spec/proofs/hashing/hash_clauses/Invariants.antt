@@ -1,0 +1,6 @@
+use Rattle.std.specs.Prelude.{◌≡◌, ◌≤◌, flat_map, fold, length, take}
+use Rattle.cache_spec.specs.Hashing.{clause_input}
+use Rattle.cache_spec.proofs.hashing.hash_clauses.Given as goal
+
+abbrev pub invariant-loop-i : goal.invariant-loop-i
+invariant-loop-i g l = (l.i ≤ length l.clauses) × (l.state ≡ fold g.H.Hasher.write l.initial.state (flat_map clause_input (take l.i l.clauses)))

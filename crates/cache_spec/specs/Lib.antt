@@ -1,0 +1,4 @@
+-- A shard request cache, defined.
+pub mod Hashing
+pub mod Cache
+pub mod CachedAnswers

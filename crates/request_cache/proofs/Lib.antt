@@ -1,0 +1,5 @@
+mod EqualEntries
+mod KeptEntries
+pub mod AnswersKept
+mod PaidInFull
+pub mod ShardRooms

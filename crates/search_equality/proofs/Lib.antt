@@ -1,0 +1,6 @@
+mod EqualParts
+mod EqualKeys
+mod EqualQueries
+mod EqualKinds
+mod EqualPipes
+pub mod EqualSearches

@@ -1,0 +1,2 @@
+-- The test of searches.
+pub mod Equality
