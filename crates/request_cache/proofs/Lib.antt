@@ -3,3 +3,4 @@ mod KeptEntries
 pub mod AnswersKept
 mod PaidInFull
 pub mod ShardRooms
+mod TaskEnds

@@ -73,4 +73,4 @@ module _ (search : Search) (all : List PlacedRow) where
   pub done-given-up : (l : Limits) (v u w : View) → IsDone l v u search all → IsGivenBack u child.Request (cost (shard_answer search all)) w → GivesUp v w search all
   done-given-up l v u w done back =
       let up = given-up l v u ns (done-paid l v u done) (cost (shard_answer search all)) (sym (amounts-total search all)) w back in
-      (length ns, subst (IsGivenUp v w) (sym (take_all (length ns) ns (omega arith))) up)
+      inr (length ns, subst (IsGivenUp v w) (sym (take_all (length ns) ns (omega arith))) up)

@@ -1,6 +1,6 @@
 -- How a task ends that asks first for an answer that was kept ('Shard request cache'; 'Circuit breaker settings': the request circuit
 -- breaker).
-use Rattle.std.specs.Prelude.{◌≡◌, ◌≤◌, ℕ, ◌==◌, Bool, true, false, List, take}
+use Rattle.std.specs.Prelude.{◌≡◌, ◌⊎◌, ◌≤◌, ℕ, ◌==◌, Bool, true, false, List, take}
 use Rattle.agg_evaluation.specs.Cost.{cost}
 use Rattle.agg_evaluation.specs.Rows.{PlacedRow}
 use Rattle.agg_evaluation.specs.Shard.{shard_answer}
@@ -30,6 +30,7 @@ module _ (l : Limits) (v u : View) (search : Search) (all : List PlacedRow) wher
   IsTaskRefused true t = let bytes = cost (shard_answer search all) in (1 ≤ bytes) × IsTripped l v Request bytes t u
   IsTaskRefused false t = IsRefused l v u (trace search all) t
 
--- memory ran out after some of the task's amounts, or where its answer was to be kept: all that it held is given back
+-- memory ran out: before the first charge, after some of the task's amounts, or where its answer was to be kept, and all that it held
+-- is given back
 abbrev pub GivesUp : View → View → Search → List PlacedRow → Type 0
-GivesUp v u search all = (n : ℕ) × IsGivenUp v u (take n (amounts search all))
+GivesUp v u search all = (u ≡ v) ⊎ ((n : ℕ) × IsGivenUp v u (take n (amounts search all)))

@@ -13,4 +13,4 @@ invariant_of-self c = record {
 pub returns-in-Ok-clause-entries : goal.returns-in-Ok-clause-entries
 returns-in-Ok-clause-entries c =
     ap entries_in c.in-Ok.ensures.entries
-    ∙ put-first (index_of c.args.self.now.index.now) c.args.self.now.entries c.args.entry c.in_ok-copied.copied c.len-length.ensures.valid.0 c.len-length.ensures.valid.1.1
+    ∙ put-first (index_of c.args.self.now.index.now) c.args.self.now.entries c.args.entry c.in_ok-copied.copied c.len-length.ensures.valid.0 c.len-length.ensures.valid.2
