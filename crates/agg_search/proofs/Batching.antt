@@ -12,14 +12,16 @@ use Rattle.agg_evaluation.specs.Whole.{whole}
 use Rattle.agg_evaluation.proofs.SearchLaws.{whole-alone}
 use Rattle.agg_evaluation.proofs.TreeLaws.{shard_answer-is_result}
 use Rattle.agg_model.specs.declared.aggregation.Search.{Search}
+use Rattle.cache_spec.specs.declared.shard_search.ShardSearch.{ShardSearch}
 use Rattle.agg_model.specs.declared.breaker.Limits.{Limits}
 use Rattle.agg_model.specs.declared.breaker.Tripped.{Tripped}
 use Rattle.agg_model.specs.declared.partial.Partial.{Partial}
-use Rattle.agg_spec.proofs.SoloLaws.{batches-append}
+use Rattle.cache_spec.proofs.CachedLaws.{cached-batches-append}
+use Rattle.cache_spec.specs.Cache.{Cached, after_cached_batches, after_cached_tasks, on_going, reduced_cached}
 use Rattle.agg_spec.specs.Charges.{Run, run}
 use Rattle.agg_spec.specs.Index.{Index, rows_in, shard_numbers}
 use Rattle.agg_spec.specs.Outcome.{shard_answers, whole_of, whole_unless_none}
-use Rattle.agg_spec.specs.Reduction.{Going, Task, after_batch, after_batches, after_last, after_tasks, batches, begun, merge_steps, merged, reduced, task_of, tasks_of, unless_ended}
+use Rattle.agg_spec.specs.Reduction.{Going, Task, after_batch, after_last, batches, begun, merge_steps, merged, task_of, tasks_of, unless_ended}
 use Rattle.batch_reduce.specs.Parts.{AreParts}
 use Rattle.breaker_words.specs.declared.view.View.{View}
 use Rattle.solo_charges.specs.Ends.{IsEnded}
@@ -28,7 +30,7 @@ use Rattle.agg_spec.specs.Failures.{has_failed, unfailed}
 use Rattle.shard_columns.specs.Columns.{Columns}
 use Rattle.shard_columns.specs.declared.index.Index.{Index as ShardIndex}
 use Rattle.fitting_laws.specs.Indexes.{index_of}
-use Rattle.agg_search.specs.Progressing.{Follows, IsAt, IsStopped, StopsIn, going_at}
+use Rattle.agg_search.specs.Progressing.{Follows, IsAt, IsStopped, StopsIn, cached_at, going_at}
 use Rattle.agg_search.specs.Reached.{HasReached}
 use Rattle.agg_search.specs.Reducing.{IsReduced, Reduces, StopsReducing}
 use Rattle.agg_search.specs.Stops.{IfRefused}
@@ -104,29 +106,34 @@ module _ (l : Limits) (index : Index) (search : Search) where
   batch-begins : (r : Run) (old : Progress) → r.refused ≡ None → after_batch l search (going_at r old) ≡ after-merge r old
   batch-begins r old none = ap (λ o. unless_ended o (after-merge r old) (going_at r old)) none
 
-  pub batch-follows : (w u : View) (old : Progress) (whole : Option Partial) → option_to_list whole ≡ merged l search old.batch
+  pub batch-follows : (w u : View) (old : Progress) (kept : List ShardSearch) (whole : Option Partial) → option_to_list whole ≡ merged l search old.batch
       → ((before : Before) (r : Run) → StandsAt before w r → StandsAt before u (run l r (merge_steps l search old.batch)))
-      → Follows (after_batch l search) w old u (record { batch = []; results = old.results ++ option_to_list whole; failures = old.failures })
-  batch-follows w u old whole is stands before r at =
-      subst (λ g. IsAt before u g (record { batch = []; results = old.results ++ option_to_list whole; failures = old.failures }))
+      → Follows (on_going (after_batch l search)) w old kept u (record { batch = []; results = old.results ++ option_to_list whole; failures = old.failures }) kept
+  batch-follows w u old kept whole is stands before r at =
+      subst (λ g. IsAt before u (record { going = g; entries = kept }) (record { batch = []; results = old.results ++ option_to_list whole; failures = old.failures }) kept)
       (sym (batch-begins r old at.going))
-      (record { stands = stands before r at; is = ap (λ ps. record { run = run l r (merge_steps l search old.batch); batch = []; results = old.results ++ ps; failures = old.failures }) (sym is) })
+      (record {
+        stands = stands before r at;
+        is = ap (λ ps. record { going = record { run = run l r (merge_steps l search old.batch); batch = []; results = old.results ++ ps; failures = old.failures }; entries = kept }) (sym is);
+      })
 
-  pub batch-stops : (w u : View) (old now : Progress) (t : Tripped) → now.failures ≡ old.failures
+  pub batch-stops : (w u : View) (old now : Progress) (kept : List ShardSearch) (t : Tripped) → now.failures ≡ old.failures
       → ((before : Before) (r : Run) → StandsAt before w r → IsEnded before u (run l r (merge_steps l search old.batch)) t)
-      → StopsIn (after_batch l search) w old u now t
-  batch-stops w u old now t same ends before r at =
-      subst (λ g. IsStopped before u g now.failures t) (sym (batch-begins r old at.going)) (record { ended = ends before r at; failures_are = sym same })
+      → StopsIn (on_going (after_batch l search)) w old kept u now kept t
+  batch-stops w u old now kept t same ends before r at =
+      subst (λ g. IsStopped before u (record { going = g; entries = kept }) now.failures kept t) (sym (batch-begins r old at.going))
+      (record { ended = ends before r at; failures_are = sym same; entries_are = refl })
 
-  pub batch-stops-if : (s : Stop) (v w u : View) (f : Going → Going) (first old now : Progress) → now.failures ≡ old.failures → Follows f v first w old
+  pub batch-stops-if : (s : Stop) (v w u : View) (f : Cached → Cached) (first old now : Progress) (kept between : List ShardSearch) → now.failures ≡ old.failures
+      → Follows f v first kept w old between
       → IfRefused s (λ t. (before : Before) (r : Run) → StandsAt before w r → IsEnded before u (run l r (merge_steps l search old.batch)) t)
-      → IfRefused s (StopsIn (λ going. after_batch l search (f going)) v first u now)
-  batch-stops-if stop.Memory v w u f first old now same follows ends = tt
-  batch-stops-if (stop.Refused t) v w u f first old now same follows ends =
-      stop-then f (after_batch l search) v w u first old now t follows (batch-stops w u old now t same ends)
+      → IfRefused s (StopsIn (λ c. on_going (after_batch l search) (f c)) v first kept u now between)
+  batch-stops-if stop.Memory v w u f first old now kept between same follows ends = tt
+  batch-stops-if (stop.Refused t) v w u f first old now kept between same follows ends =
+      stop-then f (on_going (after_batch l search)) v w u first old now kept between between t follows (batch-stops w u old now between t same ends)
 
   -- the batches of all tasks
-  module _ (size : ℕ) (some : 1 ≤ size) where
+  module _ (capacity size : ℕ) (some : 1 ≤ size) where
     abbrev shards : ℕ
     shards = length index.shards
 
@@ -151,47 +158,47 @@ module _ (l : Limits) (index : Index) (search : Search) where
     count-is : batches size (tasks_of index search) ≡ chunks ((shards + size - 1) / size)
     count-is = ap (λ n. chunks ((n + size - 1) / size)) (length-map (shard_numbers index) (task_of index search) ∙ length-range_with_len 0 shards)
 
-    abbrev pub batches_to : ℕ → Going → Going
-    batches_to n going = after_batches l search going (chunks n)
+    abbrev pub batches_to : ℕ → Cached → Cached
+    batches_to n c = after_cached_batches capacity l search c (chunks n)
 
-    abbrev pub one_batch : ℕ → Going → Going
-    one_batch i going = after_batch l search (after_tasks l search going (chunk i))
+    abbrev pub one_batch : ℕ → Cached → Cached
+    one_batch i c = on_going (after_batch l search) (after_cached_tasks capacity l search c (chunk i))
 
-    to-next : (n : ℕ) (going : Going) → one_batch n (batches_to n going) ≡ batches_to (suc n) going
-    to-next n going =
-        sym (ap (λ ns. after_batches l search going (map chunk ns)) (range-push 0 n ∙ ap (λ k. range_with_len 0 n ++ k ∷ []) (let z : 0 + n ≡ n = omega arith in z))
-        ∙ ap (after_batches l search going) (map-append chunk (range_with_len 0 n) (n ∷ []))
-        ∙ batches-append l search going (chunks n) (chunk n ∷ []))
+    to-next : (n : ℕ) (c : Cached) → one_batch n (batches_to n c) ≡ batches_to (suc n) c
+    to-next n c =
+        sym (ap (λ ns. after_cached_batches capacity l search c (map chunk ns)) (range-push 0 n ∙ ap (λ k. range_with_len 0 n ++ k ∷ []) (let z : 0 + n ≡ n = omega arith in z))
+        ∙ ap (after_cached_batches capacity l search c) (map-append chunk (range_with_len 0 n) (n ∷ []))
+        ∙ cached-batches-append capacity l search c (chunks n) (chunk n ∷ []))
 
-    to-end : (n m : ℕ) (going : Going) → after_batches l search (batches_to n going) (map chunk (range_with_len (0 + n) m)) ≡ batches_to (n + m) going
-    to-end n m going =
-        sym (ap (λ ns. after_batches l search going (map chunk ns)) (range-append 0 n m)
-        ∙ ap (after_batches l search going) (map-append chunk (range_with_len 0 n) (range_with_len (0 + n) m))
-        ∙ batches-append l search going (chunks n) (map chunk (range_with_len (0 + n) m)))
+    to-end : (n m : ℕ) (c : Cached) → after_cached_batches capacity l search (batches_to n c) (map chunk (range_with_len (0 + n) m)) ≡ batches_to (n + m) c
+    to-end n m c =
+        sym (ap (λ ns. after_cached_batches capacity l search c (map chunk ns)) (range-append 0 n m)
+        ∙ ap (after_cached_batches capacity l search c) (map-append chunk (range_with_len 0 n) (range_with_len (0 + n) m))
+        ∙ cached-batches-append capacity l search c (chunks n) (map chunk (range_with_len (0 + n) m)))
 
-    pub all-follow : (n : ℕ) (v u : View) (old now : Progress) → n ≡ (shards + size - 1) / size → Follows (batches_to n) v old u now
-        → Follows (λ going. after_batches l search going (batches size (tasks_of index search))) v old u now
-    all-follow n v u old now e follows =
-        follows-as (batches_to n) (λ going. after_batches l search going (batches size (tasks_of index search))) v u old now
-        (λ going. ap (λ k. batches_to k going) e ∙ ap (after_batches l search going) (sym count-is)) follows
+    pub all-follow : (n : ℕ) (v u : View) (old now : Progress) (kept keeps : List ShardSearch) → n ≡ (shards + size - 1) / size → Follows (batches_to n) v old kept u now keeps
+        → Follows (λ c. after_cached_batches capacity l search c (batches size (tasks_of index search))) v old kept u now keeps
+    all-follow n v u old now kept keeps e follows =
+        follows-as (batches_to n) (λ c. after_cached_batches capacity l search c (batches size (tasks_of index search))) v u old now kept keeps
+        (λ c. ap (λ k. batches_to k c) e ∙ ap (after_cached_batches capacity l search c) (sym count-is)) follows
 
-    module _ (v w u : View) (old middle now : Progress) (n next : ℕ) (next_is : next ≡ suc n) (before : Follows (batches_to n) v old w middle) where
-      pub one-batch-more : Follows (one_batch n) w middle u now → Follows (batches_to next) v old u now
+    module _ (v w u : View) (old middle now : Progress) (kept between keeps : List ShardSearch) (n next : ℕ) (next_is : next ≡ suc n) (before : Follows (batches_to n) v old kept w middle between) where
+      pub one-batch-more : Follows (one_batch n) w middle between u now keeps → Follows (batches_to next) v old kept u now keeps
       one-batch-more one =
-          let all = follows-as (λ going. one_batch n (batches_to n going)) (batches_to (suc n)) v u old now (to-next n) (follow-then (batches_to n) (one_batch n) v w u old middle now before one) in
-          subst (λ k. Follows (batches_to k) v old u now) (sym next_is) all
+          let all = follows-as (λ c. one_batch n (batches_to n c)) (batches_to (suc n)) v u old now kept keeps (to-next n) (follow-then (batches_to n) (one_batch n) v w u old middle now kept between keeps before one) in
+          subst (λ k. Follows (batches_to k) v old kept u now keeps) (sym next_is) all
 
-      pub batch-stopped : (s : Stop) → next ≤ (shards + size - 1) / size → IfRefused s (StopsIn (one_batch n) w middle u now)
-          → IfRefused s (StopsIn (λ going. after_batches l search going (batches size (tasks_of index search))) v old u now)
+      pub batch-stopped : (s : Stop) → next ≤ (shards + size - 1) / size → IfRefused s (StopsIn (one_batch n) w middle between u now keeps)
+          → IfRefused s (StopsIn (λ c. after_cached_batches capacity l search c (batches size (tasks_of index search))) v old kept u now keeps)
       batch-stopped stop.Memory le stops = tt
       batch-stopped (stop.Refused t) le stops =
           let count = (shards + size - 1) / size in
-          let here = stops-as (λ going. one_batch n (batches_to n going)) (batches_to (suc n)) v u old now t (to-next n) (stop-then (batches_to n) (one_batch n) v w u old middle now t before stops) in
+          let here = stops-as (λ c. one_batch n (batches_to n c)) (batches_to (suc n)) v u old now kept keeps t (to-next n) (stop-then (batches_to n) (one_batch n) v w u old middle now kept between keeps t before stops) in
           let rest = map chunk (range_with_len (0 + suc n) (count - suc n)) in
-          let at_end = stopped-stays (batches_to (suc n)) (λ going. after_batches l search going rest) v u old now t (batches-inert l search rest) here in
+          let at_end = stopped-stays (batches_to (suc n)) (λ c. after_cached_batches capacity l search c rest) v u old now kept keeps t (batches-inert capacity l search rest) here in
           let same : suc n + (count - suc n) ≡ count = omega arith in
-          stops-as (λ going. after_batches l search (batches_to (suc n) going) rest) (λ going. after_batches l search going (batches size (tasks_of index search))) v u old now t
-          (λ going. to-end (suc n) (count - suc n) going ∙ ap (λ k. batches_to k going) same ∙ ap (after_batches l search going) (sym count-is)) at_end
+          stops-as (λ c. after_cached_batches capacity l search (batches_to (suc n) c) rest) (λ c. after_cached_batches capacity l search c (batches size (tasks_of index search))) v u old now kept keeps t
+          (λ c. to-end (suc n) (count - suc n) c ∙ ap (λ k. batches_to k c) same ∙ ap (after_cached_batches capacity l search c) (sym count-is)) at_end
 
 -- the results that wait are parts of a merge
 pub waiting-parts : (index : ShardIndex) (search : Search) → IsTrue (search_fits index.mapping search) → (done : ℕ) (p : Progress) → done ≤ length index.shards → HasReached (index_of index) search done p
@@ -214,8 +221,8 @@ module _ (l : Limits) (search : Search) (w u : View) (parts batch : List Partial
   stops-at (stop.Refused t) told = λ before r at.
       subst (λ (ps : List Partial). IsEnded before u (run l r (merge_steps l search ps)) t) same (told search (subst (AreParts search) (sym same) are) before r at)
 
-abbrev pub batches_before : Limits → Index → Search → ℕ → ℕ → Going → Going
-batches_before l index search size n going = after_batches l search going (map (λ i. take size (drop (i * size) (tasks_of index search))) (range_with_len 0 n))
+abbrev pub batches_before : ℕ → Limits → Index → Search → ℕ → ℕ → Cached → Cached
+batches_before capacity l index search size n c = after_cached_batches capacity l search c (map (λ i. take size (drop (i * size) (tasks_of index search))) (range_with_len 0 n))
 
 pub rows-count : (index : ShardIndex) → length (index_of index).shards ≡ length index.shards
 rows-count index = length-map index.shards (λ (s : Columns). s.rows)
@@ -230,22 +237,25 @@ start-within n size k some below =
 pub end-covers : (size k : ℕ) → 1 ≤ size → k ≤ ((k + size - 1) / size) * size
 end-covers size k some = grind arith
 
-module _ (l : Limits) (index : ShardIndex) (search : Search) (size : ℕ) (some : 1 ≤ size) (n to : ℕ) (below : n < (length index.shards + size - 1) / size) (to_is : to ≡ min (length index.shards) (n * size + size)) where
+module _ (capacity : ℕ) (l : Limits) (index : ShardIndex) (search : Search) (size : ℕ) (some : 1 ≤ size) (n to : ℕ) (below : n < (length index.shards + size - 1) / size) (to_is : to ≡ min (length index.shards) (n * size + size)) where
   abbrev tasks_in : List Task
   tasks_in = map (task_of (index_of index) search) (range_with_len (n * size) (to - n * size))
 
-  this-chunk : chunk l (index_of index) search size some n ≡ tasks_in
+  this-chunk : chunk l (index_of index) search capacity size some n ≡ tasks_in
   this-chunk =
       let count = rows-count index in let within = start-within n size (length index.shards) some below in
-      chunk-is l (index_of index) search size some n to (omega arith) (omega arith)
+      chunk-is l (index_of index) search capacity size some n to (omega arith) (omega arith)
 
-  pub as-chunk : (w u : View) (middle now : Progress) → Follows (λ going. after_batch l search (after_tasks l search going tasks_in)) w middle u now
-      → Follows (one_batch l (index_of index) search size some n) w middle u now
-  as-chunk w u middle now follows = subst (λ ts. Follows (λ going. after_batch l search (after_tasks l search going ts)) w middle u now) (sym this-chunk) follows
+  abbrev in_batch : List Task → Cached → Cached
+  in_batch ts c = on_going (after_batch l search) (after_cached_tasks capacity l search c ts)
 
-  pub as-chunk-stops : (s : Stop) (w u : View) (middle now : Progress) → IfRefused s (StopsIn (λ going. after_batch l search (after_tasks l search going tasks_in)) w middle u now)
-      → IfRefused s (StopsIn (one_batch l (index_of index) search size some n) w middle u now)
-  as-chunk-stops s w u middle now stops = subst (λ ts. IfRefused s (StopsIn (λ going. after_batch l search (after_tasks l search going ts)) w middle u now)) (sym this-chunk) stops
+  pub as-chunk : (w u : View) (middle now : Progress) (kept keeps : List ShardSearch) → Follows (in_batch tasks_in) w middle kept u now keeps
+      → Follows (one_batch l (index_of index) search capacity size some n) w middle kept u now keeps
+  as-chunk w u middle now kept keeps follows = subst (λ ts. Follows (in_batch ts) w middle kept u now keeps) (sym this-chunk) follows
+
+  pub as-chunk-stops : (s : Stop) (w u : View) (middle now : Progress) (kept keeps : List ShardSearch) → IfRefused s (StopsIn (in_batch tasks_in) w middle kept u now keeps)
+      → IfRefused s (StopsIn (one_batch l (index_of index) search capacity size some n) w middle kept u now keeps)
+  as-chunk-stops s w u middle now kept keeps stops = subst (λ ts. IfRefused s (StopsIn (in_batch ts) w middle kept u now keeps)) (sym this-chunk) stops
 
 -- all shards that did not fail, once the results of the batches are merged
 module _ (l : Limits) (index : ShardIndex) (search : Search) (made : IsTrue (search_fits index.mapping search)) (p : Progress) (reached : HasReached (index_of index) search (length index.shards) p) (none : p.batch ≡ []) where
@@ -296,29 +306,40 @@ module _ (l : Limits) (index : ShardIndex) (search : Search) (made : IsTrue (sea
       ∙ ap (whole_unless_none (index_of index) search) left-is
 
 -- the last merge, behind all batches
-module _ (l : Limits) (search : Search) (size : ℕ) (tasks : List Task) (v w u : View) (old p : Progress) (empty : old ≡ record { batch = []; results = []; failures = [] })
-    (follows : Follows (λ going. after_batches l search going (batches size tasks)) v old w p) where
+module _ (capacity : ℕ) (l : Limits) (search : Search) (size : ℕ) (tasks : List Task) (v w u : View) (old p : Progress) (kept keeps : List ShardSearch)
+    (empty : old ≡ record { batch = []; results = []; failures = [] })
+    (follows : Follows (λ c. after_cached_batches capacity l search c (batches size tasks)) v old kept w p keeps) where
   abbrev last-merge : Run → Going
   last-merge r = record { run = run l r (merge_steps l search p.results); batch = p.batch; results = merged l search p.results; failures = p.failures }
 
-  at-last : (before : Before) (r : Run) → StandsAt before v r
-      → (q : Run) × ((StandsAt before w q) × (reduced l search size r tasks ≡ record { run = run l q (merge_steps l search p.results); batch = p.batch; results = merged l search p.results; failures = p.failures }))
-  at-last before r stands =
-      let at = subst (λ (o : Progress). IsAt before w (after_batches l search (going_at r o) (batches size tasks)) p) empty (follows before r stands) in
-      let g = after_batches l search (begun r) (batches size tasks) in
-      (g.run, (at.stands, ap (after_last l search) at.is ∙ ap (λ o. unless_ended o (last-merge g.run) (going_at g.run p)) at.stands.going))
+  abbrev from_start : Run → Cached
+  from_start r = record { going = begun r; entries = kept }
 
-  pub reduces : ((before : Before) (r : Run) → StandsAt before w r → StandsAt before u (run l r (merge_steps l search p.results))) → Reduces l search size tasks v u p.failures
+  at-last : (before : Before) (r : Run) → StandsAt before v r
+      → (q : Run) × ((StandsAt before w q) × (reduced_cached capacity l search size (from_start r) tasks ≡ record { going = last-merge q; entries = keeps }))
+  at-last before r stands =
+      let at = subst (λ (o : Progress). IsAt before w (after_cached_batches capacity l search (cached_at r o kept) (batches size tasks)) p keeps) empty (follows before r stands) in
+      let c = after_cached_batches capacity l search (from_start r) (batches size tasks) in (
+        c.going.run,
+        (
+          at.stands,
+          ap (on_going (after_last l search)) at.is
+              ∙ ap (λ o. record { going = unless_ended o (last-merge c.going.run) (going_at c.going.run p); entries = keeps }) at.stands.going,
+        ),
+      )
+
+  pub reduces : ((before : Before) (r : Run) → StandsAt before w r → StandsAt before u (run l r (merge_steps l search p.results)))
+      → Reduces capacity l search size tasks v kept u keeps p.failures
   reduces told before r stands =
       let at = at-last before r stands in
-      subst (λ g. IsReduced before u g p.failures) (sym at.1.1) (record { stands = told before at.0 at.1.0; failures_are = refl })
+      subst (λ c. IsReduced before u c p.failures keeps) (sym at.1.1) (record { stands = told before at.0 at.1.0; failures_are = refl; entries_are = refl })
 
   pub stops-last : (s : Stop) → IfRefused s (λ t. (before : Before) (r : Run) → StandsAt before w r → IsEnded before u (run l r (merge_steps l search p.results)) t)
-      → IfRefused s (StopsReducing l search size tasks v u p.failures)
+      → IfRefused s (StopsReducing capacity l search size tasks v kept u keeps p.failures)
   stops-last stop.Memory told = tt
   stops-last (stop.Refused t) told = λ before r stands.
       let at = at-last before r stands in
-      subst (λ g. IsStopped before u g p.failures t) (sym at.1.1) (record { ended = told before at.0 at.1.0; failures_are = refl })
+      subst (λ c. IsStopped before u c p.failures keeps t) (sym at.1.1) (record { ended = told before at.0 at.1.0; failures_are = refl; entries_are = refl })
 
 pub is-empty : (p : Progress) → p.batch ≡ [] → p.results ≡ [] → p.failures ≡ [] → p ≡ record { batch = []; results = []; failures = [] }
 is-empty p b r f = λ i. (record { batch = b i; results = r i; failures = f i })

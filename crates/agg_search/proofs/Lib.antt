@@ -1,4 +1,6 @@
 pub mod Following
+pub mod AnswersAlone
+pub mod KeptTask
 pub mod OneTask
 pub mod Numbers
 pub mod ShardLists
@@ -9,6 +11,7 @@ pub mod Batching
 pub mod Outcomes
 pub mod AnswerParts
 pub mod Ends
+mod SoloEnds
 pub mod LastKeys
 pub mod NextPages
 pub mod Onward

@@ -5,6 +5,8 @@ use Rattle.std.proofs.Common.{◌∙◌, sym, ap, subst, arith}
 use Rattle.std.proofs.lemmas.Bool.{le-ltb}
 use Rattle.agg_evaluation.specs.Ceiling.{search_ceiling}
 use Rattle.agg_model.specs.declared.aggregation.Search.{Search}
+use Rattle.cache_spec.specs.declared.shard_search.ShardSearch.{ShardSearch}
+use Rattle.cache_spec.specs.Cache.{Cached, on_going, reduced_cached, searched_cached}
 use Rattle.agg_model.specs.declared.answer.Answer.{Answer}
 use Rattle.agg_model.specs.declared.breaker.Tripped.{Tripped}
 use Rattle.agg_model.specs.declared.outcome.Failure.{Failure}
@@ -29,7 +31,7 @@ use Rattle.agg_model.specs.declared.settings.Settings.{Settings}
 use Rattle.agg_spec.proofs.SoloLaws.{run-stopped}
 use Rattle.agg_spec.specs.Charges.{Run, charge_of, run}
 use Rattle.agg_spec.specs.Reduction.{Going, after_last, batches, begun, reduced, tasks_of}
-use Rattle.agg_spec.specs.Solo.{body_charged, outcome_with, responded, response_steps, searched}
+use Rattle.agg_spec.specs.Solo.{body_charged, outcome_with, responded, response_steps}
 use Rattle.breaker_words.specs.declared.view.View.{View}
 use Rattle.fitting_laws.specs.Indexes.{index_of}
 use Rattle.shard_columns.specs.declared.index.Index.{Index as ShardIndex}
@@ -136,68 +138,81 @@ told-fault read (fault.Bad code path) gives told = gives
 told-fault read fault.Memory gives told = absurd told
 
 -- a body that is no search
-pub refused-ends : (settings : Settings) (index : Index) (request : Request) (r : Refused) → request.search ≡ Err r → (before : Before) (u : View) (start : Run) (failures : List Failure) (o : Outcome)
-    → failures ≡ [] → o ≡ ended.Refused r → StandsAt before u start
-    → IsOutcome settings index request before u (searched settings index start (running_search index settings.max_buckets request)) failures o
-refused-ends settings index request r is before u start failures o empty e stands =
+pub refused-ends : (settings : Settings) (index : Index) (capacity : ℕ) (kept : List ShardSearch) (request : Request) (r : Refused) → request.search ≡ Err r
+    → (before : Before) (u : View) (start : Run) (failures : List Failure) (o : Outcome) → failures ≡ [] → o ≡ ended.Refused r → StandsAt before u start
+    → IsOutcome settings index request before u
+    (searched_cached capacity settings index (record { going = begun start; entries = kept }) (running_search index settings.max_buckets request)) failures kept o
+refused-ends settings index capacity kept request r is before u start failures o empty e stands =
     let not_run : running_search index settings.max_buckets request ≡ None = ap (λ s. running s (outcome index settings.max_buckets request [])) is in
-    subst (λ found. IsOutcome settings index request before u (searched settings index start found) failures o) (sym not_run) (record {
+    subst (λ found. IsOutcome settings index request before u (searched_cached capacity settings index (record { going = begun start; entries = kept }) found) failures kept o)
+    (sym not_run) (record {
       stands = stands;
       failures_are = sym empty;
+      entries_are = refl;
       outcome_is = e ∙ sym (ap (λ s. request_outcome index settings.max_buckets s []) is);
     })
 
-module _ (settings : Settings) (index : Index) (search : Search) (request : Request) (is : request.search ≡ Ok search) where
-  module _ (n : ℕ) (some : search_ceiling (field_kinds index) search index.shards ≡ Some n) (limits : Limits) (same : limits ≡ settings.limits) where
-    same-run : (r : Run) → reduced limits search settings.batch r (tasks_of index search) ≡ searched settings index r (running_search index settings.max_buckets request)
-    same-run r = ap (λ l. reduced l search settings.batch r (tasks_of index search)) same ∙ ap (searched settings index r) (sym (runs index settings.max_buckets search request n is some))
+-- so many answers are kept at most, these before and those behind
+module _ (settings : Settings) (index : Index) (capacity : ℕ) (kept keeps : List ShardSearch) where
+  abbrev from_start : Run → Cached
+  from_start r = record { going = begun r; entries = kept }
 
-    pub search-ends : (before : Before) (u : View) (r : Run) (failures : List Failure) (o : Outcome)
-        → IsReduced before u (reduced limits search settings.batch r (tasks_of index search)) failures
-        → o ≡ outcome_of_shards index settings.max_buckets search failures (unfailed index failures)
-        → IsOutcome settings index request before u (searched settings index r (running_search index settings.max_buckets request)) failures o
-    search-ends before u r failures o done e =
-        let done_there = subst (λ g. IsReduced before u g failures) (same-run r) done in
-        record {
-          stands = done_there.stands;
-          failures_are = done_there.failures_are;
-          outcome_is = e ∙ sym (not-wide index settings.max_buckets search request failures n is some) ∙ ap (outcome index settings.max_buckets request) (sym done_there.failures_are);
-        }
+  module _ (search : Search) (request : Request) (is : request.search ≡ Ok search) where
+    abbrev after_search : Run → Cached
+    after_search r = searched_cached capacity settings index (from_start r) (running_search index settings.max_buckets request)
 
-    pub search-stops : (before : Before) (u : View) (r : Run) (failures : List Failure) (t : Tripped)
-        → IsStopped before u (reduced limits search settings.batch r (tasks_of index search)) failures t
-        → IsStopped before u (searched settings index r (running_search index settings.max_buckets request)) failures t
-    search-stops before u r failures t stopped = subst (λ g. IsStopped before u g failures t) (same-run r) stopped
+    module _ (n : ℕ) (some : search_ceiling (field_kinds index) search index.shards ≡ Some n) (limits : Limits) (same : limits ≡ settings.limits) where
+      abbrev all_tasks : Limits → Run → Cached
+      all_tasks l r = reduced_cached capacity l search settings.batch (from_start r) (tasks_of index search)
 
-pub stops-search-if : (settings : Settings) (index : Index) (search : Search) (n : ℕ) → search_ceiling (field_kinds index) search index.shards ≡ Some n → (limits : Limits) → limits ≡ settings.limits
-    → (v u : View) (failures : List Failure) (s : Stop) → IfRefused s (StopsReducing limits search settings.batch (tasks_of index search) v u failures)
-    → IfRefused s (λ t. (request : Request) → request.search ≡ Ok search → StopsSearching settings index request v u failures t)
-stops-search-if settings index search n some limits same v u failures stop.Memory stops = tt
-stops-search-if settings index search n some limits same v u failures (stop.Refused t) stops =
-    λ request is before r stands. search-stops settings index search request is n some limits same before u r failures t (stops before r stands)
+      same-run : (r : Run) → all_tasks limits r ≡ after_search r
+      same-run r = ap (λ l. all_tasks l r) same ∙ ap (searched_cached capacity settings index (from_start r)) (sym (runs index settings.max_buckets search request n is some))
+
+      pub search-ends : (before : Before) (u : View) (r : Run) (failures : List Failure) (o : Outcome) → IsReduced before u (all_tasks limits r) failures keeps
+          → o ≡ outcome_of_shards index settings.max_buckets search failures (unfailed index failures) → IsOutcome settings index request before u (after_search r) failures keeps o
+      search-ends before u r failures o done e =
+          let done_there = subst (λ c. IsReduced before u c failures keeps) (same-run r) done in
+          record {
+            stands = done_there.stands;
+            failures_are = done_there.failures_are;
+            entries_are = done_there.entries_are;
+            outcome_is = e ∙ sym (not-wide index settings.max_buckets search request failures n is some) ∙ ap (outcome index settings.max_buckets request) (sym done_there.failures_are);
+          }
+
+      pub search-stops : (before : Before) (u : View) (r : Run) (failures : List Failure) (t : Tripped) → IsStopped before u (all_tasks limits r) failures keeps t
+          → IsStopped before u (after_search r) failures keeps t
+      search-stops before u r failures t stopped = subst (λ c. IsStopped before u c failures keeps t) (same-run r) stopped
+
+  pub stops-search-if : (search : Search) (n : ℕ) → search_ceiling (field_kinds index) search index.shards ≡ Some n → (limits : Limits) → limits ≡ settings.limits
+      → (v u : View) (failures : List Failure) (s : Stop) → IfRefused s (StopsReducing capacity limits search settings.batch (tasks_of index search) v kept u keeps failures)
+      → IfRefused s (λ t. (request : Request) → request.search ≡ Ok search → StopsSearching settings index capacity request v kept u keeps failures t)
+  stops-search-if search n some limits same v u failures stop.Memory stops = tt
+  stops-search-if search n some limits same v u failures (stop.Refused t) stops =
+      λ request is before r stands. search-stops search request is n some limits same before u r failures t (stops before r stands)
 
 -- a search of no room for its body
-module _ (settings : Settings) (index : Index) (request : Request) where
-  searched-stays : (r : Run) (t : Tripped) (o : Option Search) → r.refused ≡ Some t → searched settings index r o ≡ begun r
+module _ (settings : Settings) (index : Index) (capacity : ℕ) (kept : List ShardSearch) (request : Request) where
+  abbrev read_at : Run → Cached
+  read_at r = record { going = begun r; entries = kept }
+
+  searched-stays : (r : Run) (t : Tripped) (o : Option Search) → r.refused ≡ Some t → searched_cached capacity settings index (read_at r) o ≡ read_at r
   searched-stays r t None e = refl
   searched-stays r t (Some search) e =
-      ap (after_last settings.limits search) (batches-inert settings.limits search (batches settings.batch (tasks_of index search)) (begun r) t e) ∙ last-inert settings.limits search (begun r) t e
+      ap (on_going (after_last settings.limits search)) (batches-inert capacity settings.limits search (batches settings.batch (tasks_of index search)) (read_at r) t e)
+      ∙ last-inert capacity settings.limits search (read_at r) t e
 
-  responded-stays : (g : Going) (t : Tripped) → g.run.refused ≡ Some t → responded settings index request g ≡ g
+  pub responded-stays : (g : Going) (t : Tripped) → g.run.refused ≡ Some t → responded settings index request g ≡ g
   responded-stays g t e = ap (λ r. record { run = r; batch = g.batch; results = g.results; failures = g.failures }) (run-stopped settings.limits g.run t e (response_steps (outcome_with settings index request g)))
 
   abbrev body_run : Run → Run
   body_run r = body_charged settings index r request
 
-  abbrev after_search : Run → Going
-  after_search r = searched settings index r (running_search index settings.max_buckets request)
-
   pub body-stops : (v u : View) (failures : List Failure) (t : Tripped) → failures ≡ []
       → ((before : Before) (r : Run) → StandsAt before v r → IsEnded before u (run settings.limits r (charge_of child.Inflight (2 * request.bytes))) t)
-      → StopsSolving settings index request v u failures t
+      → StopsSolving settings index capacity request v kept u kept failures t
   body-stops v u failures t empty ends before r stands =
       let ended = ends before r stands in
       let same = searched-stays (body_run r) t (running_search index settings.max_buckets request) ended.refused in
-      subst (λ g. IsStopped before u g failures t)
-      (sym (ap (responded settings index request) same ∙ responded-stays (begun (body_run r)) t ended.refused))
-      (record { ended = ended; failures_are = sym empty })
+      subst (λ c. IsStopped before u c failures kept t)
+      (sym (ap (on_going (responded settings index request)) same ∙ ap (λ g. record { going = g; entries = kept }) (responded-stays (begun (body_run r)) t ended.refused)))
+      (record { ended = ended; failures_are = sym empty; entries_are = refl })

@@ -9,6 +9,7 @@ ghost use Rattle.solo_charges.specs.Alone.{IsAlone};
 ghost use Rattle.fitting_laws.specs.Indexes.{index_of};
 ghost use Rattle.agg_search.specs.Paging.{AnswersPages};
 
+use crate::shard_tasks::Shards;
 use crate::solo::answer_page;
 use agg_model::{Answered, Bytes, List, Outcome, Settings};
 use breaker_words::{Pass, Words};
@@ -40,10 +41,11 @@ pub fn search_pages(
     ensures answers { IfOk result (AnswersPages settings.now (index_of index.now)
         (request_of (index_of index.now) body.now) pass.old.view pass.new.view) }
 {
+    let mut shards = Shards { index };
     let mut answers = Vec::new(alloc);
     let mut search = None;
     loop {
-        let page = answer_page(alloc, words, pass, index, body, search, settings);
+        let page = answer_page(alloc, words, pass, &mut shards, body, search, settings);
         // What the pass stands at is not told then.
         if let Outcome::Memory = &page.answered.outcome {
             return Err(AllocError);

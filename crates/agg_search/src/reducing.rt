@@ -4,7 +4,8 @@ ghost use Rattle.std.specs.List.{range_with_len};
 ghost use Rattle.agg_model.specs.declared.breaker.Which.TheVariants as which;
 ghost use Rattle.agg_model.specs.declared.limits.TheConstants.{MAX_BATCH};
 ghost use Rattle.agg_spec.specs.Failures.{AreFailures, unfailed};
-ghost use Rattle.agg_spec.specs.Reduction.{after_batch, after_batches, after_tasks, batches, task_of, tasks_of};
+ghost use Rattle.cache_spec.specs.Cache.{after_cached_batches, after_cached_tasks, on_going};
+ghost use Rattle.agg_spec.specs.Reduction.{after_batch, batches, task_of, tasks_of};
 ghost use Rattle.breaker_words.specs.Views.{hold_of};
 ghost use Rattle.solo_charges.specs.Alone.{IsAlone};
 ghost use Rattle.agg_spec.specs.Outcome.{whole_unless_none};
@@ -17,11 +18,11 @@ ghost use Rattle.agg_search.specs.Stops.{IfRefused};
 
 use crate::merging::merge;
 use crate::progress::Progress;
+use crate::shard_tasks::Tasks;
 use crate::stop::Stop;
 use crate::tasks::run_tasks;
 use agg_model::{List, Partial, Search};
 use breaker_words::{Pass, Words};
-use shard_columns::Index;
 use std::alloc::{AllocError, Global};
 use std::mem;
 
@@ -36,39 +37,43 @@ fn keep_whole(results: &mut List<Partial>, whole: Option<Partial>) -> Result<(),
 }
 
 /// Runs the tasks of a batch, and merges what they answer.
-fn run_batch(
+fn run_batch<T: Tasks>(
     alloc: Global,
     words: &Words,
     pass: &mut Pass,
-    index: &Index,
+    tasks: &mut T,
     search: &Search,
     from: usize,
     to: usize,
     progress: &mut Progress,
 ) -> Result<(), Stop>
     requires alone { IsAlone words.now pass.old }
-    requires search { CanRun index.now search.now }
+    requires search { CanRun (T.index tasks.old) search.now }
     requires order { from ≤ to }
-    requires places { to ≤ length index.now.shards }
-    requires reached { HasReached (index_of index.now) search.now from progress.old }
+    requires places { to ≤ length (T.index tasks.old).shards }
+    requires reached { HasReached (index_of (T.index tasks.old)) search.now from progress.old }
     requires merged { progress.old.batch ≡ [] }
     requires held { HoldsCosts progress.old pass.old.view }
     ensures alone { IsAlone words.now pass.new }
+    ensures index { T.index tasks.new ≡ T.index tasks.old }
+    ensures capacity { T.capacity tasks.new ≡ T.capacity tasks.old }
     ensures fielddata { hold_of pass.new.view which.Fielddata ≡ hold_of pass.old.view which.Fielddata }
     ensures inflight { hold_of pass.new.view which.Inflight ≡ hold_of pass.old.view which.Inflight }
-    ensures reached { OnOk result (HasReached (index_of index.now) search.now to progress.new) }
+    ensures reached { OnOk result (HasReached (index_of (T.index tasks.old)) search.now to progress.new) }
     ensures merged { OnOk result (progress.new.batch ≡ []) }
     ensures held { OnOk result (HoldsCosts progress.new pass.new.view) }
     ensures follows { OnOk result (Follows
-        (λ going. after_batch words.now.limits search.now (after_tasks words.now.limits search.now going
-        (map (task_of (index_of index.now) search.now) (range_with_len from (to - from)))))
-        pass.old.view progress.old pass.new.view progress.new) }
+        (λ c. on_going (after_batch words.now.limits search.now)
+        (after_cached_tasks (T.capacity tasks.old) words.now.limits search.now c
+        (map (task_of (index_of (T.index tasks.old)) search.now) (range_with_len from (to - from)))))
+        pass.old.view progress.old (T.entries tasks.old) pass.new.view progress.new (T.entries tasks.new)) }
     ensures stops { IfErr result (λ stop. IfRefused stop (StopsIn
-        (λ going. after_batch words.now.limits search.now (after_tasks words.now.limits search.now going
-        (map (task_of (index_of index.now) search.now) (range_with_len from (to - from)))))
-        pass.old.view progress.old pass.new.view progress.new)) }
+        (λ c. on_going (after_batch words.now.limits search.now)
+        (after_cached_tasks (T.capacity tasks.old) words.now.limits search.now c
+        (map (task_of (index_of (T.index tasks.old)) search.now) (range_with_len from (to - from)))))
+        pass.old.view progress.old (T.entries tasks.old) pass.new.view progress.new (T.entries tasks.new))) }
 {
-    run_tasks(alloc, words, pass, index, search, from, to, progress)?;
+    run_tasks(alloc, words, pass, tasks, search, from, to, progress)?;
     let parts = mem::replace(&mut progress.batch, List::new(alloc));
     let whole = merge(alloc, words, pass, parts)?;
     keep_whole(&mut progress.results, whole)?;
@@ -76,56 +81,58 @@ fn run_batch(
 }
 
 /// Runs all tasks, in batches of at most this size.
-fn run_batches(
+fn run_batches<T: Tasks>(
     alloc: Global,
     words: &Words,
     pass: &mut Pass,
-    index: &Index,
+    tasks: &mut T,
     search: &Search,
     size: usize,
     progress: &mut Progress,
 ) -> Result<(), Stop>
     requires alone { IsAlone words.now pass.old }
-    requires search { CanRun index.now search.now }
+    requires search { CanRun (T.index tasks.old) search.now }
     requires some { 1 ≤ size }
     requires few { size ≤ MAX_BATCH }
-    requires reached { HasReached (index_of index.now) search.now 0 progress.old }
+    requires reached { HasReached (index_of (T.index tasks.old)) search.now 0 progress.old }
     requires merged { progress.old.batch ≡ [] }
     requires held { HoldsCosts progress.old pass.old.view }
     ensures alone { IsAlone words.now pass.new }
+    ensures index { T.index tasks.new ≡ T.index tasks.old }
+    ensures capacity { T.capacity tasks.new ≡ T.capacity tasks.old }
     ensures fielddata { hold_of pass.new.view which.Fielddata ≡ hold_of pass.old.view which.Fielddata }
     ensures inflight { hold_of pass.new.view which.Inflight ≡ hold_of pass.old.view which.Inflight }
-    ensures reached { OnOk result (HasReached (index_of index.now) search.now (length index.now.shards) progress.new) }
+    ensures reached { OnOk result (HasReached (index_of (T.index tasks.old)) search.now (length (T.index tasks.old).shards) progress.new) }
     ensures merged { OnOk result (progress.new.batch ≡ []) }
     ensures held { OnOk result (HoldsCosts progress.new pass.new.view) }
     ensures follows { OnOk result (Follows
-        (λ going. after_batches words.now.limits search.now going (batches size (tasks_of (index_of index.now) search.now)))
-        pass.old.view progress.old pass.new.view progress.new) }
+        (λ c. after_cached_batches (T.capacity tasks.old) words.now.limits search.now c (batches size (tasks_of (index_of (T.index tasks.old)) search.now)))
+        pass.old.view progress.old (T.entries tasks.old) pass.new.view progress.new (T.entries tasks.new)) }
     ensures stops { IfErr result (λ stop. IfRefused stop (StopsIn
-        (λ going. after_batches words.now.limits search.now going (batches size (tasks_of (index_of index.now) search.now)))
-        pass.old.view progress.old pass.new.view progress.new)) }
+        (λ c. after_cached_batches (T.capacity tasks.old) words.now.limits search.now c (batches size (tasks_of (index_of (T.index tasks.old)) search.now)))
+        pass.old.view progress.old (T.entries tasks.old) pass.new.view progress.new (T.entries tasks.new))) }
 {
-    let shards = index.shards.len();
+    let shards = tasks.index().shards.len();
     for number in 0..(shards + size - 1) / size {
         let from = number * size;
         let to = shards.min(from + size);
-        run_batch(alloc, words, pass, index, search, from, to, progress)?;
+        run_batch(alloc, words, pass, tasks, search, from, to, progress)?;
     }
     Ok(())
 }
 
 /// The whole of the shards that did not fail; none where all of them did. The failures are told.
-pub(crate) fn reduce_search(
+pub(crate) fn reduce_search<T: Tasks>(
     alloc: Global,
     words: &Words,
     pass: &mut Pass,
-    index: &Index,
+    tasks: &mut T,
     search: &Search,
     size: usize,
     progress: &mut Progress,
 ) -> Result<Option<Partial>, Stop>
     requires alone { IsAlone words.now pass.old }
-    requires search { CanRun index.now search.now }
+    requires search { CanRun (T.index tasks.old) search.now }
     requires some { 1 ≤ size }
     requires few { size ≤ MAX_BATCH }
     requires batch { progress.old.batch ≡ [] }
@@ -133,17 +140,21 @@ pub(crate) fn reduce_search(
     requires failures { progress.old.failures ≡ [] }
     requires free { hold_of pass.old.view which.Request ≡ 0 }
     ensures alone { IsAlone words.now pass.new }
+    ensures index { T.index tasks.new ≡ T.index tasks.old }
+    ensures capacity { T.capacity tasks.new ≡ T.capacity tasks.old }
     ensures fielddata { hold_of pass.new.view which.Fielddata ≡ hold_of pass.old.view which.Fielddata }
     ensures inflight { hold_of pass.new.view which.Inflight ≡ hold_of pass.old.view which.Inflight }
     ensures whole { IfOk result (λ whole. whole
-        ≡ whole_unless_none (index_of index.now) search.now (unfailed (index_of index.now) progress.new.failures)) }
-    ensures failures { OnOk result (AreFailures (length index.now.shards) progress.new.failures) }
-    ensures reduces { OnOk result (Reduces words.now.limits search.now size (tasks_of (index_of index.now) search.now)
-        pass.old.view pass.new.view progress.new.failures) }
-    ensures stops { IfErr result (λ stop. IfRefused stop (StopsReducing words.now.limits search.now size
-        (tasks_of (index_of index.now) search.now) pass.old.view pass.new.view progress.new.failures)) }
+        ≡ whole_unless_none (index_of (T.index tasks.old)) search.now (unfailed (index_of (T.index tasks.old)) progress.new.failures)) }
+    ensures failures { OnOk result (AreFailures (length (T.index tasks.old).shards) progress.new.failures) }
+    ensures reduces { OnOk result (Reduces (T.capacity tasks.old) words.now.limits search.now size
+        (tasks_of (index_of (T.index tasks.old)) search.now) pass.old.view (T.entries tasks.old)
+        pass.new.view (T.entries tasks.new) progress.new.failures) }
+    ensures stops { IfErr result (λ stop. IfRefused stop (StopsReducing (T.capacity tasks.old) words.now.limits search.now size
+        (tasks_of (index_of (T.index tasks.old)) search.now) pass.old.view (T.entries tasks.old)
+        pass.new.view (T.entries tasks.new) progress.new.failures)) }
 {
-    run_batches(alloc, words, pass, index, search, size, progress)?;
+    run_batches(alloc, words, pass, tasks, search, size, progress)?;
     let parts = mem::replace(&mut progress.results, List::new(alloc));
     merge(alloc, words, pass, parts)
 }

@@ -8,33 +8,36 @@ ghost use Rattle.agg_spec.specs.Outcome.{Request};
 ghost use Rattle.agg_spec.specs.Requests.{refusal_of_fault, request_of};
 ghost use Rattle.breaker_words.specs.Views.{hold_of};
 ghost use Rattle.solo_charges.specs.Alone.{IsAlone};
-ghost use Rattle.agg_search.specs.Answering.{AnswersAlone, Searches, Solves, StopsSearching, StopsSolving};
+ghost use Rattle.agg_search.specs.Answering.{AnswersAlone, AnswersCached, Searches, Solves, StopsSearching, StopsSolving};
 ghost use Rattle.agg_search.specs.Telling.{IsTold, next_as, told_as};
 ghost use Rattle.fitting_laws.specs.Indexes.{index_of};
 ghost use Rattle.agg_search.specs.Paging.{IsBehind, request_at};
 ghost use Rattle.agg_search.specs.Stops.{IfRefused};
+ghost use Rattle.request_cache.specs.Entries.{entries_in};
 
 use crate::answering::outcome_of;
 use crate::charging::{charge, charge_response};
 use crate::paging::Found;
 use crate::progress::Progress;
 use crate::reducing::reduce_search;
+use crate::shard_tasks::{Shards, Tasks};
 use crate::stop::Stop;
 use agg_cost::is_too_wide;
 use agg_model::{Answered, Bytes, Child, Failure, List, Outcome, Refused, Search, Settings};
 use agg_reading::RequestFault;
 use agg_request::search_of;
 use breaker_words::{Pass, Words};
+use request_cache::Cache;
 use shard_columns::Index;
 use solo_charges::give_all_back;
 use std::alloc::Global;
 
 /// Runs a search that was read, unless it is too wide.
-fn run_search(
+fn run_search<T: Tasks>(
     alloc: Global,
     words: &Words,
     pass: &mut Pass,
-    index: &Index,
+    tasks: &mut T,
     search: Search,
     settings: &Settings,
     progress: &mut Progress,
@@ -43,28 +46,32 @@ fn run_search(
     requires limits { words.now.limits ≡ settings.now.limits }
     requires some { 1 ≤ settings.now.batch }
     requires few { settings.now.batch ≤ MAX_BATCH }
-    requires made { IsTrue (search_fits index.now.mapping search) }
+    requires made { IsTrue (search_fits (T.index tasks.old).mapping search) }
     requires batch { progress.old.batch ≡ [] }
     requires results { progress.old.results ≡ [] }
     requires failures { progress.old.failures ≡ [] }
     requires free { hold_of pass.old.view which.Request ≡ 0 }
     ensures alone { IsAlone words.now pass.new }
+    ensures index { T.index tasks.new ≡ T.index tasks.old }
+    ensures capacity { T.capacity tasks.new ≡ T.capacity tasks.old }
     ensures fielddata { hold_of pass.new.view which.Fielddata ≡ hold_of pass.old.view which.Fielddata }
     ensures searches { IfOk result (λ found. (request : Request) → request.search ≡ Ok search →
-        Searches settings.now (index_of index.now) request pass.old.view pass.new.view progress.new.failures found.outcome) }
+        Searches settings.now (index_of (T.index tasks.old)) (T.capacity tasks.old) request pass.old.view (T.entries tasks.old)
+        pass.new.view (T.entries tasks.new) progress.new.failures found.outcome) }
     ensures next { IfOk result (λ found. (request : Request) → request.search ≡ Ok search →
-        IsBehind index.now request found.outcome progress.new.failures found.next) }
+        IsBehind (T.index tasks.old) request found.outcome progress.new.failures found.next) }
     ensures stops { IfErr result (λ stop. IfRefused stop (λ t. (request : Request) → request.search ≡ Ok search →
-        StopsSearching settings.now (index_of index.now) request pass.old.view pass.new.view progress.new.failures t)) }
+        StopsSearching settings.now (index_of (T.index tasks.old)) (T.capacity tasks.old) request pass.old.view (T.entries tasks.old)
+        pass.new.view (T.entries tasks.new) progress.new.failures t)) }
 {
-    if is_too_wide(alloc, index, &search)? {
+    if is_too_wide(alloc, tasks.index(), &search)? {
         return Ok(Found::without_page(Outcome::Refused(Refused::TooWide)));
     }
     let size = settings.batch as usize;
-    let whole = reduce_search(alloc, words, pass, index, &search, size, progress)?;
+    let whole = reduce_search(alloc, words, pass, tasks, &search, size, progress)?;
     Ok(outcome_of(
         alloc,
-        index,
+        tasks.index(),
         search,
         settings.max_buckets,
         &progress.failures,
@@ -86,11 +93,11 @@ fn refusal_of(fault: RequestFault) -> Result<Refused, Stop>
 }
 
 /// Reads the body, and runs its search.
-fn search_body(
+fn search_body<T: Tasks>(
     alloc: Global,
     words: &Words,
     pass: &mut Pass,
-    index: &Index,
+    tasks: &mut T,
     body: &Bytes,
     settings: &Settings,
     progress: &mut Progress,
@@ -104,26 +111,30 @@ fn search_body(
     requires failures { progress.old.failures ≡ [] }
     requires free { hold_of pass.old.view which.Request ≡ 0 }
     ensures alone { IsAlone words.now pass.new }
+    ensures index { T.index tasks.new ≡ T.index tasks.old }
+    ensures capacity { T.capacity tasks.new ≡ T.capacity tasks.old }
     ensures fielddata { hold_of pass.new.view which.Fielddata ≡ hold_of pass.old.view which.Fielddata }
-    ensures searches { IfOk result (λ found. Searches settings.now (index_of index.now)
-        (request_of (index_of index.now) body.now) pass.old.view pass.new.view progress.new.failures found.outcome) }
-    ensures next { IfOk result (λ found. IsBehind index.now (request_of (index_of index.now) body.now) found.outcome
+    ensures searches { IfOk result (λ found. Searches settings.now (index_of (T.index tasks.old)) (T.capacity tasks.old)
+        (request_of (index_of (T.index tasks.old)) body.now) pass.old.view (T.entries tasks.old)
+        pass.new.view (T.entries tasks.new) progress.new.failures found.outcome) }
+    ensures next { IfOk result (λ found. IsBehind (T.index tasks.old) (request_of (index_of (T.index tasks.old)) body.now) found.outcome
         progress.new.failures found.next) }
-    ensures stops { IfErr result (λ stop. IfRefused stop (StopsSearching settings.now (index_of index.now)
-        (request_of (index_of index.now) body.now) pass.old.view pass.new.view progress.new.failures)) }
+    ensures stops { IfErr result (λ stop. IfRefused stop (StopsSearching settings.now (index_of (T.index tasks.old)) (T.capacity tasks.old)
+        (request_of (index_of (T.index tasks.old)) body.now) pass.old.view (T.entries tasks.old)
+        pass.new.view (T.entries tasks.new) progress.new.failures)) }
 {
-    match search_of(alloc, body.as_slice(), &index.mapping) {
-        Ok(search) => run_search(alloc, words, pass, index, search, settings, progress),
+    match search_of(alloc, body.as_slice(), &tasks.index().mapping) {
+        Ok(search) => run_search(alloc, words, pass, tasks, search, settings, progress),
         Err(fault) => Ok(Found::without_page(Outcome::Refused(refusal_of(fault)?))),
     }
 }
 
 /// Runs the search of a page, which is read from the body where it was not read before.
-fn search_page(
+fn search_page<T: Tasks>(
     alloc: Global,
     words: &Words,
     pass: &mut Pass,
-    index: &Index,
+    tasks: &mut T,
     body: &Bytes,
     search: Option<Search>,
     settings: &Settings,
@@ -133,32 +144,36 @@ fn search_page(
     requires limits { words.now.limits ≡ settings.now.limits }
     requires some { 1 ≤ settings.now.batch }
     requires few { settings.now.batch ≤ MAX_BATCH }
-    requires made { IfSome search (λ search. IsTrue (search_fits index.now.mapping search)) }
+    requires made { IfSome search (λ search. IsTrue (search_fits (T.index tasks.old).mapping search)) }
     requires batch { progress.old.batch ≡ [] }
     requires results { progress.old.results ≡ [] }
     requires failures { progress.old.failures ≡ [] }
     requires free { hold_of pass.old.view which.Request ≡ 0 }
     ensures alone { IsAlone words.now pass.new }
+    ensures index { T.index tasks.new ≡ T.index tasks.old }
+    ensures capacity { T.capacity tasks.new ≡ T.capacity tasks.old }
     ensures fielddata { hold_of pass.new.view which.Fielddata ≡ hold_of pass.old.view which.Fielddata }
-    ensures searches { IfOk result (λ found. Searches settings.now (index_of index.now)
-        (request_at (index_of index.now) body.now search) pass.old.view pass.new.view progress.new.failures found.outcome) }
-    ensures next { IfOk result (λ found. IsBehind index.now (request_at (index_of index.now) body.now search) found.outcome
+    ensures searches { IfOk result (λ found. Searches settings.now (index_of (T.index tasks.old)) (T.capacity tasks.old)
+        (request_at (index_of (T.index tasks.old)) body.now search) pass.old.view (T.entries tasks.old)
+        pass.new.view (T.entries tasks.new) progress.new.failures found.outcome) }
+    ensures next { IfOk result (λ found. IsBehind (T.index tasks.old) (request_at (index_of (T.index tasks.old)) body.now search) found.outcome
         progress.new.failures found.next) }
-    ensures stops { IfErr result (λ stop. IfRefused stop (StopsSearching settings.now (index_of index.now)
-        (request_at (index_of index.now) body.now search) pass.old.view pass.new.view progress.new.failures)) }
+    ensures stops { IfErr result (λ stop. IfRefused stop (StopsSearching settings.now (index_of (T.index tasks.old)) (T.capacity tasks.old)
+        (request_at (index_of (T.index tasks.old)) body.now search) pass.old.view (T.entries tasks.old)
+        pass.new.view (T.entries tasks.new) progress.new.failures)) }
 {
     match search {
-        Some(search) => run_search(alloc, words, pass, index, search, settings, progress),
-        None => search_body(alloc, words, pass, index, body, settings, progress),
+        Some(search) => run_search(alloc, words, pass, tasks, search, settings, progress),
+        None => search_body(alloc, words, pass, tasks, body, settings, progress),
     }
 }
 
 /// Runs the search of a page, with the charges of the body and of the response.
-fn solve(
+fn solve<T: Tasks>(
     alloc: Global,
     words: &Words,
     pass: &mut Pass,
-    index: &Index,
+    tasks: &mut T,
     body: &Bytes,
     search: Option<Search>,
     settings: &Settings,
@@ -169,22 +184,26 @@ fn solve(
     requires some { 1 ≤ settings.now.batch }
     requires few { settings.now.batch ≤ MAX_BATCH }
     requires line { length body.now ≤ MAX_LINE }
-    requires made { IfSome search (λ search. IsTrue (search_fits index.now.mapping search)) }
+    requires made { IfSome search (λ search. IsTrue (search_fits (T.index tasks.old).mapping search)) }
     requires batch { progress.old.batch ≡ [] }
     requires results { progress.old.results ≡ [] }
     requires failures { progress.old.failures ≡ [] }
     requires free { hold_of pass.old.view which.Request ≡ 0 }
     ensures alone { IsAlone words.now pass.new }
+    ensures index { T.index tasks.new ≡ T.index tasks.old }
+    ensures capacity { T.capacity tasks.new ≡ T.capacity tasks.old }
     ensures fielddata { hold_of pass.new.view which.Fielddata ≡ hold_of pass.old.view which.Fielddata }
-    ensures solves { IfOk result (λ found. Solves settings.now (index_of index.now)
-        (request_at (index_of index.now) body.now search) pass.old.view pass.new.view progress.new.failures found.outcome) }
-    ensures next { IfOk result (λ found. IsBehind index.now (request_at (index_of index.now) body.now search) found.outcome
+    ensures solves { IfOk result (λ found. Solves settings.now (index_of (T.index tasks.old)) (T.capacity tasks.old)
+        (request_at (index_of (T.index tasks.old)) body.now search) pass.old.view (T.entries tasks.old)
+        pass.new.view (T.entries tasks.new) progress.new.failures found.outcome) }
+    ensures next { IfOk result (λ found. IsBehind (T.index tasks.old) (request_at (index_of (T.index tasks.old)) body.now search) found.outcome
         progress.new.failures found.next) }
-    ensures stops { IfErr result (λ stop. IfRefused stop (StopsSolving settings.now (index_of index.now)
-        (request_at (index_of index.now) body.now search) pass.old.view pass.new.view progress.new.failures)) }
+    ensures stops { IfErr result (λ stop. IfRefused stop (StopsSolving settings.now (index_of (T.index tasks.old)) (T.capacity tasks.old)
+        (request_at (index_of (T.index tasks.old)) body.now search) pass.old.view (T.entries tasks.old)
+        pass.new.view (T.entries tasks.new) progress.new.failures)) }
 {
     charge(words, pass, Child::Inflight, 2 * body.len() as u64)?;
-    let found = search_page(alloc, words, pass, index, body, search, settings, progress)?;
+    let found = search_page(alloc, words, pass, tasks, body, search, settings, progress)?;
     charge_response(words, pass, &found.outcome)?;
     Ok(found)
 }
@@ -215,11 +234,11 @@ fn page_at(end: Result<Found, Stop>, failures: List<Failure>) -> Page
 
 /// Answers one page of a search by one worker, with all its charges. Its search is read from the body where it was not read
 /// before; either way the body is charged. At its end all that it holds is given back.
-pub(crate) fn answer_page(
+pub(crate) fn answer_page<T: Tasks>(
     alloc: Global,
     words: &Words,
     pass: &mut Pass,
-    index: &Index,
+    tasks: &mut T,
     body: &Bytes,
     search: Option<Search>,
     settings: &Settings,
@@ -229,14 +248,17 @@ pub(crate) fn answer_page(
     requires some { 1 ≤ settings.now.batch }
     requires few { settings.now.batch ≤ MAX_BATCH }
     requires line { length body.now ≤ MAX_LINE }
-    requires made { IfSome search (λ search. IsTrue (search_fits index.now.mapping search)) }
+    requires made { IfSome search (λ search. IsTrue (search_fits (T.index tasks.old).mapping search)) }
     requires request { hold_of pass.old.view which.Request ≡ 0 }
     requires inflight { hold_of pass.old.view which.Inflight ≡ 0 }
     ensures alone { IsAlone words.now pass.new }
+    ensures index { T.index tasks.new ≡ T.index tasks.old }
+    ensures capacity { T.capacity tasks.new ≡ T.capacity tasks.old }
     ensures holds { (x : AnyWhich) → hold_of pass.new.view x ≡ hold_of pass.old.view x }
-    ensures answer { AnswersAlone settings.now (index_of index.now) (request_at (index_of index.now) body.now search)
-        pass.old.view pass.new.view result.answered }
-    ensures next { IsBehind index.now (request_at (index_of index.now) body.now search) result.answered.outcome
+    ensures answer { AnswersCached settings.now (index_of (T.index tasks.old)) (T.capacity tasks.old)
+        (request_at (index_of (T.index tasks.old)) body.now search) pass.old.view (T.entries tasks.old)
+        pass.new.view (T.entries tasks.new) result.answered }
+    ensures next { IsBehind (T.index tasks.old) (request_at (index_of (T.index tasks.old)) body.now search) result.answered.outcome
         result.answered.failures result.next }
 {
     // What it holds at the parent is the sum of what it holds at the children.
@@ -246,7 +268,7 @@ pub(crate) fn answer_page(
         alloc,
         words,
         pass,
-        index,
+        tasks,
         body,
         search,
         settings,
@@ -281,6 +303,39 @@ pub fn search_solo(
     ensures answer { AnswersAlone settings.now (index_of index.now) (request_of (index_of index.now) body.now)
         pass.old.view pass.new.view result }
 {
-    let page = answer_page(alloc, words, pass, index, body, None, settings);
+    let mut shards = Shards { index };
+    let page = answer_page(alloc, words, pass, &mut shards, body, None, settings);
+    page.answered
+}
+
+/// Answers one search by one worker as `search_solo` does, but that an answer of a shard that was kept is charged by its cost alone,
+/// and that each answer of a shard is kept.
+///
+/// The pass is alone at the breakers, and holds nothing but the columns. Want of memory may end the search anywhere; then nothing is
+/// said of the entries, but that each is an answer.
+pub fn search_cached(
+    alloc: Global,
+    words: &Words,
+    pass: &mut Pass,
+    cache: &mut Cache<'_>,
+    body: &Bytes,
+    settings: &Settings,
+) -> Answered
+    requires alone { IsAlone words.now pass.old }
+    requires limits { words.now.limits ≡ settings.now.limits }
+    requires some { 1 ≤ settings.now.batch }
+    requires few { settings.now.batch ≤ MAX_BATCH }
+    requires line { length body.now ≤ MAX_LINE }
+    requires request { hold_of pass.old.view which.Request ≡ 0 }
+    requires inflight { hold_of pass.old.view which.Inflight ≡ 0 }
+    ensures alone { IsAlone words.now pass.new }
+    ensures holds { (x : AnyWhich) → hold_of pass.new.view x ≡ hold_of pass.old.view x }
+    ensures answer { AnswersCached settings.now (index_of cache.old.index.now) cache.old.entries.cap
+        (request_of (index_of cache.old.index.now) body.now) pass.old.view (entries_in cache.old.entries)
+        pass.new.view (entries_in cache.new.entries) result }
+    ensures index { cache.new.index.now ≡ cache.old.index.now }
+    ensures capacity { cache.new.entries.cap ≡ cache.old.entries.cap }
+{
+    let page = answer_page(alloc, words, pass, cache, body, None, settings);
     page.answered
 }

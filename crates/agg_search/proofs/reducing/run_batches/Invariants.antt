@@ -10,12 +10,15 @@ use Rattle.agg_search.proofs.Batching.{batches_before}
 use Rattle.agg_search.proofs.reducing.run_batches.Given as goal
 
 abbrev pub invariant-loop-number : goal.invariant-loop-number
-invariant-loop-number l = record {
+invariant-loop-number g l = record {
   alone : IsAlone l.words l.pass;
+  same_index : g.T.Tasks.index l.tasks ≡ g.T.Tasks.index l.fn.tasks;
+  same_capacity : g.T.Tasks.capacity l.tasks ≡ g.T.Tasks.capacity l.fn.tasks;
   fielddata : hold_of l.pass.view which.Fielddata ≡ hold_of l.fn.pass.view which.Fielddata;
   inflight : hold_of l.pass.view which.Inflight ≡ hold_of l.fn.pass.view which.Inflight;
-  reached : HasReached (index_of l.index) l.search (min (length l.index.shards) (l.number * l.size)) l.progress;
+  reached : HasReached (index_of (g.T.Tasks.index l.fn.tasks)) l.search (min (length (g.T.Tasks.index l.fn.tasks).shards) (l.number * l.size)) l.progress;
   merged : l.progress.batch ≡ [];
   held : HoldsCosts l.progress l.pass.view;
-  follows : Follows (batches_before l.words.limits (index_of l.index) l.search l.size l.number) l.fn.pass.view l.fn.progress l.pass.view l.progress;
+  follows : Follows (batches_before (g.T.Tasks.capacity l.fn.tasks) l.words.limits (index_of (g.T.Tasks.index l.fn.tasks)) l.search l.size l.number)
+      l.fn.pass.view l.fn.progress (g.T.Tasks.entries l.fn.tasks) l.pass.view l.progress (g.T.Tasks.entries l.tasks);
 }

@@ -5,36 +5,48 @@ use Rattle.agg_search.proofs.TaskRange.{none-yet, one-more, stopped}
 use Rattle.agg_search.proofs.tasks.run_tasks.Goals as goal
 
 pub returns-in_err-run_one-clause-stops : goal.returns-in_err-run_one-clause-stops
-returns-in_err-run_one-clause-stops c =
+returns-in_err-run_one-clause-stops g c =
     let p = err_from_is_err_and c.from_residual.result c.from_residual.ensures.1 in
     let place = c.loop-place.place in
     let from = c.args.from in
+    let entries = g.T.Tasks.entries in
+    let stops = rw (c.loop-place.invariant.same_index, c.loop-place.invariant.same_capacity) at c.in_err-run_one.ensures.stops in
     rw (p.1, p.2)
-    (stopped c.args.words.now.limits (index_of c.args.index.now) c.args.search.now from c.args.pass.now.view c.loop-place.pass.view c.run_one.new.pass.view
-    c.args.progress.now c.loop-place.progress c.run_one.new.progress place (place - from) (place + 1 - from) (omega arith) (omega arith) c.loop-place.invariant.follows
-    c.in_err-run_one.field-0.0 (c.args.to - from) (omega arith) c.in_err-run_one.ensures.stops)
+    (stopped (g.T.Tasks.capacity c.args.tasks.now) c.args.words.now.limits (index_of (g.T.Tasks.index c.args.tasks.now)) c.args.search.now from
+    c.args.pass.now.view c.loop-place.pass.view c.run_one.new.pass.view c.args.progress.now c.loop-place.progress c.run_one.new.progress
+    (entries c.args.tasks.now) (entries c.loop-place.tasks) (entries c.run_one.new.tasks) place (place - from) (place + 1 - from) (omega arith) (omega arith)
+    c.loop-place.invariant.follows c.in_err-run_one.field-0.0 (c.args.to - from) (omega arith) stops)
 
 pub loop-place-init : goal.loop-place-init
-loop-place-init c = record {
+loop-place-init g c = record {
   alone = c.requires.alone;
+  same_index = refl;
+  same_capacity = refl;
   fielddata = refl;
   inflight = refl;
   reached = c.requires.reached;
   held = c.requires.held;
-  follows = none-yet c.args.words.now.limits (index_of c.args.index.now) c.args.search.now c.args.from c.args.pass.now.view c.args.progress.now (c.args.from - c.args.from) (omega arith);
+  follows = none-yet (g.T.Tasks.capacity c.args.tasks.now) c.args.words.now.limits (index_of (g.T.Tasks.index c.args.tasks.now)) c.args.search.now c.args.from
+      c.args.pass.now.view c.args.progress.now (g.T.Tasks.entries c.args.tasks.now) (c.args.from - c.args.from) (omega arith);
 }
 
 pub loop-place-preserved : goal.loop-place-preserved
-loop-place-preserved c =
+loop-place-preserved g c =
     let place = c.loop-place.place in
     let from = c.args.from in
+    let before = c.loop-place.invariant in
+    let entries = g.T.Tasks.entries in
+    let one = rw (before.same_index, before.same_capacity) at c.in_ok-run_one.ensures.follows in
     record {
       alone = c.run_one.ensures.alone;
-      fielddata = c.run_one.ensures.fielddata ∙ c.loop-place.invariant.fielddata;
-      inflight = c.run_one.ensures.inflight ∙ c.loop-place.invariant.inflight;
-      reached = c.in_ok-run_one.ensures.reached;
+      same_index = c.run_one.ensures.index ∙ before.same_index;
+      same_capacity = c.run_one.ensures.capacity ∙ before.same_capacity;
+      fielddata = c.run_one.ensures.fielddata ∙ before.fielddata;
+      inflight = c.run_one.ensures.inflight ∙ before.inflight;
+      reached = rw before.same_index at c.in_ok-run_one.ensures.reached;
       held = c.in_ok-run_one.ensures.held;
-      follows = one-more c.args.words.now.limits (index_of c.args.index.now) c.args.search.now from c.args.pass.now.view c.loop-place.pass.view c.run_one.new.pass.view
-          c.args.progress.now c.loop-place.progress c.run_one.new.progress place (place - from) (place + 1 - from) (omega arith) (omega arith) c.loop-place.invariant.follows
-          c.in_ok-run_one.ensures.follows;
+      follows = one-more (g.T.Tasks.capacity c.args.tasks.now) c.args.words.now.limits (index_of (g.T.Tasks.index c.args.tasks.now)) c.args.search.now from
+          c.args.pass.now.view c.loop-place.pass.view c.run_one.new.pass.view c.args.progress.now c.loop-place.progress c.run_one.new.progress
+          (entries c.args.tasks.now) (entries c.loop-place.tasks) (entries c.run_one.new.tasks) place (place - from) (place + 1 - from) (omega arith) (omega arith)
+          before.follows one;
     }
