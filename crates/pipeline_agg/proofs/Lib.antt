@@ -2,6 +2,7 @@ pub mod CutLaws
 pub mod TotalLaws
 pub mod ValueLaws
 pub mod InRange
+mod SummaryLaws
 pub mod SiblingLaws
 pub mod EntryLaws
 pub mod Wides

@@ -1,4 +1,5 @@
 pub mod Bounds
+pub mod Summaries
 pub mod Parents
 pub mod Told
 pub mod Placed

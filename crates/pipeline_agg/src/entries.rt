@@ -9,6 +9,7 @@ ghost use Rattle.pipeline_agg.specs.Bounds.{AreInRange};
 ghost use Rattle.pipeline_agg.specs.Entries.{AreFit, IsGathered, all_small, beginning, entry_cmp, entry_of_teller, moved_on, teller_of, top_entry, view_of};
 ghost use Rattle.pipeline_agg.specs.Parents.{IsSmall, next_running, next_says};
 ghost use Rattle.pipeline_agg.specs.Placed.{pipes_of};
+ghost use Rattle.pipeline_agg.specs.Summaries.{AreOf};
 ghost use Rattle.pipeline_agg.specs.Told.{IsFit, IsSaid};
 
 use crate::fault::PipeFault;
@@ -16,7 +17,7 @@ use crate::parents::{Running, parent_said};
 use crate::placed::Placed;
 use crate::places::append;
 use crate::remarked::Said;
-use crate::siblings::sibling_said;
+use crate::summaries::Siblings;
 use agg_model::{Agg, BucketAnswer, List, NodeAnswer, Note, Pipe, PipeKind, Text};
 use std::alloc::{AllocError, Global};
 
@@ -44,12 +45,13 @@ pub(crate) fn top_entries<'p>(
     requires in_range { AreInRange aggs.now nodes.now }
     ensures { IfOk result (λ entries. map view_of entries.items ≡ map (top_entry aggs.now nodes.now) (pipes_here (pipes_of pipes.now))) }
 {
+    let mut siblings = Siblings::new(alloc, aggs, nodes);
     let mut entries = Vec::new(alloc);
     for placed in pipes {
         if placed.at.is_empty() {
             entries.push(Entry {
                 name: &placed.pipe.name,
-                said: sibling_said(alloc, aggs, nodes, placed.pipe)?,
+                said: siblings.said(alloc, placed.pipe)?,
             })?;
         }
     }
@@ -77,15 +79,18 @@ pub(crate) fn tellers<'p>(
 }
 
 /// What a pipeline says in the object of the next bucket: a sibling of what is beside it there, a parent of the buckets.
-fn said_in_bucket(
+fn said_in_bucket<'p>(
     alloc: Global,
     children: &List<Agg>,
-    pipe: &Pipe,
+    siblings: &mut Siblings<'_, 'p>,
+    pipe: &'p Pipe,
     running: &mut Running,
     bucket: &BucketAnswer,
 ) -> Result<Said, AllocError>
     requires small { IsSmall running.old }
     requires in_range { AreInRange children.now (out-BucketAnswer bucket.now).children }
+    requires siblings { AreOf children.now (out-BucketAnswer bucket.now).children siblings.old }
+    ensures siblings { AreOf children.now (out-BucketAnswer bucket.now).children siblings.new }
     ensures told { IfOk result (IsSaid (sibling_says (map piper children.now) (out-BucketAnswer bucket.now).children pipe.now pipe.now.kind
         ++ next_says (child_kinds children.now) pipe.now pipe.now.kind bucket.now running.old)) }
     ensures kept { OnOk result (running.new ≡ next_running (child_kinds children.now) pipe.now.kind bucket.now running.old) }
@@ -98,7 +103,7 @@ fn said_in_bucket(
         PipeKind::SumBucket { .. }
         | PipeKind::MinBucket { .. }
         | PipeKind::MaxBucket { .. }
-        | PipeKind::BucketSort { .. } => sibling_said(alloc, children, &bucket.children, pipe),
+        | PipeKind::BucketSort { .. } => siblings.said(alloc, pipe),
     }
 }
 
@@ -106,11 +111,14 @@ fn said_in_bucket(
 fn entry_of_next<'p>(
     alloc: Global,
     children: &List<Agg>,
+    siblings: &mut Siblings<'_, 'p>,
     teller: &mut Teller<'p>,
     bucket: &BucketAnswer,
 ) -> Result<Entry<'p>, AllocError>
     requires small { IsSmall teller.old.running }
     requires in_range { AreInRange children.now (out-BucketAnswer bucket.now).children }
+    requires siblings { AreOf children.now (out-BucketAnswer bucket.now).children siblings.old }
+    ensures siblings { AreOf children.now (out-BucketAnswer bucket.now).children siblings.new }
     ensures told { IfOk result (λ entry. view_of entry ≡ entry_of_teller children.now bucket.now (teller_of teller.old)) }
     ensures kept { OnOk result (teller_of teller.new ≡ moved_on (child_kinds children.now) bucket.now (teller_of teller.old)) }
     ensures small { IfOk result (λ entry. IsFit entry.said → IsSmall teller.new.running) }
@@ -118,7 +126,7 @@ fn entry_of_next<'p>(
     let pipe = teller.placed.pipe;
     Ok(Entry {
         name: &pipe.name,
-        said: said_in_bucket(alloc, children, pipe, &mut teller.running, bucket)?,
+        said: said_in_bucket(alloc, children, siblings, pipe, &mut teller.running, bucket)?,
     })
 }
 
@@ -137,9 +145,10 @@ pub(crate) fn bucket_entries<'p>(
         ≡ map (moved_on (child_kinds children.now) bucket.now) (map teller_of tellers.old.items)) }
     ensures small { IfOk result (λ entries. AreFit (map view_of entries.items) → all_small tellers.new.items) }
 {
+    let mut siblings = Siblings::new(alloc, children, &bucket.children);
     let mut entries = Vec::new(alloc);
     for teller in tellers.iter_mut() {
-        entries.push(entry_of_next(alloc, children, teller, bucket)?)?;
+        entries.push(entry_of_next(alloc, children, &mut siblings, teller, bucket)?)?;
     }
     Ok(entries)
 }

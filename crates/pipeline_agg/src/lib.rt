@@ -17,6 +17,7 @@ mod places;
 mod remarked;
 mod siblings;
 mod sorting;
+mod summaries;
 mod values;
 
 pub use applying::apply;

@@ -1,15 +1,20 @@
 //! What pipelines say of the buckets of the aggregation beside them ('Sum bucket aggregation', 'Min bucket aggregation', 'Max
 //! bucket aggregation').
-ghost use Rattle.std.specs.Prelude.{◌≡◌, ◌∷◌, ◌++◌, [], IfOk, Some, codes, map};
+ghost use Rattle.std.specs.Prelude.{◌≡◌, ◌<◌, ◌∷◌, ◌++◌, [], List as Items, IfOk, IfSome, codes, length, map, slice_index_or};
+ghost use Rattle.agg_model.specs.declared.aggregation.Agg.{Agg as AnyAgg};
+ghost use Rattle.agg_model.specs.declared.answer.NodeAnswer.{NodeAnswer as AnyNode};
 ghost use Rattle.agg_spec.specs.Notes.{piper};
-ghost use Rattle.agg_spec.specs.Pipelines.{greatest_value as greatest_of, least_value as least_of, sum_of_values as sum_of, values_of};
-ghost use Rattle.agg_spec.specs.Remarks.{extreme_remark, remark_of, sibling_buckets as buckets_of, sibling_says};
+ghost use Rattle.agg_spec.specs.Pipelines.{greatest_value as greatest_of, least_value as least_of, values_of};
+ghost use Rattle.agg_spec.specs.Remarks.{remark_of, sibling_buckets as buckets_of, sibling_says};
 ghost use Rattle.bucket_order.specs.Kinds.{child_kinds};
 ghost use Rattle.pipeline_agg.specs.Bounds.{AreBucketsInRange, AreInRange, children_at};
+ghost use Rattle.pipeline_agg.specs.Summaries.{AreOf, extreme, summary_of, total};
 ghost use Rattle.pipeline_agg.specs.Told.{IsSaid};
+ghost use Rattle.pipeline_agg.specs.declared.summaries.Known.{Known as AnyKnown};
 
 use crate::extremes::{greatest_value, keys_with, least_value};
 use crate::remarked::Said;
+use crate::summaries::{Known, Siblings, Summary};
 use crate::values::sum_of_values;
 use agg_model::{
     Agg, BucketAnswer, Copying, Key, List, NodeAnswer, Note, Pipe, PipeKind, PipePath, Text,
@@ -85,89 +90,122 @@ impl<'a> Sibling<'a> {
 }
 
 /// The sum of the values of a sibling's buckets; 0 where there is none.
-fn sum_said(
-    alloc: Global,
-    pipe: &Pipe,
-    path: PipePath,
-    sibling: Sibling<'_>,
-) -> Result<Said, AllocError>
+fn total_in(alloc: Global, path: PipePath, sibling: Sibling<'_>) -> Summary
     requires in_range { AreBucketsInRange sibling.children.now sibling.buckets.now }
-    ensures { IfOk result (IsSaid (remark_of pipe.now (Some (sum_of (values_of (child_kinds sibling.entry.children.now) path sibling.entry.buckets.now))) [] ∷ [])) }
+    ensures { result ≡ total (child_kinds sibling.entry.children.now) path sibling.entry.buckets.now }
 {
-    let sum = sum_of_values(sibling.children, path, sibling.buckets);
-    said(alloc, pipe, Some(sum), List::new(alloc))
+    Summary {
+        value: Some(sum_of_values(sibling.children, path, sibling.buckets)),
+        keys: List::new(alloc),
+    }
 }
 
 /// The least value of a sibling's buckets, and the keys of those that have it.
-fn least_said(
-    alloc: Global,
-    pipe: &Pipe,
-    path: PipePath,
-    sibling: Sibling<'_>,
-) -> Result<Said, AllocError>
-    ensures { IfOk result (IsSaid (extreme_remark pipe.now (child_kinds sibling.entry.children.now) path
-        (least_of (values_of (child_kinds sibling.entry.children.now) path sibling.entry.buckets.now)) sibling.entry.buckets.now ∷ [])) }
+fn least_in(alloc: Global, path: PipePath, sibling: Sibling<'_>) -> Result<Summary, AllocError>
+    ensures { IfOk result (λ s. s ≡ extreme (child_kinds sibling.entry.children.now) path
+        (least_of (values_of (child_kinds sibling.entry.children.now) path sibling.entry.buckets.now)) sibling.entry.buckets.now) }
 {
-    let least = least_value(sibling.children, path, sibling.buckets);
-    let keys = keys_with(alloc, sibling.children, path, least, sibling.buckets)?;
-    said(alloc, pipe, least, keys)
+    let value = least_value(sibling.children, path, sibling.buckets);
+    let keys = keys_with(alloc, sibling.children, path, value, sibling.buckets)?;
+    Ok(Summary { value, keys })
 }
 
 /// The greatest value of a sibling's buckets, and the keys of those that have it.
-fn greatest_said(
-    alloc: Global,
-    pipe: &Pipe,
-    path: PipePath,
-    sibling: Sibling<'_>,
-) -> Result<Said, AllocError>
-    ensures { IfOk result (IsSaid (extreme_remark pipe.now (child_kinds sibling.entry.children.now) path
-        (greatest_of (values_of (child_kinds sibling.entry.children.now) path sibling.entry.buckets.now)) sibling.entry.buckets.now ∷ [])) }
+fn greatest_in(alloc: Global, path: PipePath, sibling: Sibling<'_>) -> Result<Summary, AllocError>
+    ensures { IfOk result (λ s. s ≡ extreme (child_kinds sibling.entry.children.now) path
+        (greatest_of (values_of (child_kinds sibling.entry.children.now) path sibling.entry.buckets.now)) sibling.entry.buckets.now) }
 {
-    let greatest = greatest_value(sibling.children, path, sibling.buckets);
-    let keys = keys_with(alloc, sibling.children, path, greatest, sibling.buckets)?;
-    said(alloc, pipe, greatest, keys)
+    let value = greatest_value(sibling.children, path, sibling.buckets);
+    let keys = keys_with(alloc, sibling.children, path, value, sibling.buckets)?;
+    Ok(Summary { value, keys })
 }
 
-/// What a pipeline says of the buckets of the aggregation beside it; one that is no sibling says nothing.
-pub(crate) fn sibling_said(
+/// What pipelines of this kind say of the buckets of the aggregation beside them; none where they are no siblings.
+fn summary_in(
     alloc: Global,
     aggs: &List<Agg>,
     nodes: &List<NodeAnswer>,
-    pipe: &Pipe,
-) -> Result<Said, AllocError>
+    kind: &PipeKind,
+) -> Result<Option<Summary>, AllocError>
     requires in_range { AreInRange aggs.now nodes.now }
-    ensures { IfOk result (IsSaid (sibling_says (map piper aggs.now) nodes.now pipe.now pipe.now.kind)) }
+    ensures { IfOk result (λ s. s ≡ summary_of (map piper aggs.now) nodes.now kind.now) }
 {
-    match &pipe.kind {
+    let none = List::new(alloc);
+    match kind {
         PipeKind::SumBucket { sibling, path } => {
-            let none = List::new(alloc);
-            sum_said(
-                alloc,
-                pipe,
-                *path,
-                Sibling::at(*sibling, aggs, nodes, &none),
-            )
+            let beside = Sibling::at(*sibling, aggs, nodes, &none);
+            Ok(Some(total_in(alloc, *path, beside)))
         }
         PipeKind::MinBucket { sibling, path } => {
-            let none = List::new(alloc);
-            least_said(
-                alloc,
-                pipe,
-                *path,
-                Sibling::at(*sibling, aggs, nodes, &none),
-            )
+            let beside = Sibling::at(*sibling, aggs, nodes, &none);
+            Ok(Some(least_in(alloc, *path, beside)?))
         }
         PipeKind::MaxBucket { sibling, path } => {
-            let none = List::new(alloc);
-            greatest_said(
-                alloc,
-                pipe,
-                *path,
-                Sibling::at(*sibling, aggs, nodes, &none),
-            )
+            let beside = Sibling::at(*sibling, aggs, nodes, &none);
+            Ok(Some(greatest_in(alloc, *path, beside)?))
         }
         PipeKind::CumulativeSum { .. }
         | PipeKind::Derivative { .. }
-        | PipeKind::BucketSort { .. } => Ok(Said::Notes(List::new(alloc))),
+        | PipeKind::BucketSort { .. } => Ok(None),
+    }
+}
+
+impl<'o, 'p> Siblings<'o, 'p> {
+    /// The answers of an object, of which nothing is summed up yet. It takes no memory.
+    pub(crate) fn new(
+        alloc: Global,
+        aggs: &'o List<Agg>,
+        nodes: &'o List<NodeAnswer>,
+    ) -> Siblings<'o, 'p>
+        requires in_range { AreInRange aggs.now nodes.now }
+        ensures { AreOf aggs.now nodes.now result }
+    {
+        Siblings {
+            aggs,
+            nodes,
+            known: Vec::new(alloc),
+        }
+    }
+
+    /// Where what pipelines of this kind say stands among what is known, none where it does not.
+    fn find(&self, kind: &PipeKind) -> Option<usize>
+        ensures place { IfSome result (λ i. i < length self.now.known.items) }
+        ensures kind { IfSome result (λ i. (d : AnyKnown) → (slice_index_or self.now.known.items i d).kind.now ≡ kind.now) }
+    {
+        for (place, known) in self.known.iter().enumerate() {
+            if *known.kind == *kind {
+                return Some(place);
+            }
+        }
+        None
+    }
+
+    /// Where what pipelines of this kind say stands, summed up where it is not known yet.
+    fn place_of(&mut self, alloc: Global, kind: &'p PipeKind) -> Result<usize, AllocError>
+        ensures place { IfOk result (λ i. i < length self.new.known.items) }
+        ensures summary { IfOk result (λ i. (aggs : Items AnyAgg) (nodes : Items AnyNode) → AreOf aggs nodes self.old → (d : AnyKnown) →
+            (slice_index_or self.new.known.items i d).summary ≡ summary_of (map piper aggs) nodes kind.now) }
+        ensures of { (aggs : Items AnyAgg) (nodes : Items AnyNode) → AreOf aggs nodes self.old → AreOf aggs nodes self.new }
+    {
+        if let Some(place) = self.find(kind) {
+            return Ok(place);
+        }
+        let place = self.known.len();
+        let summary = summary_in(alloc, self.aggs, self.nodes, kind)?;
+        self.known.push(Known { kind, summary })?;
+        Ok(place)
+    }
+
+    /// What a pipeline says of the buckets of the aggregation beside it; one that is no sibling says nothing.
+    pub(crate) fn said(&mut self, alloc: Global, pipe: &'p Pipe) -> Result<Said, AllocError>
+        ensures told { (aggs : Items AnyAgg) (nodes : Items AnyNode) → AreOf aggs nodes self.old →
+            IfOk result (IsSaid (sibling_says (map piper aggs) nodes pipe.now pipe.now.kind)) }
+        ensures of { (aggs : Items AnyAgg) (nodes : Items AnyNode) → AreOf aggs nodes self.old → AreOf aggs nodes self.new }
+    {
+        let place = self.place_of(alloc, &pipe.kind)?;
+        match &self.known[place].summary {
+            Some(summary) => said(alloc, pipe, summary.value, summary.keys.copy(alloc)?),
+            None => Ok(Said::Notes(List::new(alloc))),
+        }
     }
 }

@@ -18,7 +18,7 @@ order-one a b e =
     let descending = flag-one a.descending b.descending (second_so _ _ e) in
     λ i. record { path = path i; descending = descending i }
 
-kind-one : AreOne (kind_eq.ghosts).eq
+pub kind-one : AreOne (kind_eq.ghosts).eq
 kind-one =
     variants-one kind_type.the_type _ (λ a. refl) _ (
       last path-one,

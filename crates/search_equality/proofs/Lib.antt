@@ -2,5 +2,5 @@ mod EqualParts
 mod EqualKeys
 mod EqualQueries
 mod EqualKinds
-mod EqualPipes
+pub mod EqualPipes
 pub mod EqualSearches

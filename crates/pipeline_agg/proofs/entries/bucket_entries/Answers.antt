@@ -44,4 +44,4 @@ loop-teller-preserved c =
     let both = subst AreFit views fit in
     let here = c.in_ok-entry_of_next.ensures.small (fit-back (map view_of c.loop-teller.entries.items) (view_of entry ∷ []) both).0 in
     subst all_small (sym taken) (All-append (λ (x : Teller). IsSmall x.running) (take i now) (new ∷ []) (before.4 (fit-front (map view_of c.loop-teller.entries.items) (view_of entry ∷ []) both)) (alone-small new here)) in
-    (told, kept, rest, length-set now i new ∙ before.3, small)
+    (told, kept, rest, length-set now i new ∙ before.3, small, c.entry_of_next.ensures.siblings)
